@@ -1,0 +1,47 @@
+-- Laws of bytes put into a place.
+use Prim.Native.Nat.{ℕ, _+_, _≤_, _<_}
+use mathlib.Core.Bool.{Bool, true, false}
+use mathlib.Core.List.{List, [], _∷_, _++_, append-assoc}
+use mathlib.Core.Path.{_≡_, refl, sym, ap, _∙_}
+use native.Mathlib.Omega.{arith}
+use lib.ListN.{length, take, drop, length-append, length-take, length-drop}
+use lib.Dec.{leb}
+use lib.Seq.{paste, take-length, take-at, drop-at, take-append-le, drop-drop}
+use borrow.Author.Tests.{le-leb, lt-leb}
+use Rattle.words.specs.Choice.{choose}
+use Rattle.words.specs.Place.{putAt, placed}
+use Rattle.words.proofs.Tests.{choose-true, choose-false}
+
+-- What does not fit changes nothing.
+pub placed-none : (at : ℕ) (s d : List ℕ) → length d < at + length s → d ≡ placed at s d
+unfolding placed
+placed-none at s d h = sym (choose-false (leb (at + length s) (length d)) (putAt at s d) d (lt-leb (at + length s) (length d) h))
+
+-- What fits is put.
+pub placed-fits : (at : ℕ) (s d : List ℕ) → at + length s ≤ length d → placed at s d ≡ putAt at s d
+unfolding placed
+placed-fits at s d h = choose-true (leb (at + length s) (length d)) (putAt at s d) d (le-leb (at + length s) (length d) h)
+
+-- A copy that has come to its end has put the whole.
+pub pasted : (at : ℕ) (s d : List ℕ) → at + length s ≤ length d → paste d at s (length s) ≡ placed at s d
+unfolding putAt
+pasted at s d h = rw (placed-fits at s d h, take-length s) (append-assoc (take at d) s (drop (at + length s) d))
+
+pub length-putAt : (at : ℕ) (s d : List ℕ) → at + length s ≤ length d → length (putAt at s d) ≡ length d
+unfolding putAt
+length-putAt at s d h = simp (length-append, length-take, length-drop) (omega arith)
+
+-- A run put behind another is the two put as one.
+pub put-behind : (at k : ℕ) (a b d : List ℕ) → at + length a ≡ k → k + length b ≤ length d
+    → placed k b (placed at a d) ≡ placed at (a ++ b) d
+unfolding putAt
+put-behind at k a b d e h =
+    let head : length (take at d ++ a) ≡ k = simp (length-append, length-take) (omega arith) in
+    let whole : at + length (a ++ b) ≡ k + length b = rw (length-append a b) (omega arith) in
+    let first : placed at a d ≡ (take at d ++ a) ++ drop k d =
+        placed-fits at a d (omega arith) ∙ sym (append-assoc (take at d) a (drop (at + length a) d)) ∙ ap (λ (n : ℕ). (take at d ++ a) ++ drop n d) e in
+    let room : length ((take at d ++ a) ++ drop k d) ≡ length d = simp (length-append, length-take, length-drop) (omega arith) in
+    let rest : drop (k + length b) ((take at d ++ a) ++ drop k d) ≡ drop (k + length b) d =
+        rw (← drop-drop (length b) k ((take at d ++ a) ++ drop k d), drop-at (take at d ++ a) (drop k d) k head, drop-drop (length b) k d) in
+    rw (first, placed-fits k b ((take at d ++ a) ++ drop k d) (omega arith), placed-fits at (a ++ b) d (omega arith),
+    take-at (take at d ++ a) (drop k d) k head, rest, whole) (simp append-assoc)

@@ -1,0 +1,15 @@
+-- The ruleset that turns a branch taken in the code into the choice that the definition makes.
+use mathlib.Core.Bool.{Bool, true, false}
+use mathlib.Core.Path.{_≡_, refl, ap}
+use borrow.Author.Tests.{lt-ltb, le-ltb, le-leb, lt-leb, eq-eqb, ne-eqb}
+use Rattle.words.specs.Choice.{choose}
+
+pub choose-true : {A : Type 0} (t : Bool) (a b : A) → t ≡ true → choose t a b ≡ a
+unfolding choose
+choose-true t a b e = ap (λ (x : Bool). choose x a b) e
+
+pub choose-false : {A : Type 0} (t : Bool) (a b : A) → t ≡ false → choose t a b ≡ b
+unfolding choose
+choose-false t a b e = ap (λ (x : Bool). choose x a b) e
+
+pub ruleset tests = (choose-true, choose-false, lt-ltb, le-ltb, le-leb, lt-leb, eq-eqb, ne-eqb)
