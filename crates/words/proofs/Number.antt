@@ -6,8 +6,8 @@ use mathlib.Core.Path.{_≡_, refl, sym, ap, _∙_}
 use native.Mathlib.Omega.{arith}
 use native.Mathlib.Numerals.{add-one}
 use lib.ListN.{length, getD, take, drop, length-reverse, List·getD-eq-default}
-use native.Mathlib.Nat.{pow-suc}
-use lib.Seq.{drop-cons}
+use native.Mathlib.Nat.{pow-suc, add-assoc}
+use lib.Seq.{drop-cons, getD-take, getD-drop}
 use Rattle.words.specs.Number.{le, digits, turned, part, value, bytes, number}
 
 -- Every element of a list has the property.
@@ -93,3 +93,11 @@ number-past n little s at h =
 pub number-is : (n : ℕ) (little : Bool) (t : Bool) (s : List ℕ) (at : ℕ) → little ≡ t → number n little s at ≡ value t (part n s at)
 unfolding number
 number-is n little t s at e = rw e
+
+-- A part of a stretch is a part of the whole.
+pub part-stretch : (n m at k : ℕ) (s : List ℕ) → k + n ≤ m → part n (take m (drop at s)) k ≡ part n s (at + k)
+part-stretch zero m at k s h = refl
+part-stretch (suc n) m at k s h =
+    let below : k < m = omega arith in
+    rw (getD-take m (drop at s) k 0 below, getD-drop at s k 0, add-assoc at k 1)
+    (ap (λ (l : List ℕ). getD s (at + k) 0 ∷ l) (part-stretch n m at (k + 1) s (omega arith)))

@@ -1,5 +1,5 @@
 -- The ruleset that turns a branch taken in the code into the choice that the definition makes.
-use mathlib.Core.Bool.{Bool, true, false}
+use mathlib.Core.Bool.{Bool, true, false, not}
 use mathlib.Core.Path.{_≡_, refl, ap}
 use borrow.Author.Tests.{lt-ltb, le-ltb, le-leb, lt-leb, eq-eqb, ne-eqb}
 use Rattle.words.specs.Choice.{choose}
@@ -12,4 +12,11 @@ pub choose-false : {A : Type 0} (t : Bool) (a b : A) → t ≡ false → choose 
 unfolding choose
 choose-false t a b e = ap (λ (x : Bool). choose x a b) e
 
-pub ruleset tests = (choose-true, choose-false, lt-ltb, le-ltb, le-leb, lt-leb, eq-eqb, ne-eqb)
+-- A negated test.
+pub not-of-true : (t : Bool) → t ≡ true → not t ≡ false
+not-of-true t e = ap not e
+
+pub not-of-false : (t : Bool) → t ≡ false → not t ≡ true
+not-of-false t e = ap not e
+
+pub ruleset tests = (choose-true, choose-false, not-of-true, not-of-false, lt-ltb, le-ltb, le-leb, lt-leb, eq-eqb, ne-eqb)

@@ -1,0 +1,27 @@
+-- The number that document 01 gives each answer.
+use Prim.Native.Nat.{ℕ}
+use Rattle.answers.specs.declared.Answer.{Answer}
+use Rattle.answers.specs.declared.Answer.the-variants.{Done, WrongLength, BrokenRecord, ShortDatagram, WrongVersion, UnknownType, UnknownRepresentation, Authenticated, WrongBodyLength, OtherActivity, WrongSide, MaybeOrBroadcast, WrongFragment, OldCall, MalformedBody, NoRow, Repeated, Contradiction, LateTimer, NumbersSpent, TicketsSpent}
+
+abbrev pub numberOf : Answer → ℕ
+numberOf Done = 0
+numberOf WrongLength = 1
+numberOf BrokenRecord = 2
+numberOf ShortDatagram = 3
+numberOf WrongVersion = 4
+numberOf UnknownType = 5
+numberOf UnknownRepresentation = 6
+numberOf Authenticated = 7
+numberOf WrongBodyLength = 8
+numberOf OtherActivity = 9
+numberOf WrongSide = 10
+numberOf MaybeOrBroadcast = 11
+numberOf WrongFragment = 12
+numberOf OldCall = 13
+numberOf MalformedBody = 14
+numberOf NoRow = 15
+numberOf Repeated = 16
+numberOf Contradiction = 17
+numberOf LateTimer = 18
+numberOf NumbersSpent = 19
+numberOf TicketsSpent = 20

@@ -1,0 +1,67 @@
+-- The header as document 01's "The header, 80 bytes" lays it out.
+use Prim.Native.Nat.{ℕ, _+_, _*_, _/_, _%_}
+use mathlib.Core.Bool.{Bool}
+use mathlib.Core.List.{List, [], _∷_, _++_}
+use lib.ListN.{length, getD, drop, replicate}
+use Rattle.words.specs.Number.{le, digits, turned, part, number}
+use Rattle.pdu.specs.declared.Header.{Header}
+
+-- A UUID as it stands at `at`: u32, u16, u16, each in the sender's order, and 8 bytes.
+abbrev pub uuidAt : Bool → List ℕ → ℕ → List ℕ
+uuidAt little s at =
+    turned little (part 4 s at) ++ (turned little (part 2 s (at + 4)) ++ (turned little (part 2 s (at + 6)) ++ part 8 s (at + 8)))
+
+-- The header's fields as they stand in a datagram.
+unfoldable pub headerOf : Bool → List ℕ → Header
+headerOf little s = record {
+    kind = getD s 1 0;
+    flags1 = getD s 2 0;
+    flags2 = getD s 3 0;
+    serial = le (getD s 79 0 ∷ (getD s 7 0 ∷ []));
+    object = uuidAt little s 8;
+    interface = uuidAt little s 24;
+    activity = uuidAt little s 40;
+    boot = number 4 little s 56;
+    version = number 4 little s 60;
+    number = number 4 little s 64;
+    operation = number 2 little s 68;
+    ihint = number 2 little s 70;
+    ahint = number 2 little s 72;
+    fragment = number 2 little s 76;
+    authentication = getD s 78 0 }
+
+-- The 80 bytes of a header before a body of n bytes: version 4, representation 16,0,0, always little-endian.
+unfoldable pub headerBytes : Header → ℕ → List ℕ
+headerBytes h n =
+    (4 ∷ (h .kind ∷ (h .flags1 ∷ (h .flags2 ∷ (16 ∷ (0 ∷ (0 ∷ (h .serial / 256 % 256 ∷ [])))))))) ++
+    (h .object ++ (h .interface ++ (h .activity ++
+    (digits 4 (h .boot) ++ (digits 4 (h .version) ++ (digits 4 (h .number) ++
+    (digits 2 (h .operation) ++ (digits 2 (h .ihint) ++ (digits 2 (h .ahint) ++ (digits 2 n ++ (digits 2 (h .fragment) ++
+    (h .authentication ∷ (h .serial % 256 ∷ []))))))))))))) 
+
+-- The bytes of a PDU.
+unfoldable pub datagram : Header → List ℕ → List ℕ
+datagram h body = headerBytes h (length body) ++ body
+
+-- The body of a datagram: the part from byte 80.
+unfoldable pub bodyOf : List ℕ → List ℕ
+bodyOf s = drop 80 s
+
+-- The header that stands with a refusal.
+unfoldable pub blank : Header
+blank = record {
+    kind = 0;
+    flags1 = 0;
+    flags2 = 0;
+    serial = 0;
+    object = replicate 16 0;
+    interface = replicate 16 0;
+    activity = replicate 16 0;
+    boot = 0;
+    version = 0;
+    number = 0;
+    operation = 0;
+    ihint = 0;
+    ahint = 0;
+    fragment = 0;
+    authentication = 0 }

@@ -1,0 +1,362 @@
+//! The script of kind `codec`: reads and writes, good and damaged.
+//!
+//! What must not be missed (types, single defects, pairs of defects, lengths at a boundary) goes
+//! round in turn; the rest is random.
+
+use crate::codec::{offset, ByteOrder, BODY_LIMIT, HEADER_LENGTH, HIGHEST_TYPE};
+use crate::command::{encode_read, encode_write, LENGTH_LIMIT};
+use crate::datagram::{datagram, u16_bytes};
+use crate::random::Random;
+use std::io::{self, Write};
+
+pub fn write_script(seed: u64, count: u64, output: &mut impl Write) -> io::Result<()> {
+    let mut author = Author::new(seed);
+    let mut script = Vec::new();
+    for _ in 0..count {
+        script.clear();
+        author.next_command(&mut script);
+        output.write_all(&script)?;
+    }
+    Ok(())
+}
+
+/// Something wrong with a datagram.
+#[derive(Clone, Copy)]
+enum Defect {
+    CutTo(usize),
+    Version(u8),
+    Type(u8),
+    Representation([u8; 3]),
+    Authentication(u8),
+    /// The body length says one byte more than there is.
+    LengthMore,
+    LengthLess,
+    /// The body length in the other byte order.
+    LengthTurned,
+    LengthSays(u16),
+    /// A body over the limit, with a body length that matches.
+    BodyOf(usize),
+}
+
+/// The defects by the answer that they lead to: 3 to 8.
+const DEFECTS: [&[Defect]; 6] = [
+    &[
+        Defect::CutTo(0),
+        Defect::CutTo(1),
+        Defect::CutTo(2),
+        Defect::CutTo(40),
+        Defect::CutTo(76),
+        Defect::CutTo(78),
+        Defect::CutTo(79),
+    ],
+    &[
+        Defect::Version(0x14),
+        Defect::Version(0),
+        Defect::Version(3),
+        Defect::Version(5),
+        Defect::Version(0x84),
+        Defect::Version(0xff),
+    ],
+    &[
+        Defect::Type(11),
+        Defect::Type(12),
+        Defect::Type(0x20),
+        Defect::Type(0x22),
+        Defect::Type(0x80),
+        Defect::Type(255),
+    ],
+    &[
+        Defect::Representation([32, 0, 0]),
+        Defect::Representation([16, 1, 0]),
+        Defect::Representation([16, 0, 1]),
+        Defect::Representation([0, 1, 0]),
+        Defect::Representation([0, 0, 1]),
+        Defect::Representation([1, 0, 0]),
+        Defect::Representation([17, 0, 0]),
+        Defect::Representation([0, 0, 16]),
+        Defect::Representation([255, 255, 255]),
+    ],
+    &[
+        Defect::Authentication(1),
+        Defect::Authentication(4),
+        Defect::Authentication(0x80),
+        Defect::Authentication(255),
+    ],
+    &[
+        Defect::LengthMore,
+        Defect::LengthLess,
+        Defect::LengthTurned,
+        Defect::LengthSays(1_392),
+        Defect::LengthSays(1_393),
+        Defect::LengthSays(65_456),
+        Defect::LengthSays(65_535),
+        Defect::BodyOf(1_393),
+        Defect::BodyOf(1_968),
+    ],
+];
+
+/// Datagram lengths at which something changes, and some others.
+const BOUNDARY_LENGTHS: [usize; 10] = [79, 80, 81, 1_471, 1_472, 1_473, 0, 1, 40, 2_048];
+
+/// What is wrong with a datagram of a boundary length, apart from the length itself.
+const BOUNDARY_DEFECTS: [&[Defect]; 6] = [
+    &[],
+    DEFECTS[1],
+    DEFECTS[2],
+    DEFECTS[3],
+    DEFECTS[4],
+    &[Defect::LengthMore, Defect::LengthLess],
+];
+
+/// A good datagram that is about to be damaged.
+struct Draft {
+    order: ByteOrder,
+    bytes: Vec<u8>,
+}
+
+impl Draft {
+    fn apply(&mut self, defect: Defect, random: &mut Random) {
+        match defect {
+            Defect::CutTo(length) => self.bytes.truncate(length),
+            Defect::Version(version) => self.put(offset::VERSION, &[version]),
+            Defect::Type(pdu_type) => self.put(offset::TYPE, &[pdu_type]),
+            Defect::Representation(bytes) => self.put(offset::REPRESENTATION, &bytes),
+            Defect::Authentication(byte) => self.put(offset::AUTHENTICATION, &[byte]),
+            Defect::LengthMore => self.put_body_length(self.body_length().wrapping_add(1)),
+            Defect::LengthLess => self.put_body_length(self.body_length().wrapping_sub(1)),
+            Defect::LengthTurned => self.put_body_length(self.body_length().swap_bytes()),
+            Defect::LengthSays(length) => self.put_body_length(length),
+            Defect::BodyOf(length) => {
+                self.bytes.truncate(HEADER_LENGTH);
+                self.bytes.extend(random.bytes(length));
+                self.put_body_length(length as u16);
+            }
+        }
+    }
+
+    /// The length of the body that is there.
+    fn body_length(&self) -> u16 {
+        self.bytes.len().saturating_sub(HEADER_LENGTH) as u16
+    }
+
+    fn put_body_length(&mut self, length: u16) {
+        self.put(offset::BODY_LENGTH, &u16_bytes(length, self.order));
+    }
+
+    /// Bytes behind the datagram's end are left out.
+    fn put(&mut self, at: usize, bytes: &[u8]) {
+        for (place, byte) in self.bytes.iter_mut().skip(at).zip(bytes) {
+            *place = *byte;
+        }
+    }
+}
+
+/// Goes round the numbers below a limit.
+struct Turn {
+    next: usize,
+    limit: usize,
+}
+
+impl Turn {
+    fn new(limit: usize) -> Turn {
+        Turn { next: 0, limit }
+    }
+
+    fn take(&mut self) -> usize {
+        let taken = self.next;
+        self.next = (taken + 1) % self.limit;
+        taken
+    }
+}
+
+struct Author {
+    random: Random,
+    single_defects: Vec<Defect>,
+    defect_pairs: Vec<(usize, usize)>,
+    read_kinds: Turn,
+    boundaries: Turn,
+    singles: Turn,
+    pairs: Turn,
+    write_types: Turn,
+    write_defects: Turn,
+}
+
+impl Author {
+    fn new(seed: u64) -> Author {
+        let types = usize::from(HIGHEST_TYPE) + 1;
+        let single_defects = DEFECTS.concat();
+        let defect_pairs = pairs_below(DEFECTS.len());
+        Author {
+            random: Random::new(seed),
+            read_kinds: Turn::new(2 * types),
+            boundaries: Turn::new(BOUNDARY_LENGTHS.len() * BOUNDARY_DEFECTS.len()),
+            singles: Turn::new(single_defects.len()),
+            pairs: Turn::new(defect_pairs.len()),
+            write_types: Turn::new(types),
+            write_defects: Turn::new(7),
+            single_defects,
+            defect_pairs,
+        }
+    }
+
+    fn next_command(&mut self, script: &mut Vec<u8>) {
+        if self.random.percent(50) {
+            let datagram = self.datagram_to_read();
+            encode_read(&datagram, script);
+        } else if self.random.percent(70) {
+            self.good_write(script);
+        } else {
+            self.refused_write(script);
+        }
+    }
+
+    fn datagram_to_read(&mut self) -> Vec<u8> {
+        match self.random.between(0, 99) {
+            0..=43 => self.good_datagram(),
+            44..=49 => self.boundary_datagram(),
+            50..=67 => self.datagram_with_a_defect(),
+            68..=79 => self.datagram_with_two_defects(),
+            80..=91 => self.datagram_with_a_bit_flipped(),
+            _ => self.random_datagram(),
+        }
+    }
+
+    /// A good datagram with a body of the length given, type and byte order by turns.
+    fn draft(&mut self, body_length: usize) -> Draft {
+        let kind = self.read_kinds.take();
+        let order = [ByteOrder::Little, ByteOrder::Big][kind % 2];
+        let header = self.random.header((kind / 2) as u8);
+        let body = self.random.bytes(body_length);
+        Draft {
+            order,
+            bytes: datagram(&header, order, &body),
+        }
+    }
+
+    /// A short body; its length read in the other byte order would be another.
+    fn short_draft(&mut self) -> Draft {
+        let body_length = self.random.between(1, 40);
+        self.draft(body_length)
+    }
+
+    fn good_datagram(&mut self) -> Vec<u8> {
+        let body_length = match self.random.between(0, 99) {
+            0..=14 => 0,
+            15..=79 => self.random.between(1, 32),
+            80..=93 => self.random.between(33, 600),
+            94..=96 => BODY_LIMIT - 1,
+            _ => BODY_LIMIT,
+        };
+        self.draft(body_length).bytes
+    }
+
+    fn boundary_datagram(&mut self) -> Vec<u8> {
+        let turn = self.boundaries.take();
+        let length = BOUNDARY_LENGTHS[turn % BOUNDARY_LENGTHS.len()];
+        let defects = BOUNDARY_DEFECTS[turn / BOUNDARY_LENGTHS.len()];
+        let mut draft = self.draft(length.saturating_sub(HEADER_LENGTH));
+        if !defects.is_empty() {
+            draft.apply(self.random.pick(defects), &mut self.random);
+        }
+        draft.bytes.truncate(length);
+        draft.bytes
+    }
+
+    fn datagram_with_a_defect(&mut self) -> Vec<u8> {
+        let defect = self.single_defects[self.singles.take()];
+        let mut draft = self.short_draft();
+        draft.apply(defect, &mut self.random);
+        draft.bytes
+    }
+
+    /// Two defects of different answers. The later one is put in first, so that a cut comes last.
+    fn datagram_with_two_defects(&mut self) -> Vec<u8> {
+        let (first, second) = self.defect_pairs[self.pairs.take()];
+        let mut draft = self.short_draft();
+        draft.apply(self.random.pick(DEFECTS[second]), &mut self.random);
+        draft.apply(self.random.pick(DEFECTS[first]), &mut self.random);
+        draft.bytes
+    }
+
+    fn datagram_with_a_bit_flipped(&mut self) -> Vec<u8> {
+        let mut bytes = self.short_draft().bytes;
+        let at = self.random.between(0, bytes.len() - 1);
+        bytes[at] ^= 1 << self.random.between(0, 7);
+        bytes
+    }
+
+    /// Random bytes; in most of them the first few of the judged fields are good.
+    fn random_datagram(&mut self) -> Vec<u8> {
+        let length = self.random.between(0, 200);
+        let mut draft = Draft {
+            order: ByteOrder::Little,
+            bytes: self.random.bytes(length),
+        };
+        let good_fields = self.random.between(0, 4);
+        if good_fields > 0 {
+            draft.put(offset::VERSION, &[4]);
+        }
+        if good_fields > 1 {
+            let pdu_type = self.random.between(0, usize::from(HIGHEST_TYPE)) as u8;
+            draft.put(offset::TYPE, &[pdu_type]);
+        }
+        if good_fields > 2 {
+            let order = self.random.pick(&[ByteOrder::Little, ByteOrder::Big]);
+            draft.put(offset::REPRESENTATION, &order.representation());
+        }
+        if good_fields > 3 {
+            draft.put(offset::AUTHENTICATION, &[0]);
+        }
+        draft.bytes
+    }
+
+    fn good_write(&mut self, script: &mut Vec<u8>) {
+        let pdu_type = self.write_types.take() as u8;
+        let header = self.random.header(pdu_type);
+        let body_length = self.good_body_length();
+        encode_write(&header, body_length as u16, self.random.u8(), script);
+    }
+
+    fn good_body_length(&mut self) -> usize {
+        match self.random.between(0, 99) {
+            0..=29 => self.random.pick(&[0, 1, 8]),
+            30..=89 => self.random.between(0, 64),
+            90..=94 => self.random.between(65, BODY_LIMIT),
+            95..=96 => BODY_LIMIT - 1,
+            _ => BODY_LIMIT,
+        }
+    }
+
+    /// A write with one, two or three defects, all seven sets of them by turns.
+    fn refused_write(&mut self, script: &mut Vec<u8>) {
+        let defects = self.write_defects.take() + 1;
+        let mut header = self.random.header(0);
+        header.pdu_type = self.random.between(0, usize::from(HIGHEST_TYPE)) as u8;
+        let mut body_length = self.random.pick(&[0, 1, 8, BODY_LIMIT - 1, BODY_LIMIT]);
+        if defects & 1 != 0 {
+            header.pdu_type = self.random.pick(&[11, 12, 0x20, 0x80, 255]);
+        }
+        if defects & 2 != 0 {
+            header.authentication = self.random.between(1, 255) as u8;
+        }
+        if defects & 4 != 0 {
+            body_length = self.body_length_over_the_limit();
+        }
+        encode_write(&header, body_length as u16, self.random.u8(), script);
+    }
+
+    fn body_length_over_the_limit(&mut self) -> usize {
+        let longest = usize::from(LENGTH_LIMIT);
+        if self.random.percent(60) {
+            return self.random.pick(&[BODY_LIMIT + 1, longest]);
+        }
+        self.random.between(BODY_LIMIT + 1, longest)
+    }
+}
+
+/// All pairs of different numbers below a limit, the lower one first.
+fn pairs_below(limit: usize) -> Vec<(usize, usize)> {
+    (0..limit)
+        .flat_map(|low| (low + 1..limit).map(move |high| (low, high)))
+        .collect()
+}
