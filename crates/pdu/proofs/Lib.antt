@@ -1,3 +1,4 @@
 -- The laws of the codec. Codec has what the proofs of reader and writer share; RoundTrip is what a caller cites.
 pub mod Codec
 pub mod ReadReturns
+pub mod WriteReturns

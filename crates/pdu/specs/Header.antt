@@ -30,14 +30,31 @@ headerOf little s = record {
     fragment = number 2 little s 76;
     authentication = getD s 78 0 }
 
--- The 80 bytes of a header before a body of n bytes: version 4, representation 16,0,0, always little-endian.
+-- Bytes 0 to 7: version 4, type, flags, representation 16,0,0, the serial's high byte.
+abbrev pub frontBytes : ℕ → ℕ → ℕ → ℕ → List ℕ
+frontBytes kind flags1 flags2 serial =
+    4 ∷ (kind ∷ (flags1 ∷ (flags2 ∷ (16 ∷ (0 ∷ (0 ∷ (serial / 256 % 256 ∷ [])))))))
+
+-- Bytes 56 to 67: server boot, interface version, call number.
+abbrev pub numberBytes : ℕ → ℕ → ℕ → List ℕ
+numberBytes boot version number = digits 4 boot ++ (digits 4 version ++ digits 4 number)
+
+-- Bytes 68 to 75: operation, hints, body length.
+abbrev pub hintBytes : ℕ → ℕ → ℕ → ℕ → List ℕ
+hintBytes operation ihint ahint body = digits 2 operation ++ (digits 2 ihint ++ (digits 2 ahint ++ digits 2 body))
+
+-- Bytes 76 to 79: fragment number, authentication, the serial's low byte.
+abbrev pub backBytes : ℕ → ℕ → ℕ → List ℕ
+backBytes fragment authentication serial = digits 2 fragment ++ (authentication ∷ (serial % 256 ∷ []))
+
+-- The 80 bytes of a header before a body of n bytes, always little-endian; the UUIDs are bytes 8 to 55.
 unfoldable pub headerBytes : Header → ℕ → List ℕ
 headerBytes h n =
-    (4 ∷ (h .kind ∷ (h .flags1 ∷ (h .flags2 ∷ (16 ∷ (0 ∷ (0 ∷ (h .serial / 256 % 256 ∷ [])))))))) ++
-    (h .object ++ (h .interface ++ (h .activity ++
-    (digits 4 (h .boot) ++ (digits 4 (h .version) ++ (digits 4 (h .number) ++
-    (digits 2 (h .operation) ++ (digits 2 (h .ihint) ++ (digits 2 (h .ahint) ++ (digits 2 n ++ (digits 2 (h .fragment) ++
-    (h .authentication ∷ (h .serial % 256 ∷ []))))))))))))) 
+    frontBytes (h .kind) (h .flags1) (h .flags2) (h .serial) ++
+    ((h .object ++ (h .interface ++ h .activity)) ++
+    (numberBytes (h .boot) (h .version) (h .number) ++
+    (hintBytes (h .operation) (h .ihint) (h .ahint) n ++
+    backBytes (h .fragment) (h .authentication) (h .serial))))
 
 -- The bytes of a PDU.
 unfoldable pub datagram : Header → List ℕ → List ℕ

@@ -45,3 +45,11 @@ put-behind at k a b d e h =
         rw (← drop-drop (length b) k ((take at d ++ a) ++ drop k d), drop-at (take at d ++ a) (drop k d) k head, drop-drop (length b) k d) in
     rw (first, placed-fits k b ((take at d ++ a) ++ drop k d) (omega arith), placed-fits at (a ++ b) d (omega arith),
     take-at (take at d ++ a) (drop k d) k head, rest, whole) (simp append-assoc)
+
+-- The same of three runs.
+pub put-three : (at k l : ℕ) (a b c d : List ℕ) → at + length a ≡ k → k + length b ≡ l → l + length c ≤ length d
+    → placed l c (placed k b (placed at a d)) ≡ placed at (a ++ (b ++ c)) d
+put-three at k l a b c d e f h =
+    let first : placed k b (placed at a d) ≡ placed at (a ++ b) d = put-behind at k a b d e (omega arith) in
+    let size : at + length (a ++ b) ≡ l = rw (length-append a b) (omega arith) in
+    rw (first, put-behind at l (a ++ b) c d size h, append-assoc a b c)
