@@ -1,6 +1,8 @@
 -- The number that document 01 gives each answer.
 use Prim.Native.Nat.{ℕ}
 use Rattle.answers.specs.declared.Answer.{Answer}
+use Rattle.answers.specs.declared.Ground.{Ground}
+use Rattle.answers.specs.declared.Ground.the-variants.{Pass, Refuse}
 use Rattle.answers.specs.declared.Answer.the-variants.{Done, WrongLength, BrokenRecord, ShortDatagram, WrongVersion, UnknownType, UnknownRepresentation, Authenticated, WrongBodyLength, OtherActivity, WrongSide, MaybeOrBroadcast, WrongFragment, OldCall, MalformedBody, NoRow, Repeated, Contradiction, LateTimer, NumbersSpent, TicketsSpent}
 
 abbrev pub numberOf : Answer → ℕ
@@ -25,3 +27,8 @@ numberOf Contradiction = 17
 numberOf LateTimer = 18
 numberOf NumbersSpent = 19
 numberOf TicketsSpent = 20
+
+-- What a ground answers.
+abbrev pub answerOf : Ground → Answer
+answerOf Pass = Done
+answerOf (Refuse a) = a

@@ -2,3 +2,4 @@
 pub mod Codec
 pub mod ReadReturns
 pub mod WriteReturns
+pub mod RoundTrip

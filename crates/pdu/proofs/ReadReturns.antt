@@ -2,7 +2,7 @@
 use Prim.Native.Nat.{ℕ, _≤_}
 use mathlib.Core.Bool.{Bool, false}
 use mathlib.Core.List.{List}
-use mathlib.Core.Path.{_≡_, refl, sym, _∙_}
+use mathlib.Core.Path.{_≡_, refl, sym, ap, _∙_}
 use native.Mathlib.Omega.{arith}
 use lib.ListN.{length, getD}
 use Rattle.words.specs.Number.{number}
@@ -10,6 +10,7 @@ use Rattle.answers.specs.declared.Answer.{Answer}
 use Rattle.answers.specs.declared.Answer.the-variants.{Done}
 use Rattle.answers.specs.declared.Ground.{Ground}
 use Rattle.answers.specs.declared.Ground.the-variants.{Pass, Refuse}
+use Rattle.answers.specs.Number.{answerOf}
 use Rattle.pdu.specs.declared.Header.{Header}
 use Rattle.pdu.specs.declared.reader.Reading.{Reading}
 use Rattle.pdu.specs.Header.{headerOf, blank}
@@ -20,7 +21,7 @@ module _ (s : List ℕ) (g : Ground) (little big : Bool) (judged : g ≡ groundB
   -- What passed is known to be readable, so that its header can be read.
   pub readable-datagram : g ≡ Pass → Readable (length s) (getD s 0 0) (getD s 1 0) (known little big) (getD s 78 0) (number 2 little s 74)
   unfolding groundBy
-  readable-datagram e = readable (length s) (getD s 0 0) (getD s 1 0) (known little big) (getD s 78 0) (number 2 little s 74) (sym judged ∙ e)
+  readable-datagram e = readable (length s) (getD s 0 0) (getD s 1 0) (known little big) (getD s 78 0) (number 2 little s 74) (ap answerOf (sym judged ∙ e))
 
   module _ (is-little : little ≡ orderIs 16 s) (is-big : big ≡ orderIs 0 s) where
     pub read-passed : (h : Header) → g ≡ Pass → h ≡ headerOf little s → _≡_ {A = Reading} (record { answer = Done; little = little; header = h }) (reading s)

@@ -1,7 +1,7 @@
 -- Each return of the writer, over plain variables.
 use Prim.Native.Nat.{ℕ, _+_, _≤_}
 use mathlib.Core.List.{List, _++_, append-assoc}
-use mathlib.Core.Path.{_≡_, refl, sym, _∙_}
+use mathlib.Core.Path.{_≡_, refl, sym, ap, _∙_}
 use native.Mathlib.Omega.{arith}
 use lib.ListN.{length, length-append}
 use lib.Dec.{ltb, eqb}
@@ -9,10 +9,12 @@ use borrow.Author.Tests.{ltb-false, eqb-true, not-false}
 use mathlib.Core.Bool.{not}
 use Rattle.words.specs.Place.{placed}
 use Rattle.words.proofs.Place.{put-behind, put-three}
+use Rattle.words.proofs.Tests.{tests}
 use Rattle.answers.specs.declared.Answer.{Answer}
 use Rattle.answers.specs.declared.Answer.the-variants.{Done, WrongLength, UnknownType, Authenticated, WrongBodyLength}
 use Rattle.answers.specs.declared.Ground.{Ground}
 use Rattle.answers.specs.declared.Ground.the-variants.{Pass, Refuse}
+use Rattle.answers.specs.Number.{answerOf}
 use Rattle.answers.proofs.Passing.{passed}
 use Rattle.pdu.specs.declared.Header.{Header}
 use Rattle.pdu.specs.Header.{frontBytes, numberBytes, hintBytes, backBytes, headerBytes, datagram}
@@ -27,6 +29,10 @@ pub record Sized (h : Header) : Type 0 where
 pub length-header : (h : Header) (n : ℕ) → Sized h → length (headerBytes h n) ≡ 80
 unfolding headerBytes
 length-header h n z = simp length-append (omega arith)
+
+pub length-datagram : (h : Header) (body : List ℕ) → Sized h → length (datagram h body) ≡ 80 + length body
+unfolding datagram
+length-datagram h body z = rw (length-append (headerBytes h (length body)) body, length-header h (length body) z)
 
 -- A header laid down by pieces is the header laid down.
 pub header-put : (h : Header) (n : ℕ) (out : List ℕ) → Sized h → 80 ≤ length out
@@ -45,23 +51,27 @@ pub record Writable (lent kind authentication body : ℕ) : Type 0 where
   pub unauthenticated : authentication ≡ 0
   pub short : body ≤ 1392
 
-pub writable : (lent kind authentication body : ℕ) → writeGround lent kind authentication body ≡ Pass → Writable lent kind authentication body
+pub writable : (lent kind authentication body : ℕ) → answerOf (writeGround lent kind authentication body) ≡ Done → Writable lent kind authentication body
 unfolding writeGround
 writable lent kind authentication body e0 =
-    let e1 = passed (not (eqb lent 1472)) WrongLength _ e0 in
-    let e2 = passed (ltb 10 kind) UnknownType _ (e1 .1) in
-    let e3 = passed (not (eqb authentication 0)) Authenticated _ (e2 .1) in
-    let e4 = passed (ltb 1392 body) WrongBodyLength _ (e3 .1) in
+    let e1 = passed (not (eqb lent 1472)) WrongLength _ tt e0 in
+    let e2 = passed (ltb 10 kind) UnknownType _ tt (e1 .1) in
+    let e3 = passed (not (eqb authentication 0)) Authenticated _ tt (e2 .1) in
+    let e4 = passed (ltb 1392 body) WrongBodyLength _ tt (e3 .1) in
     record {
       room = eqb-true lent 1472 (not-false (eqb lent 1472) (e1 .0));
       known-type = ltb-false 10 kind (e2 .0);
       unauthenticated = eqb-true authentication 0 (not-false (eqb authentication 0) (e3 .0));
       short = ltb-false 1392 body (e4 .0) }
 
+pub writable-passes : (lent kind authentication body : ℕ) → Writable lent kind authentication body → writeGround lent kind authentication body ≡ Pass
+unfolding writeGround
+writable-passes lent kind authentication body w = search tests
+
 module _ (h : Header) (body out after : List ℕ) (g : Ground)
     (judged : g ≡ writeGround (length out) (h .kind) (h .authentication) (length body)) where
   pub writable-here : g ≡ Pass → Writable (length out) (h .kind) (h .authentication) (length body)
-  writable-here e = writable (length out) (h .kind) (h .authentication) (length body) (sym judged ∙ e)
+  writable-here e = writable (length out) (h .kind) (h .authentication) (length body) (ap answerOf (sym judged ∙ e))
 
   pub write-passed : g ≡ Pass → Sized h → after ≡ placed 80 body (placed 0 (headerBytes h (length body)) out)
       → Wrote (writing h body out) (record { answer = Done; length = 80 + length body }) after

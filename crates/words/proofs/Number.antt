@@ -7,7 +7,7 @@ use native.Mathlib.Omega.{arith}
 use native.Mathlib.Numerals.{add-one}
 use lib.ListN.{length, getD, take, drop, length-reverse, List·getD-eq-default}
 use native.Mathlib.Nat.{pow-suc, add-assoc}
-use lib.Seq.{drop-cons, getD-take, getD-drop}
+use lib.Seq.{drop-cons, take-all, getD-take, getD-drop}
 use Rattle.words.specs.Number.{le, digits, turned, part, value, bytes, number}
 
 -- Every element of a list has the property.
@@ -101,3 +101,13 @@ part-stretch (suc n) m at k s h =
     let below : k < m = omega arith in
     rw (getD-take m (drop at s) k 0 below, getD-drop at s k 0, add-assoc at k 1)
     (ap (λ (l : List ℕ). getD s (at + k) 0 ∷ l) (part-stretch n m at (k + 1) s (omega arith)))
+
+-- The whole of a list is its part from 0 on.
+pub part-all : (n : ℕ) (l : List ℕ) → length l ≡ n → part n l 0 ≡ l
+part-all n l e = part-take n l 0 (omega arith) ∙ take-all n l (omega arith)
+
+-- The bytes of a little-endian number are those that it was read from.
+pub digits-part : (n : ℕ) (s : List ℕ) (at : ℕ) → ((i : ℕ) → getD s i 0 < 256) → digits n (number n true s at) ≡ part n s at
+unfolding number
+digits-part n s at h =
+    rw (length-part n s at) at (digits-le (part n s at) (all-part (λ (b : ℕ). b < 256) n s at h))

@@ -53,3 +53,8 @@ put-three at k l a b c d e f h =
     let first : placed k b (placed at a d) ≡ placed at (a ++ b) d = put-behind at k a b d e (omega arith) in
     let size : at + length (a ++ b) ≡ l = rw (length-append a b) (omega arith) in
     rw (first, put-behind at l (a ++ b) c d size h, append-assoc a b c)
+
+-- What was put at the front stands there.
+pub placed-front : (s d : List ℕ) (n : ℕ) → length s ≡ n → n ≤ length d → take n (placed 0 s d) ≡ s
+unfolding putAt
+placed-front s d n e h = rw (placed-fits 0 s d (omega arith)) (take-at s (drop (0 + length s) d) n e)

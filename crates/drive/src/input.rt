@@ -1,0 +1,84 @@
+// The script: a window over a buffer that standard input is read into.
+use crate::part;
+use libc::STDIN_FILENO;
+
+// No command is longer: while the input has more, the window holds a whole one.
+const COMMAND_LIMIT: usize = 4096;
+
+// The bytes from `at` to `end` have been read and are not yet taken.
+pub struct Window {
+    pub at: usize,
+    pub end: usize,
+}
+
+pub fn empty() -> Window {
+    Window { at: 0, end: 0 }
+}
+
+// The bytes in the window.
+pub fn rest(buffer: &[u8], window: Window) -> &[u8] {
+    part::behind(part::first(buffer, window.end), window.at)
+}
+
+// The window without its first bytes.
+pub fn advanced(window: Window, taken: usize) -> Window {
+    let at = window.at;
+    let end = window.end;
+    if at <= end {
+        if taken <= end - at {
+            return Window {
+                at: at + taken,
+                end,
+            };
+        }
+    }
+    Window { at: end, end }
+}
+
+// Moves the bytes from `at` to `end` to the front, and answers how many they are.
+fn shifted(buffer: &mut [u8], at: usize, end: usize) -> usize {
+    let mut count = 0;
+    if end > buffer.len() {
+        return count;
+    }
+    let mut from = at;
+    while from < end {
+        buffer[count] = buffer[from];
+        count += 1;
+        from += 1;
+    }
+    count
+}
+
+// Reads until the buffer is full behind its first bytes or the input ends, and answers where the
+// bytes read end.
+fn read_behind(buffer: &mut [u8], first: usize) -> usize {
+    if first > buffer.len() {
+        return 0;
+    }
+    let count = io::read_full(STDIN_FILENO, &mut buffer[first..]);
+    first + count
+}
+
+// The window with a whole command in it, unless the input ends before.
+pub fn filled(buffer: &mut [u8], window: Window) -> Window {
+    let at = window.at;
+    let end = window.end;
+    if at <= end {
+        if end - at >= COMMAND_LIMIT {
+            return window;
+        }
+    }
+    let first = shifted(buffer, at, end);
+    Window {
+        at: 0,
+        end: read_behind(buffer, first),
+    }
+}
+
+// The UUID that stands in s at `at`.
+pub fn uuid(s: &[u8], at: usize) -> [u8; 16] {
+    let mut bytes = [0u8; 16];
+    words::put(&mut bytes, 0, part::first(part::behind(s, at), 16));
+    bytes
+}
