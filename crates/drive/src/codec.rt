@@ -61,7 +61,8 @@ fn put_header(out: &mut [u8], used: usize, h: Header) -> usize {
 // The line of a read.
 fn put_reading(out: &mut [u8], used: usize, datagram: &[u8]) -> usize {
     let reading = pdu::reader::read(datagram);
-    let answer = answers::number(reading.answer);
+    let answer = reading.answer;
+    let answer = answers::number(answer);
     let end = output::put_number_field(out, used, b"read ", answer as u64);
     if answer != 0 {
         return output::put_text(out, end, b"\n");
@@ -117,14 +118,15 @@ fn header_of(s: &[u8]) -> Header {
 // Writes into the first bytes of a buffer, as many as are lent, or all where there are fewer.
 fn write_lent(h: Header, body: &[u8], buffer: &mut [u8], lent: usize) -> Written {
     if lent < buffer.len() {
-        return pdu::writer::write(h, body, &mut buffer[..lent]);
+        return pdu::writer::write(h, body, &mut buffer[0..lent]);
     }
     pdu::writer::write(h, body, buffer)
 }
 
 // The line of a write; `buffer` is the whole PDU buffer after it.
 fn put_written(out: &mut [u8], used: usize, written: Written, buffer: &[u8]) -> usize {
-    let answer = answers::number(written.answer);
+    let answer = written.answer;
+    let answer = answers::number(answer);
     let end = output::put_number_field(out, used, b"write ", answer as u64);
     let end = output::put_hex_field(out, end, b" ", part::first(buffer, written.length));
     let end = output::put_number_field(out, end, b" out=", sum::adler(part::first(buffer, 2048)));

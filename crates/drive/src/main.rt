@@ -22,7 +22,8 @@ struct Progress {
 // One turn: a command, or the end of the input.
 fn turn(script: &mut [u8], out: &mut [u8], before: Progress) -> Progress {
     let state = before.state;
-    let window = input::filled(script, before.window);
+    let window = before.window;
+    let window = input::filled(script, window);
     let used = output::with_room(out, before.used);
     let rest = input::rest(script, window);
     if rest.len() == 0 {
@@ -34,12 +35,15 @@ fn turn(script: &mut [u8], out: &mut [u8], before: Progress) -> Progress {
         };
     }
     match command::step(rest[0], &rest[1..], state, out, used) {
-        Outcome::Done(done) => Progress {
-            more: true,
-            window: input::advanced(input::advanced(window, 1), done.taken),
-            used: done.used,
-            state: done.state,
-        },
+        Outcome::Done(done) => {
+            let after = done.state;
+            Progress {
+                more: true,
+                window: input::advanced(input::advanced(window, 1), done.taken),
+                used: done.used,
+                state: after,
+            }
+        }
         Outcome::Bad => Progress {
             more: false,
             window,

@@ -7,7 +7,7 @@ pub fn first(s: &[u8], n: usize) -> &[u8]
     ensures { λ r. ⌜ length (now r) ≤ n ⌝ }
 {
     if n < s.len() {
-        return &s[..n];
+        return &s[0..n];
     }
     s
 }

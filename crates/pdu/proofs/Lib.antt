@@ -3,3 +3,5 @@ pub mod Codec
 pub mod ReadReturns
 pub mod WriteReturns
 pub mod RoundTrip
+pub mod BodyReturns
+pub mod BodyRoundTrip
