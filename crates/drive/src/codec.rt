@@ -1,11 +1,26 @@
 // The commands of the reader and the writer.
-use crate::command::{Done, Outcome, State};
-use crate::{input, message, output, part, sum};
+use crate::command::Done;
+use crate::command::Outcome;
+use crate::command::State;
+use crate::input;
+use crate::message;
+use crate::output;
+use crate::part;
+use crate::sum;
 use pdu::Header;
-use pdu::writer::Written;
+use writer::Written;
 
 // The longest datagram and the longest body.
-const LENGTH_LIMIT: u16 = 2048;
+const LENGTH_LIMIT: usize = 2048;
+
+// The bytes of a write command behind its first.
+const WRITE_SIZE: usize = 77;
+
+// The PDU buffer.
+const BUFFER_SIZE: usize = 2048;
+
+// Each of its bytes before a write.
+const FILL: u8 = 0xa5;
 
 // Type, flags and serial.
 fn put_front(out: &mut [u8], used: usize, kind: u8, flags1: u8, flags2: u8, serial: u16) -> usize {
@@ -60,16 +75,16 @@ fn put_header(out: &mut [u8], used: usize, h: Header) -> usize {
 
 // The line of a read.
 fn put_reading(out: &mut [u8], used: usize, datagram: &[u8]) -> usize {
-    let reading = pdu::reader::read(datagram);
+    let reading = reader::read(datagram);
     let answer = reading.answer;
-    let answer = answers::number(answer);
-    let end = output::put_number_field(out, used, b"read ", answer as u64);
-    if answer != 0 {
+    let number = answers::number(answer);
+    let end = output::put_number_field(out, used, b"read ", number as u64);
+    if number != 0 {
         return output::put_text(out, end, b"\n");
     }
     let header = reading.header;
     let end = put_header(out, end, header);
-    let end = output::put_hex_field(out, end, b" body=", pdu::reader::body(datagram));
+    let end = output::put_hex_field(out, end, b" body=", reader::body(datagram));
     output::put_text(out, end, b"\n")
 }
 
@@ -78,11 +93,11 @@ pub fn read(rest: &[u8], state: State, out: &mut [u8], used: usize) -> Outcome {
     if rest.len() < 2 {
         return Outcome::Bad;
     }
-    let length = words::number16(rest, 0, true);
+    let length = words::number16(rest, 0, true) as usize;
     if length > LENGTH_LIMIT {
         return Outcome::Bad;
     }
-    let end = 2 + length as usize;
+    let end = 2 + length;
     if rest.len() < end {
         return Outcome::Bad;
     }
@@ -94,7 +109,7 @@ pub fn read(rest: &[u8], state: State, out: &mut [u8], used: usize) -> Outcome {
     })
 }
 
-// The header that stands in front of a write's body.
+// The header in a write command.
 fn header_of(s: &[u8]) -> Header {
     Header {
         kind: words::byte_at(s, 0),
@@ -118,43 +133,51 @@ fn header_of(s: &[u8]) -> Header {
 // Writes into the first bytes of a buffer, as many as are lent, or all where there are fewer.
 fn write_lent(h: Header, body: &[u8], buffer: &mut [u8], lent: usize) -> Written {
     if lent < buffer.len() {
-        return pdu::writer::write(h, body, &mut buffer[0..lent]);
+        return writer::write(h, body, &mut buffer[0..lent]);
     }
-    pdu::writer::write(h, body, buffer)
+    writer::write(h, body, buffer)
 }
 
 // The line of a write; `buffer` is the whole PDU buffer after it.
 fn put_written(out: &mut [u8], used: usize, written: Written, buffer: &[u8]) -> usize {
     let answer = written.answer;
-    let answer = answers::number(answer);
-    let end = output::put_number_field(out, used, b"write ", answer as u64);
+    let number = answers::number(answer);
+    let end = output::put_number_field(out, used, b"write ", number as u64);
     let end = output::put_hex_field(out, end, b" ", part::first(buffer, written.length));
-    let end = output::put_number_field(out, end, b" out=", sum::adler(part::first(buffer, 2048)));
+    let sum = sum::adler(part::first(buffer, BUFFER_SIZE));
+    let end = output::put_number_field(out, end, b" out=", sum);
     output::put_text(out, end, b"\n")
 }
 
 // Writes a PDU whose body is `length` bytes of a message, and its line.
-fn put_writing(out: &mut [u8], used: usize, h: Header, length: usize, seed: u8, lent: usize) -> usize {
-    let mut body = [0u8; 2048];
+fn put_writing(
+    out: &mut [u8],
+    used: usize,
+    h: Header,
+    length: usize,
+    seed: u8,
+    lent: usize,
+) -> usize {
+    let mut body = [0u8; LENGTH_LIMIT];
     message::fill(&mut body, seed);
-    let mut buffer = [0xa5u8; 2048];
+    let mut buffer = [FILL; BUFFER_SIZE];
     let written = write_lent(h, part::first(&body, length), &mut buffer, lent);
     put_written(out, used, written, &buffer)
 }
 
 // The header's fields, the length of the body u16 and its seed u8.
 pub fn write(rest: &[u8], state: State, out: &mut [u8], used: usize) -> Outcome {
-    if rest.len() < 77 {
+    if rest.len() < WRITE_SIZE {
         return Outcome::Bad;
     }
-    let length = words::number16(rest, 74, true);
+    let length = words::number16(rest, 74, true) as usize;
     if length > LENGTH_LIMIT {
         return Outcome::Bad;
     }
     let seed = words::byte_at(rest, 76);
-    let used = put_writing(out, used, header_of(rest), length as usize, seed, state.lent);
+    let used = put_writing(out, used, header_of(rest), length, seed, state.lent);
     Outcome::Done(Done {
-        taken: 77,
+        taken: WRITE_SIZE,
         used,
         state,
     })

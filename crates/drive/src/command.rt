@@ -21,7 +21,9 @@ pub enum Outcome {
 }
 
 pub fn fresh() -> State {
-    State { lent: 1472 }
+    State {
+        lent: pdu::PDU_SIZE,
+    }
 }
 
 // The command of this byte; its body stands in front of `rest`.

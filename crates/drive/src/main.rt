@@ -8,7 +8,8 @@ mod output;
 mod part;
 mod sum;
 
-use command::{Outcome, State};
+use command::Outcome;
+use command::State;
 use input::Window;
 
 // What lasts from one turn to the next.
@@ -22,8 +23,8 @@ struct Progress {
 // One turn: a command, or the end of the input.
 fn turn(script: &mut [u8], out: &mut [u8], before: Progress) -> Progress {
     let state = before.state;
-    let window = before.window;
-    let window = input::filled(script, window);
+    let left = before.window;
+    let window = input::filled(script, left);
     let used = output::with_room(out, before.used);
     let rest = input::rest(script, window);
     if rest.len() == 0 {

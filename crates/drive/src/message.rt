@@ -2,7 +2,7 @@
 
 // Byte i is (seed + 7 i + i / 1392) mod 256.
 fn byte(seed: u8, i: usize) -> u8 {
-    ((seed as usize + 7 * (i % 256) + i / 1392) % 256) as u8
+    ((seed as usize + 7 * (i % 256) + i / pdu::BODY_SIZE) % 256) as u8
 }
 
 pub fn fill(message: &mut [u8], seed: u8) {

@@ -22,7 +22,7 @@ pub fn with_room(out: &[u8], used: usize) -> usize {
     0
 }
 
-pub fn put_byte(out: &mut [u8], used: usize, byte: u8) -> usize {
+fn put_byte(out: &mut [u8], used: usize, byte: u8) -> usize {
     if used < out.len() {
         out[used] = byte;
         return used + 1;
@@ -51,7 +51,11 @@ pub fn put_number(out: &mut [u8], used: usize, number: u64) -> usize {
 // The lower-case digit of the last four bits.
 fn digit(bits: u8) -> u8 {
     let value = bits % 16;
-    if value < 10 { b'0' + value } else { b'a' - 10 + value }
+    if value < 10 {
+        b'0' + value
+    } else {
+        b'a' - 10 + value
+    }
 }
 
 fn put_digits(out: &mut [u8], used: usize, bytes: &[u8]) -> usize {

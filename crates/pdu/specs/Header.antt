@@ -3,6 +3,8 @@ use Prim.Native.Nat.{ℕ, _+_, _*_, _/_, _%_}
 use mathlib.Core.Bool.{Bool}
 use mathlib.Core.List.{List, [], _∷_, _++_}
 use lib.ListN.{length, getD, drop, replicate}
+use lib.Dec.{ltb}
+use Rattle.words.specs.Choice.{choose}
 use Rattle.words.specs.Number.{le, digits, turned, part, number}
 use Rattle.pdu.specs.declared.Header.{Header}
 
@@ -64,7 +66,7 @@ datagram h body = headerBytes h (length body) ++ body
 unfoldable pub bodyOf : List ℕ → List ℕ
 bodyOf s = drop 80 s
 
--- The header that stands with a refusal.
+-- The header that stands where there is none.
 unfoldable pub blank : Header
 blank = record {
     kind = 0;
@@ -82,3 +84,7 @@ blank = record {
     ahint = 0;
     fragment = 0;
     authentication = 0 }
+
+-- The fields of a datagram that has a header, a blank of one that is too short for it.
+unfoldable pub fieldsOf : Bool → List ℕ → Header
+fieldsOf little s = choose (ltb (length s) 80) blank (headerOf little s)

@@ -1,8 +1,9 @@
-// The connectionless PDU: reader, writer, bodies and flags.
-pub mod bodies;
-pub mod flags;
-pub mod reader;
-pub mod writer;
+// The connectionless PDU: its header, and the header's fields as they stand in a datagram.
+ghost use mathlib.Core.Path.{_≡_};
+ghost use mathlib.Core.Bool.{true, false};
+ghost use Prim.Native.Nat.{_+_, _≤_};
+ghost use lib.ListN.{length};
+ghost use Rattle.pdu.specs.Header.{uuidAt, headerOf, blank, fieldsOf};
 
 // A PDU of 1,472 bytes at most: 80 of header and a body of up to 1,392.
 pub const HEADER_SIZE: usize = 80;
@@ -27,4 +28,123 @@ pub struct Header {
     pub ahint: u16,
     pub fragment: u16,
     pub authentication: u8,
+}
+
+// A UUID of a little-endian sender.
+fn uuid_little(u: &[u8]) -> [u8; 16]
+    requires { ⌜ length (now u) ≡ 16 ⌝ }
+    ensures { λ r. ⌜ r ≡ uuidAt true (now (u .entry)) 0 ⌝ }
+{
+    [
+        u[0],
+        u[1],
+        u[2],
+        u[3],
+        u[4],
+        u[5],
+        u[6],
+        u[7],
+        u[8],
+        u[9],
+        u[10],
+        u[11],
+        u[12],
+        u[13],
+        u[14],
+        u[15],
+    ]
+}
+
+// A UUID of a big-endian sender, turned into the little-endian form.
+fn uuid_big(u: &[u8]) -> [u8; 16]
+    requires { ⌜ length (now u) ≡ 16 ⌝ }
+    ensures { λ r. ⌜ r ≡ uuidAt false (now (u .entry)) 0 ⌝ }
+{
+    [
+        u[3],
+        u[2],
+        u[1],
+        u[0],
+        u[5],
+        u[4],
+        u[7],
+        u[6],
+        u[8],
+        u[9],
+        u[10],
+        u[11],
+        u[12],
+        u[13],
+        u[14],
+        u[15],
+    ]
+}
+
+// The UUID that stands at `at`.
+fn uuid(s: &[u8], at: usize, little: bool) -> [u8; 16]
+    requires { ⌜ at + 16 ≤ length (now s) ⌝ }
+    ensures { λ r. ⌜ r ≡ uuidAt little (now (s .entry)) at ⌝ }
+{
+    let u = &s[at..at + 16];
+    if little {
+        return uuid_little(u);
+    }
+    uuid_big(u)
+}
+
+// The header's fields, in the sender's order.
+fn header_of(s: &[u8], little: bool) -> Header
+    requires { ⌜ 80 ≤ length (now s) ⌝ }
+    ensures { λ r. ⌜ r ≡ headerOf little (now (s .entry)) ⌝ }
+{
+    Header {
+        kind: s[1],
+        flags1: s[2],
+        flags2: s[3],
+        serial: words::join16(s[79], s[7]),
+        object: uuid(s, 8, little),
+        interface: uuid(s, 24, little),
+        activity: uuid(s, 40, little),
+        boot: words::number32(s, 56, little),
+        version: words::number32(s, 60, little),
+        number: words::number32(s, 64, little),
+        operation: words::number16(s, 68, little),
+        ihint: words::number16(s, 70, little),
+        ahint: words::number16(s, 72, little),
+        fragment: words::number16(s, 76, little),
+        authentication: s[78],
+    }
+}
+
+// The header that stands where there is none.
+pub fn no_header() -> Header
+    ensures { λ r. ⌜ r ≡ blank ⌝ }
+{
+    Header {
+        kind: 0,
+        flags1: 0,
+        flags2: 0,
+        serial: 0,
+        object: [0; 16],
+        interface: [0; 16],
+        activity: [0; 16],
+        boot: 0,
+        version: 0,
+        number: 0,
+        operation: 0,
+        ihint: 0,
+        ahint: 0,
+        fragment: 0,
+        authentication: 0,
+    }
+}
+
+// The header's fields in a datagram, in the sender's order; a blank where it has no 80 bytes.
+pub fn fields(s: &[u8], little: bool) -> Header
+    ensures { λ r. ⌜ r ≡ fieldsOf little (now (s .entry)) ⌝ }
+{
+    if s.len() < 80 {
+        return no_header();
+    }
+    header_of(s, little)
 }

@@ -1,7 +1,6 @@
 -- `drive::input::shifted` is safe and ends. The place written stands no further than the place read, and the buffer keeps its length.
 use Prim.Native.Nat.{_≤_, _-_}
-use mathlib.Core.Path.{_≡_, refl}
-use native.Mathlib.Omega.{arith}
+use mathlib.Core.Path.{_≡_}
 use borrow.Author.Needs.{needs}
 use lib.ListN.{length, length-set}
 use Rattle.drive.proofs.input.shifted.Statement.{statement}

@@ -1,0 +1,125 @@
+// The bodies of fack, fault and reject.
+use answers::{Answer, Ground};
+ghost use mathlib.Core.Path.{_≡_};
+ghost use Rattle.bodies.specs.Fack.{fackGround, fackOf, noFack, fackReading, fackBytes, fackSent};
+ghost use Rattle.bodies.specs.Status.{statusReading, statusBytes};
+
+// A fack's body, with its first mask.
+pub struct Fack {
+    pub pad: u8,
+    pub window: u16,
+    pub tsdu: u32,
+    pub size: u32,
+    pub serial: u16,
+    pub words: u16,
+    pub mask: u32,
+}
+
+pub struct FackReading {
+    pub answer: Answer,
+    pub fack: Fack,
+}
+
+pub struct StatusReading {
+    pub answer: Answer,
+    pub status: u32,
+}
+
+// Malformed is a body under 16 bytes, another version than 0, or another length than 16 + 4w.
+fn judge_fack(size: usize, version: u8, words: u16) -> Ground
+    ensures { λ r. ⌜ r ≡ fackGround size version words ⌝ }
+{
+    if size < 16 {
+        return Ground::Refuse(Answer::MalformedBody);
+    }
+    if version != 0 {
+        return Ground::Refuse(Answer::MalformedBody);
+    }
+    if size != 16 + 4 * (words as usize) {
+        return Ground::Refuse(Answer::MalformedBody);
+    }
+    Ground::Pass
+}
+
+// The fields of a fack's body.
+fn fack_of(body: &[u8], little: bool) -> Fack
+    ensures { λ r. ⌜ r ≡ fackOf little (now (body .entry)) ⌝ }
+{
+    Fack {
+        pad: words::byte_at(body, 1),
+        window: words::number16(body, 2, little),
+        tsdu: words::number32(body, 4, little),
+        size: words::number32(body, 8, little),
+        serial: words::number16(body, 12, little),
+        words: words::number16(body, 14, little),
+        mask: words::number32(body, 16, little),
+    }
+}
+
+// The fields that stand with a refusal.
+fn no_fack() -> Fack
+    ensures { λ r. ⌜ r ≡ noFack ⌝ }
+{
+    Fack {
+        pad: 0,
+        window: 0,
+        tsdu: 0,
+        size: 0,
+        serial: 0,
+        words: 0,
+        mask: 0,
+    }
+}
+
+// Reads a fack's body in the sender's order.
+pub fn read_fack(body: &[u8], little: bool) -> FackReading
+    ensures { λ r. ⌜ r ≡ fackReading little (now (body .entry)) ⌝ }
+{
+    let version = words::byte_at(body, 0);
+    let count = words::number16(body, 14, little);
+    match judge_fack(body.len(), version, count) {
+        Ground::Pass => FackReading {
+            answer: Answer::Done,
+            fack: fack_of(body, little),
+        },
+        Ground::Refuse(answer) => FackReading {
+            answer,
+            fack: no_fack(),
+        },
+    }
+}
+
+// The body of a fack as we write it: the serial answered and one mask.
+pub fn write_fack(serial: u16, mask: u32) -> [u8; 20]
+    ensures { λ r. ⌜ r ≡ fackBytes (fackSent serial mask) ⌝ }
+{
+    let a = words::split16(serial);
+    let b = words::split32(mask);
+    [
+        0, 0, 43, 0, 192, 5, 0, 0, 192, 5, 0, 0, a[0], a[1], 1, 0, b[0], b[1], b[2], b[3],
+    ]
+}
+
+// Reads the status of a fault or reject in the sender's order.
+pub fn read_status(body: &[u8], little: bool) -> StatusReading
+    ensures { λ r. ⌜ r ≡ statusReading little (now (body .entry)) ⌝ }
+{
+    let status = words::number32(body, 0, little);
+    if body.len() < 4 {
+        return StatusReading {
+            answer: Answer::MalformedBody,
+            status: 0,
+        };
+    }
+    StatusReading {
+        answer: Answer::Done,
+        status,
+    }
+}
+
+// A status as it is written.
+pub fn write_status(status: u32) -> [u8; 4]
+    ensures { λ r. ⌜ r ≡ statusBytes status ⌝ }
+{
+    words::split32(status)
+}

@@ -1,0 +1,20 @@
+use Rattle.reader.specs.Reading.{groundBy}
+use borrow.Author.Needs.{needs}
+use Rattle.reader.proofs.ground.Statement.{statement}
+use Rattle.reader.proofs.ground.Tie as tie
+
+returns : tie.Need-returns
+unfolding groundBy
+returns c = cc
+
+pub ground-spec : {M : Type 1} → statement M
+ground-spec =
+    tie.close
+    (tie.spec
+    (λ c κs. search needs)
+    (λ c κs. search needs)
+    (λ c κs. search needs)
+    (λ c κs. search needs)
+    (λ c κs. search needs)
+    (λ c κs. search needs)
+    returns)

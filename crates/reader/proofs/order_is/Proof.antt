@@ -1,0 +1,18 @@
+use Rattle.reader.specs.Reading.{orderIs}
+use borrow.Author.Needs.{needs}
+use Rattle.reader.proofs.order_is.Statement.{statement}
+use Rattle.reader.proofs.order_is.Tie as tie
+
+returns : tie.Need-returns
+unfolding orderIs
+returns c = cc
+
+pub order-is-spec : {M : Type 1} → statement M
+order-is-spec =
+    tie.close
+    (tie.spec
+    (λ c κs. search needs)
+    (λ c κs. search needs)
+    (λ c κs. search needs)
+    (λ c κs. search needs)
+    returns)

@@ -1,0 +1,204 @@
+-- Reading what was written gives back header and body; writing what was read of a little-endian datagram gives back its bytes.
+use Prim.Native.Nat.{ℕ, _+_, _*_, _≤_, _<_, _/_, _%_}
+use mathlib.Core.Bool.{Bool, true, false, true≢false}
+use mathlib.Core.List.{List, _++_, [], _∷_}
+use mathlib.Core.Path.{_≡_, refl, sym, ap, _∙_, subst}
+use native.Mathlib.Omega.{arith}
+use lib.ListN.{length, getD, take, drop, length-append, length-drop, take-append-drop}
+use lib.Seq.{drop-at, take-at}
+use lib.Dec.{eqb}
+use borrow.Author.Tests.{eqb-true}
+use Rattle.words.specs.Choice.{choose}
+use Rattle.words.specs.Number.{le, digits, part, number}
+use Rattle.words.proofs.Number.{value-bytes, part-all, part-take, digits-part}
+use Rattle.answers.specs.declared.Answer.the-variants.{Done}
+use Rattle.answers.specs.declared.Ground.{Ground}
+use Rattle.answers.specs.declared.Ground.the-variants.{Pass, Refuse}
+use Rattle.answers.specs.Number.{answerOf}
+use Rattle.pdu.specs.declared.Header.{Header}
+use Rattle.reader.specs.declared.Reading.{Reading}
+use Rattle.pdu.specs.Header.{uuidAt, headerOf, frontBytes, numberBytes, hintBytes, backBytes, headerBytes, datagram, bodyOf}
+use Rattle.reader.specs.Reading.{represents, orderIs, known, readGround, groundBy, readBy, reading}
+use Rattle.words.proofs.Place.{placed-front}
+use Rattle.writer.specs.Writing.{writeGround, writeBy, writing}
+use Rattle.pdu.proofs.HeaderLaws.{same-header}
+use Rattle.reader.proofs.Readable.{Readable, readable, readable-passes}
+use Rattle.writer.proofs.Returns.{Sized, length-header, length-datagram, writable, writable-passes}
+
+-- Every field of a header is within its width.
+pub record Fits (h : Header) : Type 0 where
+  pub sized : Sized h
+  pub serial : h .serial < 65536
+  pub boot : h .boot < 4294967296
+  pub version : h .version < 4294967296
+  pub number : h .number < 4294967296
+  pub operation : h .operation < 65536
+  pub ihint : h .ihint < 65536
+  pub ahint : h .ahint < 65536
+  pub fragment : h .fragment < 65536
+
+-- The same header, its UUIDs written out byte by byte, so that the datagram computes.
+spelled : Header → Header
+spelled h = record {
+    kind = h .kind;
+    flags1 = h .flags1;
+    flags2 = h .flags2;
+    serial = h .serial;
+    object = part 16 (h .object) 0;
+    interface = part 16 (h .interface) 0;
+    activity = part 16 (h .activity) 0;
+    boot = h .boot;
+    version = h .version;
+    number = h .number;
+    operation = h .operation;
+    ihint = h .ihint;
+    ahint = h .ahint;
+    fragment = h .fragment;
+    authentication = h .authentication }
+
+spelled-same : (h : Header) → Sized h → spelled h ≡ h
+unfolding spelled
+spelled-same h z =
+    same-header (spelled h) h refl refl refl refl
+    (part-all 16 (h .object) (z .object)) (part-all 16 (h .interface) (z .interface)) (part-all 16 (h .activity) (z .activity))
+    refl refl refl refl refl refl refl refl
+
+header-spelled : (h : Header) (body : List ℕ) → Fits h → headerOf true (datagram (spelled h) body) ≡ spelled h
+unfolding spelled headerOf datagram headerBytes number
+header-spelled h body f =
+    same-header (headerOf true (datagram (spelled h) body)) (spelled h) refl refl refl (omega arith) refl refl refl
+    (value-bytes 4 true (h .boot) (f .boot)) (value-bytes 4 true (h .version) (f .version)) (value-bytes 4 true (h .number) (f .number))
+    (value-bytes 2 true (h .operation) (f .operation)) (value-bytes 2 true (h .ihint) (f .ihint)) (value-bytes 2 true (h .ahint) (f .ahint))
+    (value-bytes 2 true (h .fragment) (f .fragment)) refl
+
+ground-spelled : (h : Header) (body : List ℕ) → h .kind ≤ 10 → h .authentication ≡ 0 → length body ≤ 1392
+    → groundBy (datagram (spelled h) body) true false ≡ Pass
+unfolding groundBy known choose datagram headerBytes spelled number
+ground-spelled h body k a n =
+    let told : number 2 true (datagram (spelled h) body) 74 ≡ length body = value-bytes 2 true (length body) (omega arith) in
+    let size : length (datagram (spelled h) body) ≡ 80 + length body =
+        length-datagram (spelled h) body (record { object = refl; interface = refl; activity = refl }) in
+    readable-passes (length (datagram (spelled h) body)) 4 (h .kind) true (h .authentication) (number 2 true (datagram (spelled h) body) 74)
+    (record {
+      whole = size ∙ ap (λ (m : ℕ). 80 + m) (sym told);
+      version-4 = refl;
+      known-type = k;
+      known-order = refl;
+      unauthenticated = a;
+      short = rw told n })
+
+-- What an accepted little-endian datagram gives.
+abbrev pub accepted : Header → Reading
+accepted h = record { answer = Done; little = true; header = h }
+
+order-spelled : (h : Header) (body : List ℕ) → (orderIs 16 (datagram (spelled h) body) ≡ true) × (orderIs 0 (datagram (spelled h) body) ≡ false)
+unfolding orderIs represents choose datagram headerBytes spelled
+order-spelled h body = (refl, refl)
+
+reading-spelled : (h : Header) (body : List ℕ) → Fits h → h .kind ≤ 10 → h .authentication ≡ 0 → length body ≤ 1392
+    → reading (datagram (spelled h) body) ≡ accepted (spelled h)
+unfolding reading readBy
+reading-spelled h body f k a n =
+    let order = order-spelled h body in
+    rw (order .0, order .1, ground-spelled h body k a n, header-spelled h body f)
+
+-- Reading what was written gives back the header,
+pub read-written : (h : Header) (body : List ℕ) → Fits h → h .kind ≤ 10 → h .authentication ≡ 0 → length body ≤ 1392
+    → reading (datagram h body) ≡ accepted h
+read-written h body f k a n =
+    subst (λ (g : Header). reading (datagram g body) ≡ accepted g) (spelled-same h (f .sized)) (reading-spelled h body f k a n)
+
+-- and the body.
+pub body-written : (h : Header) (body : List ℕ) → Sized h → bodyOf (datagram h body) ≡ body
+unfolding bodyOf datagram
+body-written h body z = drop-at (headerBytes h (length body)) body 80 (length-header h (length body) z)
+
+-- Bytes 4 to 6 of a little-endian datagram.
+representation : (mark a b c : ℕ) → represents mark a b c ≡ true → (a ≡ mark) × (b ≡ 0) × (c ≡ 0)
+unfolding represents choose
+representation mark a b c e = told (eqb a mark) (eqb b 0) (eqb c 0) refl refl refl e
+  where
+    told : (x y z : Bool) → eqb a mark ≡ x → eqb b 0 ≡ y → eqb c 0 ≡ z → choose x (choose y z false) false ≡ true → (a ≡ mark) × (b ≡ 0) × (c ≡ 0)
+    told true true true p q r k = (eqb-true a mark p, eqb-true b 0 q, eqb-true c 0 r)
+    told true true false p q r k = absurd (true≢false (sym k))
+    told true false z p q r k = absurd (true≢false (sym k))
+    told false y z p q r k = absurd (true≢false (sym k))
+
+read-answers : (g : Ground) (little : Bool) (h : Header) → readBy g little h .answer ≡ answerOf g
+unfolding readBy
+read-answers Pass little h = refl
+read-answers (Refuse a) little h = refl
+
+-- What is known of an accepted datagram.
+module _ (s : List ℕ) (done : reading s .answer ≡ Done) where
+  pub accepted-readable : Readable (length s) (getD s 0 0) (getD s 1 0) (known (orderIs 16 s) (orderIs 0 s)) (getD s 78 0) (number 2 (orderIs 16 s) s 74)
+  unfolding reading groundBy
+  accepted-readable =
+      readable (length s) (getD s 0 0) (getD s 1 0) (known (orderIs 16 s) (orderIs 0 s)) (getD s 78 0) (number 2 (orderIs 16 s) s 74)
+      (sym (read-answers (groundBy s (orderIs 16 s) (orderIs 0 s)) (orderIs 16 s) (headerOf (orderIs 16 s) s)) ∙ done)
+
+  -- It gives the sender's order and the header in that order.
+  pub accepted-reading : reading s ≡ record { answer = Done; little = orderIs 16 s; header = headerOf (orderIs 16 s) s }
+  unfolding reading readBy
+  accepted-reading = rw passes
+    where
+      passes : groundBy s (orderIs 16 s) (orderIs 0 s) ≡ Pass
+      passes = unfold groundBy in readable-passes _ _ _ _ _ _ accepted-readable
+
+-- The pieces of a little-endian header are the parts of the datagram that it was read from.
+module _ (s : List ℕ) (octets : (i : ℕ) → getD s i 0 < 256) where
+  front-same : getD s 0 0 ≡ 4 → (getD s 4 0 ≡ 16) × (getD s 5 0 ≡ 0) × (getD s 6 0 ≡ 0)
+      → frontBytes (getD s 1 0) (getD s 2 0) (getD s 3 0) (le (getD s 79 0 ∷ (getD s 7 0 ∷ []))) ≡ part 8 s 0
+  front-same v o =
+      let high : (getD s 79 0 + 256 * (getD s 7 0 + 256 * 0)) / 256 % 256 ≡ getD s 7 0 = omega (arith, octets 7, octets 79) in
+      rw (v, o .0, o .1, o .2, high)
+
+  number-same : numberBytes (number 4 true s 56) (number 4 true s 60) (number 4 true s 64) ≡ part 12 s 56
+  number-same = λ i. digits-part 4 s 56 octets i ++ (digits-part 4 s 60 octets i ++ digits-part 4 s 64 octets i)
+
+  hint-same : (n : ℕ) → n ≡ number 2 true s 74 → hintBytes (number 2 true s 68) (number 2 true s 70) (number 2 true s 72) n ≡ part 8 s 68
+  hint-same n e =
+      λ i. digits-part 2 s 68 octets i ++ (digits-part 2 s 70 octets i ++ (digits-part 2 s 72 octets i ++ (ap (digits 2) e ∙ digits-part 2 s 74 octets) i))
+
+  back-same : backBytes (number 2 true s 76) (getD s 78 0) (le (getD s 79 0 ∷ (getD s 7 0 ∷ []))) ≡ part 4 s 76
+  back-same =
+      let low : (getD s 79 0 + 256 * (getD s 7 0 + 256 * 0)) % 256 ≡ getD s 79 0 = omega (arith, octets 7, octets 79) in
+      λ i. digits-part 2 s 76 octets i ++ (getD s 78 0 ∷ (low i ∷ []))
+
+  header-same : (n : ℕ) → getD s 0 0 ≡ 4 → (getD s 4 0 ≡ 16) × (getD s 5 0 ≡ 0) × (getD s 6 0 ≡ 0) → n ≡ number 2 true s 74
+      → headerBytes (headerOf true s) n ≡ part 80 s 0
+  unfolding headerBytes headerOf
+  header-same n v o e =
+      λ i. front-same v o i ++ ((uuidAt true s 8 ++ (uuidAt true s 24 ++ uuidAt true s 40)) ++ (number-same i ++ (hint-same n e i ++ back-same i)))
+
+-- Writing the header and the body of an accepted little-endian datagram gives back its bytes.
+pub written-read : (s : List ℕ) → ((i : ℕ) → getD s i 0 < 256) → reading s .answer ≡ Done → reading s .little ≡ true
+    → datagram (reading s .header) (bodyOf s) ≡ s
+unfolding datagram bodyOf orderIs
+written-read s octets done little =
+    let r = accepted-readable s done in
+    let is = accepted-reading s done in
+    let order : orderIs 16 s ≡ true = sym (ap (λ (x : Reading). x .little) is) ∙ little in
+    let header : reading s .header ≡ headerOf true s = ap (λ (x : Reading). x .header) is ∙ ap (λ (b : Bool). headerOf b s) order in
+    let size : length s ≡ 80 + number 2 true s 74 = rw order at (r .whole) in
+    let rest : length (drop 80 s) ≡ number 2 true s 74 = omega (arith, length-drop 80 s) in
+    let front : headerBytes (headerOf true s) (length (drop 80 s)) ≡ part 80 s 0 =
+        header-same s octets (length (drop 80 s)) (r .version-4) (representation 16 (getD s 4 0) (getD s 5 0) (getD s 6 0) order) rest in
+    ap (λ (h : Header). headerBytes h (length (drop 80 s)) ++ drop 80 s) header
+    ∙ ap (λ (l : List ℕ). l ++ drop 80 s) (front ∙ part-take 80 s 0 (omega arith)) ∙ take-append-drop 80 s
+
+write-answers : (g : Ground) (h : Header) (body out : List ℕ) → writeBy g h body out .result .answer ≡ answerOf g
+unfolding writeBy
+write-answers Pass h body out = refl
+write-answers (Refuse a) h body out = refl
+
+-- Where a write answers 0, the PDU stands at the front of the buffer, as long as the result says.
+pub written-datagram : (h : Header) (body out : List ℕ) → Sized h → writing h body out .result .answer ≡ Done
+    → take (writing h body out .result .length) (writing h body out .out) ≡ datagram h body
+unfolding writing writeBy
+written-datagram h body out z done =
+    let g = writeGround (length out) (h .kind) (h .authentication) (length body) in
+    let w = writable (length out) (h .kind) (h .authentication) (length body) (sym (write-answers g h body out) ∙ done) in
+    let size : length (datagram h body) ≡ 80 + length body = length-datagram h body z in
+    rw (writable-passes (length out) (h .kind) (h .authentication) (length body) w)
+    (placed-front (datagram h body) out (80 + length body) size (omega arith))
