@@ -143,7 +143,7 @@ pub fn no_header() -> Header
 pub fn fields(s: &[u8], little: bool) -> Header
     ensures { λ r. ⌜ r ≡ fieldsOf little (now (s .entry)) ⌝ }
 {
-    if s.len() < 80 {
+    if s.len() < HEADER_SIZE {
         return no_header();
     }
     header_of(s, little)

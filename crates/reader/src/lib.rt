@@ -1,5 +1,5 @@
 // The reader: any datagram, of any length.
-use pdu::Header;
+use pdu::{Header, BODY_SIZE, HEADER_SIZE};
 use answers::{Answer, Ground};
 ghost use mathlib.Core.Path.{_≡_};
 ghost use Rattle.pdu.specs.Header.{bodyOf};
@@ -39,7 +39,7 @@ fn known_order(little: bool, big: bool) -> bool
 fn judge(size: usize, version: u8, kind: u8, known: bool, authentication: u8, body: u16) -> Ground
     ensures { λ r. ⌜ r ≡ readGround size version kind known authentication body ⌝ }
 {
-    if size < 80 {
+    if size < HEADER_SIZE {
         return Ground::Refuse(Answer::ShortDatagram);
     }
     if version != 4 {
@@ -54,10 +54,11 @@ fn judge(size: usize, version: u8, kind: u8, known: bool, authentication: u8, bo
     if authentication != 0 {
         return Ground::Refuse(Answer::Authenticated);
     }
-    if body > 1392 {
+    let behind = body as usize;
+    if behind > BODY_SIZE {
         return Ground::Refuse(Answer::WrongBodyLength);
     }
-    if size != 80 + body as usize {
+    if size != HEADER_SIZE + behind {
         return Ground::Refuse(Answer::WrongBodyLength);
     }
     Ground::Pass
@@ -109,8 +110,8 @@ pub fn read(s: &[u8]) -> Reading
 pub fn body(s: &[u8]) -> &[u8]
     ensures { λ r. ⌜ now r ≡ bodyOf (now (s .entry)) ⌝ }
 {
-    if s.len() < 80 {
+    if s.len() < HEADER_SIZE {
         return &s[..0];
     }
-    &s[80..]
+    &s[HEADER_SIZE..]
 }

@@ -202,3 +202,14 @@ written-datagram h body out z done =
     let size : length (datagram h body) ≡ 80 + length body = length-datagram h body z in
     rw (writable-passes (length out) (h .kind) (h .authentication) (length body) w)
     (placed-front (datagram h body) out (80 + length body) size (omega arith))
+
+-- The two together: what a write that answers 0 leaves in the buffer reads as the header and the body that were written.
+pub read-back : (h : Header) (body out : List ℕ) → Fits h → writing h body out .result .answer ≡ Done
+    → (reading (take (writing h body out .result .length) (writing h body out .out)) ≡ accepted h)
+    × (bodyOf (take (writing h body out .result .length) (writing h body out .out)) ≡ body)
+unfolding writing
+read-back h body out f done =
+    let w = writable (length out) (h .kind) (h .authentication) (length body)
+        (sym (write-answers (writeGround (length out) (h .kind) (h .authentication) (length body)) h body out) ∙ done) in
+    rw (written-datagram h body out (f .sized) done)
+    (read-written h body f (w .known-type) (w .unauthenticated) (w .short), body-written h body (f .sized))

@@ -1,5 +1,5 @@
 // The writer: into a lent buffer of exactly 1,472 bytes, always little-endian.
-use pdu::Header;
+use pdu::{Header, BODY_SIZE, HEADER_SIZE, PDU_SIZE};
 use answers::{Answer, Ground};
 ghost use mathlib.Core.Path.{_≡_};
 ghost use mathlib.Core.List.{_++_};
@@ -19,7 +19,7 @@ pub struct Written {
 fn judge(lent: usize, kind: u8, authentication: u8, body: usize) -> Ground
     ensures { λ r. ⌜ r ≡ writeGround lent kind authentication body ⌝ }
 {
-    if lent != 1472 {
+    if lent != PDU_SIZE {
         return Ground::Refuse(Answer::WrongLength);
     }
     if kind > 10 {
@@ -28,7 +28,7 @@ fn judge(lent: usize, kind: u8, authentication: u8, body: usize) -> Ground
     if authentication != 0 {
         return Ground::Refuse(Answer::Authenticated);
     }
-    if body > 1392 {
+    if body > BODY_SIZE {
         return Ground::Refuse(Answer::WrongBodyLength);
     }
     Ground::Pass
@@ -118,10 +118,10 @@ pub fn write(h: Header, body: &[u8], out: &mut [u8]) -> Written
     match judge(out.len(), kind, authentication, body.len()) {
         Ground::Pass => {
             put_header(h, body.len() as u16, out);
-            words::put(out, 80, body);
+            words::put(out, HEADER_SIZE, body);
             Written {
                 answer: Answer::Done,
-                length: 80 + body.len(),
+                length: HEADER_SIZE + body.len(),
             }
         }
         Ground::Refuse(answer) => Written { answer, length: 0 },
