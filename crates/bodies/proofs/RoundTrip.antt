@@ -37,7 +37,9 @@ read-written-fack serial mask s m =
         size = 1472;
         serial = value-bytes 2 true serial s i;
         words = 1;
-        mask = value-bytes 4 true mask m i } }
+        mask = value-bytes 4 true mask m i;
+      };
+    }
 
 -- What is known of a fack body that is not malformed.
 pub record Framed (size version words : ℕ) : Type 0 where
@@ -52,7 +54,8 @@ framed size version words e0 =
     let e3 = passed (not (eqb size (16 + 4 * words))) MalformedBody _ tt (e2 .1) in
     record {
       whole = eqb-true size (16 + 4 * words) (not-false (eqb size (16 + 4 * words)) (e3 .0));
-      version-0 = eqb-true version 0 (not-false (eqb version 0) (e2 .0)) }
+      version-0 = eqb-true version 0 (not-false (eqb version 0) (e2 .0));
+    }
 
 framed-passes : (size version words : ℕ) → Framed size version words → fackGround size version words ≡ Pass
 unfolding fackGround
@@ -104,5 +107,5 @@ pub written-read-status : (body : List ℕ) → ((i : ℕ) → getD body i 0 < 2
 unfolding statusReading
 written-read-status body octets size =
     let n : statusReading true body .status ≡ number 4 true body 0 =
-        sym (ap (λ (r : StatusReading). r .status) (status-read true body (number 4 true body 0) (omega arith) refl)) in
+    sym (ap (λ (r : StatusReading). r .status) (status-read true body (number 4 true body 0) (omega arith) refl)) in
     ap (digits 4) n ∙ digits-part 4 body 0 octets ∙ part-all 4 body size

@@ -23,13 +23,14 @@ fackGround size version words =
 -- The fields as they stand in a body, in the sender's order; without a mask it counts as 0.
 unfoldable pub fackOf : Bool → List ℕ → Fack
 fackOf little body = record {
-    pad = getD body 1 0;
-    window = number 2 little body 2;
-    tsdu = number 4 little body 4;
-    size = number 4 little body 8;
-    serial = number 2 little body 12;
-    words = number 2 little body 14;
-    mask = number 4 little body 16 }
+  pad = getD body 1 0;
+  window = number 2 little body 2;
+  tsdu = number 4 little body 4;
+  size = number 4 little body 8;
+  serial = number 2 little body 12;
+  words = number 2 little body 14;
+  mask = number 4 little body 16;
+}
 
 -- The fields that stand with a refusal.
 unfoldable pub noFack : Fack

@@ -1,5 +1,6 @@
 // The bodies of fack, fault and reject.
-use answers::{Answer, Ground};
+use answers::Answer;
+use answers::Ground;
 ghost use mathlib.Core.Path.{_≡_};
 ghost use Rattle.bodies.specs.Fack.{fackGround, fackOf, noFack, fackReading, fackBytes, fackSent};
 ghost use Rattle.bodies.specs.Status.{statusReading, statusBytes};
@@ -96,7 +97,26 @@ pub fn write_fack(serial: u16, mask: u32) -> [u8; 20]
     let a = words::split16(serial);
     let b = words::split32(mask);
     [
-        0, 0, 43, 0, 192, 5, 0, 0, 192, 5, 0, 0, a[0], a[1], 1, 0, b[0], b[1], b[2], b[3],
+        0,
+        0,
+        43,
+        0,
+        192,
+        5,
+        0,
+        0,
+        192,
+        5,
+        0,
+        0,
+        a[0],
+        a[1],
+        1,
+        0,
+        b[0],
+        b[1],
+        b[2],
+        b[3],
     ]
 }
 

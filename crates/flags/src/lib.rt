@@ -3,10 +3,15 @@ ghost use mathlib.Core.Path.{_≡_};
 ghost use Rattle.flags.specs.Flags.{hasFlag, withFlag};
 
 pub const LAST_FRAGMENT: u8 = 2;
+
 pub const FRAGMENT: u8 = 4;
+
 pub const NO_FACK: u8 = 8;
+
 pub const MAYBE: u8 = 16;
+
 pub const IDEMPOTENT: u8 = 32;
+
 pub const BROADCAST: u8 = 64;
 
 // Whether a bit of the mask is set.

@@ -18,8 +18,15 @@ use Rattle.pdu.specs.Header.{uuidAt, headerOf, blank, fieldsOf}
 pub uuid-stretch : (t little : Bool) (s : List ℕ) (at : ℕ) → little ≡ t → uuidAt t (take (at + 16 - at) (drop at s)) 0 ≡ uuidAt little s at
 uuid-stretch t little s at e =
     let size : at + 16 - at ≡ 16 = omega arith in
-    rw (e, size, part-stretch 4 16 at 0 s (omega arith), part-stretch 2 16 at 4 s (omega arith), part-stretch 2 16 at 6 s (omega arith),
-    part-stretch 8 16 at 8 s (omega arith), add-zero at)
+    rw (
+      e,
+      size,
+      part-stretch 4 16 at 0 s (omega arith),
+      part-stretch 2 16 at 4 s (omega arith),
+      part-stretch 2 16 at 6 s (omega arith),
+      part-stretch 8 16 at 8 s (omega arith),
+      add-zero at,
+    )
 
 -- Headers are equal by their fields.
 pub same-header : (a b : Header)
@@ -40,21 +47,22 @@ pub same-header : (a b : Header)
     → a .authentication ≡ b .authentication
     → a ≡ b
 same-header a b e0 e1 e2 e3 e4 e5 e6 e7 e8 e9 e10 e11 e12 e13 e14 = λ i. record {
-    kind = e0 i;
-    flags1 = e1 i;
-    flags2 = e2 i;
-    serial = e3 i;
-    object = e4 i;
-    interface = e5 i;
-    activity = e6 i;
-    boot = e7 i;
-    version = e8 i;
-    number = e9 i;
-    operation = e10 i;
-    ihint = e11 i;
-    ahint = e12 i;
-    fragment = e13 i;
-    authentication = e14 i }
+  kind = e0 i;
+  flags1 = e1 i;
+  flags2 = e2 i;
+  serial = e3 i;
+  object = e4 i;
+  interface = e5 i;
+  activity = e6 i;
+  boot = e7 i;
+  version = e8 i;
+  number = e9 i;
+  operation = e10 i;
+  ihint = e11 i;
+  ahint = e12 i;
+  fragment = e13 i;
+  authentication = e14 i;
+}
 
 -- A datagram with a header has its fields.
 pub fields-whole : (little : Bool) (s : List ℕ) → 80 ≤ length s → fieldsOf little s ≡ headerOf little s

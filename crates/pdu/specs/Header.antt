@@ -16,21 +16,22 @@ uuidAt little s at =
 -- The header's fields as they stand in a datagram.
 unfoldable pub headerOf : Bool → List ℕ → Header
 headerOf little s = record {
-    kind = getD s 1 0;
-    flags1 = getD s 2 0;
-    flags2 = getD s 3 0;
-    serial = le (getD s 79 0 ∷ (getD s 7 0 ∷ []));
-    object = uuidAt little s 8;
-    interface = uuidAt little s 24;
-    activity = uuidAt little s 40;
-    boot = number 4 little s 56;
-    version = number 4 little s 60;
-    number = number 4 little s 64;
-    operation = number 2 little s 68;
-    ihint = number 2 little s 70;
-    ahint = number 2 little s 72;
-    fragment = number 2 little s 76;
-    authentication = getD s 78 0 }
+  kind = getD s 1 0;
+  flags1 = getD s 2 0;
+  flags2 = getD s 3 0;
+  serial = le (getD s 79 0 ∷ (getD s 7 0 ∷ []));
+  object = uuidAt little s 8;
+  interface = uuidAt little s 24;
+  activity = uuidAt little s 40;
+  boot = number 4 little s 56;
+  version = number 4 little s 60;
+  number = number 4 little s 64;
+  operation = number 2 little s 68;
+  ihint = number 2 little s 70;
+  ahint = number 2 little s 72;
+  fragment = number 2 little s 76;
+  authentication = getD s 78 0;
+}
 
 -- Bytes 0 to 7: version 4, type, flags, representation 16,0,0, the serial's high byte.
 abbrev pub frontBytes : ℕ → ℕ → ℕ → ℕ → List ℕ
@@ -69,21 +70,22 @@ bodyOf s = drop 80 s
 -- The header that stands where there is none.
 unfoldable pub blank : Header
 blank = record {
-    kind = 0;
-    flags1 = 0;
-    flags2 = 0;
-    serial = 0;
-    object = replicate 16 0;
-    interface = replicate 16 0;
-    activity = replicate 16 0;
-    boot = 0;
-    version = 0;
-    number = 0;
-    operation = 0;
-    ihint = 0;
-    ahint = 0;
-    fragment = 0;
-    authentication = 0 }
+  kind = 0;
+  flags1 = 0;
+  flags2 = 0;
+  serial = 0;
+  object = replicate 16 0;
+  interface = replicate 16 0;
+  activity = replicate 16 0;
+  boot = 0;
+  version = 0;
+  number = 0;
+  operation = 0;
+  ihint = 0;
+  ahint = 0;
+  fragment = 0;
+  authentication = 0;
+}
 
 -- The fields of a datagram that has a header, a blank of one that is too short for it.
 unfoldable pub fieldsOf : Bool → List ℕ → Header

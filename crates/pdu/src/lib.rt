@@ -7,7 +7,9 @@ ghost use Rattle.pdu.specs.Header.{uuidAt, headerOf, blank, fieldsOf};
 
 // A PDU of 1,472 bytes at most: 80 of header and a body of up to 1,392.
 pub const HEADER_SIZE: usize = 80;
+
 pub const BODY_SIZE: usize = 1392;
+
 pub const PDU_SIZE: usize = 1472;
 
 // The header, but for version, representation and body length, which the writer sets itself. UUIDs are in the
@@ -56,27 +58,27 @@ fn uuid_little(u: &[u8]) -> [u8; 16]
 }
 
 // A UUID of a big-endian sender, turned into the little-endian form.
-fn uuid_big(u: &[u8]) -> [u8; 16]
-    requires { ⌜ length (now u) ≡ 16 ⌝ }
-    ensures { λ r. ⌜ r ≡ uuidAt false (now (u .entry)) 0 ⌝ }
+fn uuid_big(big: &[u8]) -> [u8; 16]
+    requires { ⌜ length (now big) ≡ 16 ⌝ }
+    ensures { λ r. ⌜ r ≡ uuidAt false (now (big .entry)) 0 ⌝ }
 {
     [
-        u[3],
-        u[2],
-        u[1],
-        u[0],
-        u[5],
-        u[4],
-        u[7],
-        u[6],
-        u[8],
-        u[9],
-        u[10],
-        u[11],
-        u[12],
-        u[13],
-        u[14],
-        u[15],
+        big[3],
+        big[2],
+        big[1],
+        big[0],
+        big[5],
+        big[4],
+        big[7],
+        big[6],
+        big[8],
+        big[9],
+        big[10],
+        big[11],
+        big[12],
+        big[13],
+        big[14],
+        big[15],
     ]
 }
 

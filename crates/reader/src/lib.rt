@@ -1,6 +1,9 @@
 // The reader: any datagram, of any length.
-use pdu::{Header, BODY_SIZE, HEADER_SIZE};
-use answers::{Answer, Ground};
+use answers::Answer;
+use answers::Ground;
+use pdu::BODY_SIZE;
+use pdu::HEADER_SIZE;
+use pdu::Header;
 ghost use mathlib.Core.Path.{_≡_};
 ghost use Rattle.pdu.specs.Header.{bodyOf};
 ghost use Rattle.reader.specs.Reading.{represents, known, readGround, orderIs, groundBy, reading};

@@ -29,7 +29,7 @@ bit-power k =
 pub bit-below : (k d : ℕ) → bit k (2 ^ (k + suc d)) ≡ 0
 bit-below k d =
     let quotient : 2 ^ (k + suc d) / 2 ^ k ≡ 2 ^ suc d =
-        ap (λ (n : ℕ). n / 2 ^ k) (pow-add 2 k (suc d) ∙ mul-comm (2 ^ k) (2 ^ suc d)) ∙ shl-shr (2 ^ suc d) k in
+    ap (λ (n : ℕ). n / 2 ^ k) (pow-add 2 k (suc d) ∙ mul-comm (2 ^ k) (2 ^ suc d)) ∙ shl-shr (2 ^ suc d) k in
     rw quotient (omega (arith, pow-suc 2 d))
 
 pub bit-above : (k j : ℕ) → j < k → bit k (2 ^ j) ≡ 0

@@ -39,12 +39,18 @@ put-behind at k a b d e h =
     let head : length (take at d ++ a) ≡ k = simp (length-append, length-take) (omega arith) in
     let whole : at + length (a ++ b) ≡ k + length b = rw (length-append a b) (omega arith) in
     let first : placed at a d ≡ (take at d ++ a) ++ drop k d =
-        placed-fits at a d (omega arith) ∙ sym (append-assoc (take at d) a (drop (at + length a) d)) ∙ ap (λ (n : ℕ). (take at d ++ a) ++ drop n d) e in
+    placed-fits at a d (omega arith) ∙ sym (append-assoc (take at d) a (drop (at + length a) d)) ∙ ap (λ (n : ℕ). (take at d ++ a) ++ drop n d) e in
     let room : length ((take at d ++ a) ++ drop k d) ≡ length d = simp (length-append, length-take, length-drop) (omega arith) in
     let rest : drop (k + length b) ((take at d ++ a) ++ drop k d) ≡ drop (k + length b) d =
-        rw (← drop-drop (length b) k ((take at d ++ a) ++ drop k d), drop-at (take at d ++ a) (drop k d) k head, drop-drop (length b) k d) in
-    rw (first, placed-fits k b ((take at d ++ a) ++ drop k d) (omega arith), placed-fits at (a ++ b) d (omega arith),
-    take-at (take at d ++ a) (drop k d) k head, rest, whole) (simp append-assoc)
+    rw (← drop-drop (length b) k ((take at d ++ a) ++ drop k d), drop-at (take at d ++ a) (drop k d) k head, drop-drop (length b) k d) in
+    rw (
+      first,
+      placed-fits k b ((take at d ++ a) ++ drop k d) (omega arith),
+      placed-fits at (a ++ b) d (omega arith),
+      take-at (take at d ++ a) (drop k d) k head,
+      rest,
+      whole,
+    ) (simp append-assoc)
 
 -- The same of three runs.
 pub put-three : (at k l : ℕ) (a b c d : List ℕ) → at + length a ≡ k → k + length b ≡ l → l + length c ≤ length d

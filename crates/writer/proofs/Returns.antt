@@ -62,7 +62,8 @@ writable lent kind authentication body e0 =
       room = eqb-true lent 1472 (not-false (eqb lent 1472) (e1 .0));
       known-type = ltb-false 10 kind (e2 .0);
       unauthenticated = eqb-true authentication 0 (not-false (eqb authentication 0) (e3 .0));
-      short = ltb-false 1392 body (e4 .0) }
+      short = ltb-false 1392 body (e4 .0);
+    }
 
 pub writable-passes : (lent kind authentication body : ℕ) → Writable lent kind authentication body → writeGround lent kind authentication body ≡ Pass
 unfolding writeGround

@@ -40,21 +40,22 @@ pub record Fits (h : Header) : Type 0 where
 -- The same header, its UUIDs written out byte by byte, so that the datagram computes.
 spelled : Header → Header
 spelled h = record {
-    kind = h .kind;
-    flags1 = h .flags1;
-    flags2 = h .flags2;
-    serial = h .serial;
-    object = part 16 (h .object) 0;
-    interface = part 16 (h .interface) 0;
-    activity = part 16 (h .activity) 0;
-    boot = h .boot;
-    version = h .version;
-    number = h .number;
-    operation = h .operation;
-    ihint = h .ihint;
-    ahint = h .ahint;
-    fragment = h .fragment;
-    authentication = h .authentication }
+  kind = h .kind;
+  flags1 = h .flags1;
+  flags2 = h .flags2;
+  serial = h .serial;
+  object = part 16 (h .object) 0;
+  interface = part 16 (h .interface) 0;
+  activity = part 16 (h .activity) 0;
+  boot = h .boot;
+  version = h .version;
+  number = h .number;
+  operation = h .operation;
+  ihint = h .ihint;
+  ahint = h .ahint;
+  fragment = h .fragment;
+  authentication = h .authentication;
+}
 
 spelled-same : (h : Header) → Sized h → spelled h ≡ h
 unfolding spelled
@@ -77,7 +78,7 @@ unfolding groundBy known choose datagram headerBytes spelled number
 ground-spelled h body k a n =
     let told : number 2 true (datagram (spelled h) body) 74 ≡ length body = value-bytes 2 true (length body) (omega arith) in
     let size : length (datagram (spelled h) body) ≡ 80 + length body =
-        length-datagram (spelled h) body (record { object = refl; interface = refl; activity = refl }) in
+    length-datagram (spelled h) body (record { object = refl; interface = refl; activity = refl }) in
     readable-passes (length (datagram (spelled h) body)) 4 (h .kind) true (h .authentication) (number 2 true (datagram (spelled h) body) 74)
     (record {
       whole = size ∙ ap (λ (m : ℕ). 80 + m) (sym told);
@@ -85,7 +86,8 @@ ground-spelled h body k a n =
       known-type = k;
       known-order = refl;
       unauthenticated = a;
-      short = rw told n })
+      short = rw told n;
+    })
 
 -- What an accepted little-endian datagram gives.
 abbrev pub accepted : Header → Reading
@@ -183,7 +185,7 @@ written-read s octets done little =
     let size : length s ≡ 80 + number 2 true s 74 = rw order at (r .whole) in
     let rest : length (drop 80 s) ≡ number 2 true s 74 = omega (arith, length-drop 80 s) in
     let front : headerBytes (headerOf true s) (length (drop 80 s)) ≡ part 80 s 0 =
-        header-same s octets (length (drop 80 s)) (r .version-4) (representation 16 (getD s 4 0) (getD s 5 0) (getD s 6 0) order) rest in
+    header-same s octets (length (drop 80 s)) (r .version-4) (representation 16 (getD s 4 0) (getD s 5 0) (getD s 6 0) order) rest in
     ap (λ (h : Header). headerBytes h (length (drop 80 s)) ++ drop 80 s) header
     ∙ ap (λ (l : List ℕ). l ++ drop 80 s) (front ∙ part-take 80 s 0 (omega arith)) ∙ take-append-drop 80 s
 
@@ -210,6 +212,6 @@ pub read-back : (h : Header) (body out : List ℕ) → Fits h → writing h body
 unfolding writing
 read-back h body out f done =
     let w = writable (length out) (h .kind) (h .authentication) (length body)
-        (sym (write-answers (writeGround (length out) (h .kind) (h .authentication) (length body)) h body out) ∙ done) in
+    (sym (write-answers (writeGround (length out) (h .kind) (h .authentication) (length body)) h body out) ∙ done) in
     rw (written-datagram h body out (f .sized) done)
     (read-written h body f (w .known-type) (w .unauthenticated) (w .short), body-written h body (f .sized))

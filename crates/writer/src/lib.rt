@@ -1,6 +1,10 @@
 // The writer: into a lent buffer of exactly 1,472 bytes, always little-endian.
-use pdu::{Header, BODY_SIZE, HEADER_SIZE, PDU_SIZE};
-use answers::{Answer, Ground};
+use answers::Answer;
+use answers::Ground;
+use pdu::BODY_SIZE;
+use pdu::HEADER_SIZE;
+use pdu::Header;
+use pdu::PDU_SIZE;
 ghost use mathlib.Core.Path.{_≡_};
 ghost use mathlib.Core.List.{_++_};
 ghost use Prim.Native.Nat.{_≤_};
@@ -38,7 +42,16 @@ fn judge(lent: usize, kind: u8, authentication: u8, body: usize) -> Ground
 fn front(kind: u8, flags1: u8, flags2: u8, serial: u16) -> [u8; 8]
     ensures { λ r. ⌜ r ≡ frontBytes kind flags1 flags2 serial ⌝ }
 {
-    [4, kind, flags1, flags2, 16, 0, 0, (serial / 256 % 256) as u8]
+    [
+        4,
+        kind,
+        flags1,
+        flags2,
+        16,
+        0,
+        0,
+        (serial / 256 % 256) as u8,
+    ]
 }
 
 // Bytes 56 to 67.
@@ -49,7 +62,18 @@ fn numbers(boot: u32, version: u32, number: u32) -> [u8; 12]
     let b = words::split32(version);
     let c = words::split32(number);
     [
-        a[0], a[1], a[2], a[3], b[0], b[1], b[2], b[3], c[0], c[1], c[2], c[3],
+        a[0],
+        a[1],
+        a[2],
+        a[3],
+        b[0],
+        b[1],
+        b[2],
+        b[3],
+        c[0],
+        c[1],
+        c[2],
+        c[3],
     ]
 }
 

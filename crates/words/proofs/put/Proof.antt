@@ -45,18 +45,19 @@ loop-less : tie.Need-loop-less Inv-loop μ-loop
 loop-less c = omega arith
 
 loop-again : tie.Need-loop-again Inv-loop μ-loop
-loop-again c = 
+loop-again c =
     let a = c .before .before .before .before .before .args in
-    let l = c .before .before .loop in
-    (omega arith,
-    rw (l .inv .1, add-one (l .i)) (paste-suc (a .dst .now) (a .at) (a .src .now) (l .i) 0 (omega arith) (omega arith)),
-    simp length-set (l .inv .2))
+    let l = c .before .before .loop in (
+      omega arith,
+      rw (l .inv .1, add-one (l .i)) (paste-suc (a .dst .now) (a .at) (a .src .now) (l .i) 0 (omega arith) (omega arith)),
+      simp length-set (l .inv .2),
+    )
 
 same-length : tie.Need-same-length Inv-loop μ-loop
 same-length c = c .before .loop .inv .2
 
 returns-3 : tie.Need-returns-3 Inv-loop μ-loop
-returns-3 c = 
+returns-3 c =
     let a = c .before .before .before .before .args in
     let l = c .before .loop in
     let end : l .i ≡ length (a .src .now) = omega arith in

@@ -12,8 +12,15 @@ returns c =
     let made = c .before .before .before .before .before .before .before .before .before .before .before .before .before in
     let start = made .before .before .before .before .before .before .before .before in
     let a = start .args in
-    rw (c .before .before .put-behind .ensures, c .before .before .before .before .before .before .put-uuids .ensures, c .before .before .before .before .before .before .before .before .before .before .put .ensures,
-    made .back .ensures, made .before .hints .ensures, made .before .before .numbers .ensures, made .before .before .before .before .before .before .front .ensures)
+    rw (
+      c .before .before .put-behind .ensures,
+      c .before .before .before .before .before .before .put-uuids .ensures,
+      c .before .before .before .before .before .before .before .before .before .before .put .ensures,
+      made .back .ensures,
+      made .before .hints .ensures,
+      made .before .before .numbers .ensures,
+      made .before .before .before .before .before .before .front .ensures,
+    )
     (header-put (a .h) (a .body) (a .out .now) (sized start) (start .pre))
 
 pub put-header-spec : {M : Type 1} → statement M
