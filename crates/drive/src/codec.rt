@@ -89,19 +89,19 @@ fn put_reading(out: &mut [u8], used: usize, datagram: &[u8]) -> usize {
 }
 
 // A length u16, and a datagram of it.
-pub fn read(rest: &[u8], state: State, out: &mut [u8], used: usize) -> Outcome {
-    if rest.len() < 2 {
+pub fn read(fields: &[u8], state: State, out: &mut [u8], used: usize) -> Outcome {
+    if fields.len() < 2 {
         return Outcome::Bad;
     }
-    let length = words::number16(rest, 0, true) as usize;
+    let length = words::number16(fields, 0, true) as usize;
     if length > LENGTH_LIMIT {
         return Outcome::Bad;
     }
     let end = 2 + length;
-    if rest.len() < end {
+    if fields.len() < end {
         return Outcome::Bad;
     }
-    let used = put_reading(out, used, &rest[2..end]);
+    let used = put_reading(out, used, &fields[2..end]);
     Outcome::Done(Done {
         taken: end,
         used,
@@ -166,16 +166,16 @@ fn put_writing(
 }
 
 // The header's fields, the length of the body u16 and its seed u8.
-pub fn write(rest: &[u8], state: State, out: &mut [u8], used: usize) -> Outcome {
-    if rest.len() < WRITE_SIZE {
+pub fn write(fields: &[u8], state: State, out: &mut [u8], used: usize) -> Outcome {
+    if fields.len() < WRITE_SIZE {
         return Outcome::Bad;
     }
-    let length = words::number16(rest, 74, true) as usize;
+    let length = words::number16(fields, 74, true) as usize;
     if length > LENGTH_LIMIT {
         return Outcome::Bad;
     }
-    let seed = words::byte_at(rest, 76);
-    let used = put_writing(out, used, header_of(rest), length, seed, state.lent);
+    let seed = words::byte_at(fields, 76);
+    let used = put_writing(out, used, header_of(fields), length, seed, state.lent);
     Outcome::Done(Done {
         taken: WRITE_SIZE,
         used,

@@ -15,9 +15,11 @@ pub struct Done {
     pub state: State,
 }
 
+// What a step comes to: a command done, one that is bad, or the end of the input.
 pub enum Outcome {
     Done(Done),
     Bad,
+    End,
 }
 
 pub fn fresh() -> State {
@@ -26,11 +28,15 @@ pub fn fresh() -> State {
     }
 }
 
-// The command of this byte; its body stands in front of `rest`.
-pub fn step(command: u8, rest: &[u8], state: State, out: &mut [u8], used: usize) -> Outcome {
-    match command {
-        0x21 => codec::read(rest, state, out, used),
-        0x22 => codec::write(rest, state, out, used),
+// The command that `rest` begins with, if there is one.
+pub fn step(rest: &[u8], state: State, out: &mut [u8], used: usize) -> Outcome {
+    if rest.len() == 0 {
+        return Outcome::End;
+    }
+    let fields = &rest[1..];
+    match rest[0] {
+        0x21 => codec::read(fields, state, out, used),
+        0x22 => codec::write(fields, state, out, used),
         _ => Outcome::Bad,
     }
 }

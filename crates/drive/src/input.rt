@@ -20,14 +20,14 @@ pub fn rest(buffer: &[u8], window: Window) -> &[u8] {
     part::behind(part::first(buffer, window.end), window.at)
 }
 
-// The window without its first bytes.
+// The window behind a command's first byte and the bytes that it took besides.
 pub fn advanced(window: Window, taken: usize) -> Window {
     let at = window.at;
     let end = window.end;
     if at <= end {
-        if taken <= end - at {
+        if taken < end - at {
             return Window {
-                at: at + taken,
+                at: at + 1 + taken,
                 end,
             };
         }
@@ -37,10 +37,10 @@ pub fn advanced(window: Window, taken: usize) -> Window {
 
 // Moves the bytes from `at` to `end` to the front, and answers how many they are.
 fn shifted(buffer: &mut [u8], at: usize, end: usize) -> usize {
-    let mut count = 0;
     if end > buffer.len() {
-        return count;
+        return 0;
     }
+    let mut count = 0;
     let mut from = at;
     while from < end {
         buffer[count] = buffer[from];

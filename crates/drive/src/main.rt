@@ -26,21 +26,12 @@ fn turn(script: &mut [u8], out: &mut [u8], before: Progress) -> Progress {
     let left = before.window;
     let window = input::filled(script, left);
     let used = output::with_room(out, before.used);
-    let rest = input::rest(script, window);
-    if rest.len() == 0 {
-        return Progress {
-            more: false,
-            window,
-            used,
-            state,
-        };
-    }
-    match command::step(rest[0], &rest[1..], state, out, used) {
+    match command::step(input::rest(script, window), state, out, used) {
         Outcome::Done(done) => {
             let after = done.state;
             Progress {
                 more: true,
-                window: input::advanced(input::advanced(window, 1), done.taken),
+                window: input::advanced(window, done.taken),
                 used: done.used,
                 state: after,
             }
@@ -49,6 +40,12 @@ fn turn(script: &mut [u8], out: &mut [u8], before: Progress) -> Progress {
             more: false,
             window,
             used: output::put_text(out, used, b"bad\n"),
+            state,
+        },
+        Outcome::End => Progress {
+            more: false,
+            window,
+            used,
             state,
         },
     }

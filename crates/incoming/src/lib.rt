@@ -1,0 +1,138 @@
+// The message received: which fragments are held, how long each is, and which is known to be the last.
+ghost use mathlib.Core.Path.{_≡_};
+ghost use Rattle.incoming.specs.Slots.{within, slotSound, soundFrom, lastSound, sound, contiguousFrom, contiguous, held, heldAbove, allTo, complete, aboveLast, otherLast, lastBelowHeld, contradicts, cleared, slotsWith, lastWith, stored};
+
+// A fragment's place: held or missing, and its length where it is held.
+pub struct Slot {
+    pub held: bool,
+    pub length: u16,
+}
+
+// The number known to be the last fragment's.
+pub enum Last {
+    Unknown,
+    At(u16),
+}
+
+pub struct Incoming {
+    pub slots: [Slot; 32],
+    pub last: Last,
+}
+
+// Whether number i is not above the known last.
+fn is_within(last: Last, i: u16) -> bool
+    ensures { λ r. ⌜ r ≡ within last i ⌝ }
+{
+    match last {
+        Last::Unknown => true,
+        Last::At(number) => i <= number,
+    }
+}
+
+// Whether what is held at number i keeps the rules.
+fn slot_is_sound(allowed: bool, is_held: bool, length: u16) -> bool
+    ensures { λ r. ⌜ r ≡ slotSound allowed «is_held» length ⌝ }
+{
+    if is_held {
+        if length <= 1392 {
+            return allowed;
+        }
+        return false;
+    }
+    true
+}
+
+fn last_is_sound(last: Last) -> bool
+    ensures { λ r. ⌜ r ≡ lastSound last ⌝ }
+{
+    match last {
+        Last::Unknown => true,
+        Last::At(number) => number <= 31,
+    }
+}
+
+// Whether every slot keeps the rules.
+fn slots_are_sound(slots: [Slot; 32], last: Last) -> bool
+    ensures { λ r. ⌜ r ≡ soundFrom last 0 slots ⌝ }
+{
+    let mut i: u16 = 0;
+    while i < 32 {
+        let at = i as usize;
+        let slot = slots[at];
+        let allowed = is_within(last, i);
+        if !slot_is_sound(allowed, slot.held, slot.length) {
+            return false;
+        }
+        i += 1;
+    }
+    true
+}
+
+// How many slots from the first on are held without a gap.
+fn count_held(slots: [Slot; 32]) -> u16
+    ensures { λ r. ⌜ r ≡ contiguousFrom slots ⌝ }
+{
+    let mut i: u16 = 0;
+    while i < 32 {
+        let at = i as usize;
+        let slot = slots[at];
+        if !slot.held {
+            return i;
+        }
+        i += 1;
+    }
+    32
+}
+
+// The contiguous count.
+pub fn count(m: Incoming) -> u16
+    ensures { λ r. ⌜ r ≡ contiguous m ⌝ }
+{
+    let slots = m.slots;
+    count_held(slots)
+}
+
+// Nothing held, no last known.
+pub fn empty() -> Incoming
+    ensures { λ r. ⌜ r ≡ cleared ⌝ }
+{
+    Incoming {
+        slots: [Slot { held: false, length: 0 }; 32],
+        last: Last::Unknown,
+    }
+}
+
+// The slots with fragment f held; a number above 31 has no slot.
+fn slots_with(slots: [Slot; 32], f: u16, length: u16) -> [Slot; 32]
+    ensures { λ r. ⌜ r ≡ slotsWith slots f length ⌝ }
+{
+    let mut after = slots;
+    if f < 32 {
+        let at = f as usize;
+        after[at] = Slot { held: true, length };
+        return after;
+    }
+    after
+}
+
+// The known last after fragment f.
+fn last_with(last: Last, f: u16, is_last: bool) -> Last
+    ensures { λ r. ⌜ r ≡ lastWith last f «is_last» ⌝ }
+{
+    if is_last {
+        return Last::At(f);
+    }
+    last
+}
+
+// The message with fragment f held, and known to be the last where it is.
+pub fn with(m: Incoming, f: u16, length: u16, is_last: bool) -> Incoming
+    ensures { λ r. ⌜ r ≡ stored m f length «is_last» ⌝ }
+{
+    let slots = m.slots;
+    let last = m.last;
+    Incoming {
+        slots: slots_with(slots, f, length),
+        last: last_with(last, f, is_last),
+    }
+}
