@@ -1,6 +1,6 @@
 // The message received: which fragments are held, how long each is, and which is known to be the last.
 ghost use mathlib.Core.Path.{_≡_};
-ghost use Rattle.incoming.specs.Slots.{within, slotSound, soundFrom, lastSound, sound, contiguousFrom, contiguous, held, heldAbove, allTo, complete, aboveLast, otherLast, lastBelowHeld, contradicts, cleared, slotsWith, lastWith, stored};
+ghost use Rattle.incoming.specs.Slots.{within, slotSound, soundFrom, lastSound, sound, contiguousFrom, contiguous, allTo, complete, cleared, slotsWith, lastWith, stored};
 
 // A fragment's place: held or missing, and its length where it is held.
 pub struct Slot {
@@ -30,9 +30,10 @@ fn is_within(last: Last, i: u16) -> bool
 }
 
 // Whether what is held at number i keeps the rules.
-fn slot_is_sound(allowed: bool, is_held: bool, length: u16) -> bool
-    ensures { λ r. ⌜ r ≡ slotSound allowed «is_held» length ⌝ }
+fn slot_is_sound(last: Last, i: u16, is_held: bool, length: u16) -> bool
+    ensures { λ r. ⌜ r ≡ slotSound last i «is_held» length ⌝ }
 {
+    let allowed = is_within(last, i);
     if is_held {
         if length <= 1392 {
             return allowed;
@@ -59,13 +60,21 @@ fn slots_are_sound(slots: [Slot; 32], last: Last) -> bool
     while i < 32 {
         let at = i as usize;
         let slot = slots[at];
-        let allowed = is_within(last, i);
-        if !slot_is_sound(allowed, slot.held, slot.length) {
+        if !slot_is_sound(last, i, slot.held, slot.length) {
             return false;
         }
         i += 1;
     }
     true
+}
+
+// Whether a message received keeps the record rules.
+pub fn is_sound(m: Incoming) -> bool
+    ensures { λ r. ⌜ r ≡ sound m ⌝ }
+{
+    let slots = m.slots;
+    let last = m.last;
+    words::both(last_is_sound(last), slots_are_sound(slots, last))
 }
 
 // How many slots from the first on are held without a gap.
@@ -90,6 +99,24 @@ pub fn count(m: Incoming) -> u16
 {
     let slots = m.slots;
     count_held(slots)
+}
+
+// Whether a count reaches the known last.
+fn reaches(last: Last, held: u16) -> bool
+    ensures { λ r. ⌜ r ≡ allTo last held ⌝ }
+{
+    match last {
+        Last::Unknown => false,
+        Last::At(number) => number < held,
+    }
+}
+
+// Whether all to the last are held.
+pub fn is_complete(m: Incoming) -> bool
+    ensures { λ r. ⌜ r ≡ complete m ⌝ }
+{
+    let last = m.last;
+    reaches(last, count(m))
 }
 
 // Nothing held, no last known.

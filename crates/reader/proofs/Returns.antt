@@ -5,6 +5,7 @@ use mathlib.Core.List.{List}
 use mathlib.Core.Path.{_≡_, refl, sym, ap, _∙_}
 use native.Mathlib.Omega.{arith}
 use lib.ListN.{length, getD}
+use Rattle.words.specs.Choice.{either}
 use Rattle.words.specs.Number.{number}
 use Rattle.answers.specs.declared.Answer.{Answer}
 use Rattle.answers.specs.declared.Answer.the-variants.{Done}
@@ -15,14 +16,14 @@ use Rattle.pdu.specs.declared.Header.{Header}
 use Rattle.reader.specs.declared.Reading.{Reading}
 use Rattle.pdu.specs.Header.{headerOf, blank, fieldsOf}
 use Rattle.pdu.proofs.HeaderLaws.{fields-whole}
-use Rattle.reader.specs.Reading.{known, orderIs, groundBy, readBy, reading}
+use Rattle.reader.specs.Reading.{orderIs, groundBy, readBy, reading}
 use Rattle.reader.proofs.Readable.{Readable, readable}
 
 module _ (s : List ℕ) (g : Ground) (little big : Bool) (judged : g ≡ groundBy s little big) where
   -- What passed is known to be readable, so that its header can be read.
-  pub readable-datagram : g ≡ Pass → Readable (length s) (getD s 0 0) (getD s 1 0) (known little big) (getD s 78 0) (number 2 little s 74)
+  pub readable-datagram : g ≡ Pass → Readable (length s) (getD s 0 0) (getD s 1 0) (either little big) (getD s 78 0) (number 2 little s 74)
   unfolding groundBy
-  readable-datagram e = readable (length s) (getD s 0 0) (getD s 1 0) (known little big) (getD s 78 0) (number 2 little s 74) (ap answerOf (sym judged ∙ e))
+  readable-datagram e = readable (length s) (getD s 0 0) (getD s 1 0) (either little big) (getD s 78 0) (number 2 little s 74) (ap answerOf (sym judged ∙ e))
 
   module _ (is-little : little ≡ orderIs 16 s) (is-big : big ≡ orderIs 0 s) where
     pub read-passed : (h : Header) → g ≡ Pass → h ≡ fieldsOf little s → _≡_ {A = Reading} (record { answer = Done; little = little; header = h }) (reading s)

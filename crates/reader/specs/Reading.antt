@@ -4,7 +4,7 @@ use mathlib.Core.Bool.{Bool, true, false, not}
 use mathlib.Core.List.{List}
 use lib.ListN.{length, getD}
 use lib.Dec.{ltb, eqb}
-use Rattle.words.specs.Choice.{choose}
+use Rattle.words.specs.Choice.{choose, both, either}
 use Rattle.words.specs.Number.{number}
 use Rattle.answers.specs.declared.Answer.{Answer}
 use Rattle.answers.specs.declared.Answer.the-variants.{Done, ShortDatagram, WrongVersion, UnknownType, UnknownRepresentation, Authenticated, WrongBodyLength}
@@ -16,15 +16,11 @@ use Rattle.pdu.specs.Header.{headerOf, blank}
 
 -- Bytes 4 to 6 are these: the mark of the byte order, 0, 0.
 unfoldable pub represents : ℕ → ℕ → ℕ → ℕ → Bool
-represents mark a b c = choose (eqb a mark) (choose (eqb b 0) (eqb c 0) false) false
+represents mark a b c = both (eqb a mark) (both (eqb b 0) (eqb c 0))
 
 -- The same of a datagram. The mark 16 is little-endian, 0 big-endian.
 unfoldable pub orderIs : ℕ → List ℕ → Bool
 orderIs mark s = represents mark (getD s 4 0) (getD s 5 0) (getD s 6 0)
-
--- The representation is one of the two.
-unfoldable pub known : Bool → Bool → Bool
-known little big = choose little true big
 
 -- Refusals 3 to 8 in the table's order.
 unfoldable pub readGround : ℕ → ℕ → ℕ → Bool → ℕ → ℕ → Ground
@@ -41,7 +37,7 @@ readGround size version kind known authentication body =
 -- The ground of a datagram, its representation told.
 unfoldable pub groundBy : List ℕ → Bool → Bool → Ground
 groundBy s little big =
-    readGround (length s) (getD s 0 0) (getD s 1 0) (known little big) (getD s 78 0) (number 2 little s 74)
+    readGround (length s) (getD s 0 0) (getD s 1 0) (either little big) (getD s 78 0) (number 2 little s 74)
 
 -- An accepted datagram gives the order its sender used and its header, a refused one the refusal and a blank.
 unfoldable pub readBy : Ground → Bool → Header → Reading

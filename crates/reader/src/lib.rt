@@ -6,7 +6,7 @@ use pdu::HEADER_SIZE;
 use pdu::Header;
 ghost use mathlib.Core.Path.{_≡_};
 ghost use Rattle.pdu.specs.Header.{bodyOf};
-ghost use Rattle.reader.specs.Reading.{represents, known, readGround, orderIs, groundBy, reading};
+ghost use Rattle.reader.specs.Reading.{represents, readGround, orderIs, groundBy, reading};
 
 // What reading gives: the answer, whether the sender's order is little-endian, and the header.
 pub struct Reading {
@@ -19,23 +19,7 @@ pub struct Reading {
 fn represents_order(mark: u8, a: u8, b: u8, c: u8) -> bool
     ensures { λ r. ⌜ r ≡ represents mark a b c ⌝ }
 {
-    if a == mark {
-        if b == 0 {
-            return c == 0;
-        }
-        return false;
-    }
-    false
-}
-
-// Whether the representation is one of the two.
-fn known_order(little: bool, big: bool) -> bool
-    ensures { λ r. ⌜ r ≡ known little big ⌝ }
-{
-    if little {
-        return true;
-    }
-    big
+    words::both(a == mark, words::both(b == 0, c == 0))
 }
 
 // Refusals 3 to 8 in the table's order.
@@ -73,7 +57,7 @@ fn ground(s: &[u8], little: bool, big: bool) -> Ground
 {
     let version = words::byte_at(s, 0);
     let kind = words::byte_at(s, 1);
-    let told = known_order(little, big);
+    let told = words::either(little, big);
     let authentication = words::byte_at(s, 78);
     let body = words::number16(s, 74, little);
     judge(s.len(), version, kind, told, authentication, body)

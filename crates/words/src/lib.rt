@@ -1,10 +1,31 @@
-// Numbers as bytes, and bytes put into a place: what every crate above shares.
+// Tests joined, numbers as bytes, and bytes put into a place: what every crate above shares.
 ghost use mathlib.Core.Path.{_≡_};
 ghost use mathlib.Core.List.{List, [], _∷_};
 ghost use Prim.Native.Nat.{ℕ, _+_, _*_};
 ghost use lib.ListN.{getD};
+ghost use Rattle.words.specs.Choice.{both, either};
 ghost use Rattle.words.specs.Number.{le, digits, part, number};
 ghost use Rattle.words.specs.Place.{placed};
+
+// Whether both hold.
+pub fn both(a: bool, b: bool) -> bool
+    ensures { λ r. ⌜ r ≡ both a b ⌝ }
+{
+    if a {
+        return b;
+    }
+    false
+}
+
+// Whether one of the two holds.
+pub fn either(a: bool, b: bool) -> bool
+    ensures { λ r. ⌜ r ≡ either a b ⌝ }
+{
+    if a {
+        return true;
+    }
+    b
+}
 
 // The u16 of two bytes, the least significant first.
 pub fn join16(a: u8, b: u8) -> u16

@@ -8,7 +8,7 @@ use lib.ListN.{length, getD, take, drop, length-append, length-drop, take-append
 use lib.Seq.{drop-at, take-at}
 use lib.Dec.{eqb}
 use borrow.Author.Tests.{eqb-true}
-use Rattle.words.specs.Choice.{choose}
+use Rattle.words.specs.Choice.{choose, both, either}
 use Rattle.words.specs.Number.{le, digits, part, number}
 use Rattle.words.proofs.Number.{value-bytes, part-all, part-take, digits-part}
 use Rattle.answers.specs.declared.Answer.the-variants.{Done}
@@ -18,7 +18,7 @@ use Rattle.answers.specs.Number.{answerOf}
 use Rattle.pdu.specs.declared.Header.{Header}
 use Rattle.reader.specs.declared.Reading.{Reading}
 use Rattle.pdu.specs.Header.{uuidAt, headerOf, frontBytes, numberBytes, hintBytes, backBytes, headerBytes, datagram, bodyOf}
-use Rattle.reader.specs.Reading.{represents, orderIs, known, readGround, groundBy, readBy, reading}
+use Rattle.reader.specs.Reading.{represents, orderIs, readGround, groundBy, readBy, reading}
 use Rattle.words.proofs.Place.{placed-front}
 use Rattle.writer.specs.Writing.{writeGround, writeBy, writing}
 use Rattle.pdu.proofs.HeaderLaws.{same-header}
@@ -74,7 +74,7 @@ header-spelled h body f =
 
 ground-spelled : (h : Header) (body : List ℕ) → h .kind ≤ 10 → h .authentication ≡ 0 → length body ≤ 1392
     → groundBy (datagram (spelled h) body) true false ≡ Pass
-unfolding groundBy known choose datagram headerBytes spelled number
+unfolding groundBy either choose datagram headerBytes spelled number
 ground-spelled h body k a n =
     let told : number 2 true (datagram (spelled h) body) 74 ≡ length body = value-bytes 2 true (length body) (omega arith) in
     let size : length (datagram (spelled h) body) ≡ 80 + length body =
@@ -94,7 +94,7 @@ abbrev pub accepted : Header → Reading
 accepted h = record { answer = Done; little = true; header = h }
 
 order-spelled : (h : Header) (body : List ℕ) → (orderIs 16 (datagram (spelled h) body) ≡ true) × (orderIs 0 (datagram (spelled h) body) ≡ false)
-unfolding orderIs represents choose datagram headerBytes spelled
+unfolding orderIs represents both choose datagram headerBytes spelled
 order-spelled h body = (refl, refl)
 
 reading-spelled : (h : Header) (body : List ℕ) → Fits h → h .kind ≤ 10 → h .authentication ≡ 0 → length body ≤ 1392
@@ -117,7 +117,7 @@ body-written h body z = drop-at (headerBytes h (length body)) body 80 (length-he
 
 -- Bytes 4 to 6 of a little-endian datagram.
 representation : (mark a b c : ℕ) → represents mark a b c ≡ true → (a ≡ mark) × (b ≡ 0) × (c ≡ 0)
-unfolding represents choose
+unfolding represents both choose
 representation mark a b c e = told (eqb a mark) (eqb b 0) (eqb c 0) refl refl refl e
   where
     told : (x y z : Bool) → eqb a mark ≡ x → eqb b 0 ≡ y → eqb c 0 ≡ z → choose x (choose y z false) false ≡ true → (a ≡ mark) × (b ≡ 0) × (c ≡ 0)
@@ -133,10 +133,10 @@ read-answers (Refuse a) little h = refl
 
 -- What is known of an accepted datagram.
 module _ (s : List ℕ) (done : reading s .answer ≡ Done) where
-  pub accepted-readable : Readable (length s) (getD s 0 0) (getD s 1 0) (known (orderIs 16 s) (orderIs 0 s)) (getD s 78 0) (number 2 (orderIs 16 s) s 74)
+  pub accepted-readable : Readable (length s) (getD s 0 0) (getD s 1 0) (either (orderIs 16 s) (orderIs 0 s)) (getD s 78 0) (number 2 (orderIs 16 s) s 74)
   unfolding reading groundBy
   accepted-readable =
-      readable (length s) (getD s 0 0) (getD s 1 0) (known (orderIs 16 s) (orderIs 0 s)) (getD s 78 0) (number 2 (orderIs 16 s) s 74)
+      readable (length s) (getD s 0 0) (getD s 1 0) (either (orderIs 16 s) (orderIs 0 s)) (getD s 78 0) (number 2 (orderIs 16 s) s 74)
       (sym (read-answers (groundBy s (orderIs 16 s) (orderIs 0 s)) (orderIs 16 s) (headerOf (orderIs 16 s) s)) ∙ done)
 
   -- It gives the sender's order and the header in that order.

@@ -1,59 +1,47 @@
+-- `incoming::slots_are_sound` meets its contract. Before each turn the rules hold of all slots below i.
+use Prim.Native.Nat.{_+_, _≤_, _-_}
+use mathlib.Core.Path.{_≡_, refl, sym, ap, _∙_}
+use native.Mathlib.Omega.{arith}
+use borrow.Author.Needs.{needs}
+use borrow.Author.Tests.{not-true, not-false}
+use lib.ListN.{length, drop, drop-of-length-le}
+use Rattle.incoming.specs.Slots.{soundFrom}
+use Rattle.incoming.proofs.SlotLaws.{sound-on, sound-fails}
 use Rattle.incoming.proofs.slots_are_sound.Statement.{statement}
 use Rattle.incoming.proofs.slots_are_sound.Tie as tie
-use Rattle.incoming.proofs.slots_are_sound.Reads as reads
-use Rattle.incoming.proofs.slots_are_sound.Lts as lts
-use Rattle.incoming.proofs.is_within.Reads as is-within-reads
-use Rattle.incoming.proofs.slot_is_sound.Reads as slot-is-sound-reads
 
 abbrev Inv-loop : tie.InvT-loop
-Inv-loop last slots i₀ i = ?
+Inv-loop last slots i₀ i = (i ≤ 32) × (length slots ≡ 32) × (soundFrom last 0 slots ≡ soundFrom last i (drop i slots))
 
 abbrev μ-loop : tie.MeasureT-loop
-μ-loop last slots i₀ i = ?
+μ-loop last slots i₀ i = 32 - i
 
--- src/lib.rt:59:5
 loop-holds : tie.Need-loop-holds Inv-loop μ-loop
-loop-holds c = ?
+loop-holds c = (omega arith, search needs, refl)
 
--- src/lib.rt:60:18
-cast-at : tie.Need-cast-at Inv-loop μ-loop
-cast-at c = ?
-
--- src/lib.rt:61:20
-mul-slot : tie.Need-mul-slot Inv-loop μ-loop
-mul-slot c = ?
-
--- src/lib.rt:61:20
-array-copy-out-slot : tie.Need-array-copy-out-slot Inv-loop μ-loop
-array-copy-out-slot c = ?
-
--- src/lib.rt:62:13
-is-within-requires : tie.Need-is-within-requires Inv-loop μ-loop
-is-within-requires c κs = ?
-
--- src/lib.rt:63:13
-slot-is-sound-requires : tie.Need-slot-is-sound-requires Inv-loop μ-loop
-slot-is-sound-requires c κs = ?
-
--- src/lib.rt:64:13
 returns : tie.Need-returns Inv-loop μ-loop
-returns c = ?
+returns c =
+    let d = c .before .before .before in
+    let slots = d .before .before .args .t1 in
+    let last = d .before .before .args .last in
+    let l = d .before .loop in
+    sym (l .inv .2 ∙ sound-fails last slots (l .i) _ (omega arith) (sym (c .before .slot-is-sound .ensures) ∙ not-true _ (c .if1 .taken)))
 
--- src/lib.rt:66:9
-add-i : tie.Need-add-i Inv-loop μ-loop
-add-i c = ?
-
--- src/lib.rt:59:5
-loop-less : tie.Need-loop-less Inv-loop μ-loop
-loop-less c = ?
-
--- src/lib.rt:59:5
 loop-again : tie.Need-loop-again Inv-loop μ-loop
-loop-again c = ?
+loop-again c =
+    let d = c .before .before .before in
+    let slots = d .before .before .args .t1 in
+    let last = d .before .before .args .last in
+    let l = d .before .loop in
+    (omega arith, l .inv .1, l .inv .2 ∙ sound-on last slots (l .i) _ (omega arith) (sym (c .before .slot-is-sound .ensures) ∙ not-false _ (c .if1 .left)))
 
--- src/lib.rt:55:1
 returns-2 : tie.Need-returns-2 Inv-loop μ-loop
-returns-2 c = ?
+returns-2 c =
+    let slots = c .before .before .args .t1 in
+    let last = c .before .before .args .last in
+    let l = c .before .loop in
+    let past : length slots ≤ l .i = omega arith in
+    sym (l .inv .2 ∙ ap (soundFrom last (l .i)) (drop-of-length-le slots past))
 
 pub slots-are-sound-spec : {M : Type 1} → statement M
 slots-are-sound-spec =
@@ -62,13 +50,12 @@ slots-are-sound-spec =
     Inv-loop
     μ-loop
     loop-holds
-    cast-at
-    mul-slot
-    array-copy-out-slot
-    is-within-requires
-    slot-is-sound-requires
+    (λ c. search needs)
+    (λ c. search needs)
+    (λ c. search needs)
+    (λ c κs. search needs)
     returns
-    add-i
-    loop-less
+    (λ c. search needs)
+    (λ c. search needs)
     loop-again
     returns-2)

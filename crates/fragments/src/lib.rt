@@ -1,0 +1,92 @@
+// Fragments of a message received: judged against what is held, put into their slot, and handed up.
+use incoming::Incoming;
+use incoming::Last;
+use incoming::Slot;
+ghost use mathlib.Core.Path.{_≡_};
+ghost use mathlib.Core.Bool.{not};
+ghost use lib.ListN.{getD, drop};
+ghost use lib.Dec.{eqb};
+ghost use Rattle.incoming.specs.Slots.{missing};
+ghost use Rattle.fragments.specs.Judgement.{held, anyHeld, heldAbove, aboveLast, otherLast, lastBelowHeld, contradicts};
+ghost use Rattle.fragments.specs.Slots.{filled, handedUp};
+
+// A slot buffer has exactly as many bytes: 32 fragments of 1,392.
+pub const SLOTS_SIZE: usize = 44544;
+
+// The slot of number f; above 31 it is a missing one.
+fn slot_of(slots: [Slot; 32], f: u16) -> Slot
+    ensures { λ r. ⌜ r ≡ getD slots f missing ⌝ }
+{
+    if f < 32 {
+        let at = f as usize;
+        return slots[at];
+    }
+    Slot {
+        held: false,
+        length: 0,
+    }
+}
+
+// Whether fragment f is held.
+pub fn is_held(m: Incoming, f: u16) -> bool
+    ensures { λ r. ⌜ r ≡ held m f ⌝ }
+{
+    let slots = m.slots;
+    let slot = slot_of(slots, f);
+    slot.held
+}
+
+// Whether some slot from number `from` on is held.
+fn held_from(slots: [Slot; 32], from: u32) -> bool
+    ensures { λ r. ⌜ r ≡ anyHeld (drop from slots) ⌝ }
+{
+    let mut i = from;
+    while i < 32 {
+        let at = i as usize;
+        let slot = slots[at];
+        if slot.held {
+            return true;
+        }
+        i += 1;
+    }
+    false
+}
+
+// Whether fragment f is above the known last.
+fn above_last(last: Last, f: u16) -> bool
+    ensures { λ r. ⌜ r ≡ aboveLast last f ⌝ }
+{
+    match last {
+        Last::Unknown => false,
+        Last::At(number) => number < f,
+    }
+}
+
+// Whether the last fragment is f and another is known to be.
+fn other_last(last: Last, f: u16, is_last: bool) -> bool
+    ensures { λ r. ⌜ r ≡ otherLast last f «is_last» ⌝ }
+{
+    match last {
+        Last::Unknown => false,
+        Last::At(number) => words::both(is_last, number != f),
+    }
+}
+
+// Whether fragment f contradicts what is held, in one of the three ways.
+pub fn contradicts_held(m: Incoming, f: u16, is_last: bool) -> bool
+    ensures { λ r. ⌜ r ≡ contradicts m f «is_last» ⌝ }
+{
+    let slots = m.slots;
+    let last = m.last;
+    let above = above_last(last, f);
+    let other = other_last(last, f, is_last);
+    let below = words::both(is_last, held_from(slots, f as u32 + 1));
+    words::either(above, words::either(other, below))
+}
+
+// Puts a fragment's bytes into their place of the slot buffer; what has no room there is left out.
+pub fn fill(buffer: &mut [u8], f: u16, body: &[u8])
+    ensures { λ _. ⌜ now (buffer .exit) ≡ filled f (now (body .entry)) (now (buffer .entry)) ⌝ }
+{
+    words::put(buffer, 1392 * (f as usize), body);
+}
