@@ -1,5 +1,6 @@
 -- The slot buffer: fragment f's bytes lie at 1,392 f.
 use Prim.Native.Nat.{ℕ, _+_, _*_}
+use mathlib.Core.Bool.{Bool}
 use mathlib.Core.List.{List, [], _∷_, _++_}
 use lib.ListN.{length, take, drop, getD}
 use lib.Dec.{ltb, eqb}
@@ -21,8 +22,10 @@ stretch n at buffer = take n (drop at buffer)
 abbrev pub bytesOf : List Slot → ℕ → List ℕ → List ℕ
 bytesOf slots f buffer = stretch (getD slots f missing .length) (1392 * f) buffer
 
--- The part handed back for number f: the fragment's bytes where f is contiguous, the record sound and the buffer
--- of 44,544 bytes, else an empty one.
+-- Number f is handed up: the buffer has 44,544 bytes, the record is sound and f is contiguous.
+unfoldable pub isHandedUp : Incoming → ℕ → ℕ → Bool
+isHandedUp m f size = both (eqb size 44544) (both (sound m) (ltb f (contiguous m)))
+
+-- The part handed back for number f: the fragment's bytes where it is handed up, else an empty one.
 unfoldable pub handedUp : Incoming → ℕ → List ℕ → List ℕ
-handedUp m f buffer =
-    choose (both (eqb (length buffer) 44544) (both (sound m) (ltb f (contiguous m)))) (bytesOf (m .slots) f buffer) []
+handedUp m f buffer = choose (isHandedUp m f (length buffer)) (bytesOf (m .slots) f buffer) []

@@ -8,7 +8,7 @@ ghost use lib.ListN.{getD, drop};
 ghost use lib.Dec.{eqb};
 ghost use Rattle.incoming.specs.Slots.{missing};
 ghost use Rattle.fragments.specs.Judgement.{held, anyHeld, heldAbove, aboveLast, otherLast, lastBelowHeld, contradicts};
-ghost use Rattle.fragments.specs.Slots.{filled, handedUp};
+ghost use Rattle.fragments.specs.Slots.{filled, isHandedUp, handedUp};
 
 // A slot buffer has exactly as many bytes: 32 fragments of 1,392.
 pub const SLOTS_SIZE: usize = 44544;
@@ -89,4 +89,28 @@ pub fn fill(buffer: &mut [u8], f: u16, body: &[u8])
     ensures { λ _. ⌜ now (buffer .exit) ≡ filled f (now (body .entry)) (now (buffer .entry)) ⌝ }
 {
     words::put(buffer, 1392 * (f as usize), body);
+}
+
+// Whether number f is handed up: a buffer of the right length, a sound record, a contiguous fragment.
+fn is_handed_up(m: Incoming, f: u16, size: usize) -> bool
+    ensures { λ r. ⌜ r ≡ isHandedUp m f size ⌝ }
+{
+    let sized = size == SLOTS_SIZE;
+    let sound = incoming::is_sound(m);
+    let contiguous = f < incoming::count(m);
+    words::both(sized, words::both(sound, contiguous))
+}
+
+// The part of the slot buffer that is fragment f, where f is handed up; else an empty part.
+pub fn hand_up(m: Incoming, f: u16, buffer: &[u8]) -> &[u8]
+    ensures { λ r. ⌜ now r ≡ handedUp m f (now (buffer .entry)) ⌝ }
+{
+    let slots = m.slots;
+    let slot = slot_of(slots, f);
+    let from = 1392 * (f as usize);
+    let to = from + slot.length as usize;
+    if is_handed_up(m, f, buffer.len()) {
+        return &buffer[from..to];
+    }
+    &buffer[0..0]
 }
