@@ -1,1 +1,2 @@
 pub mod FragmentLaws
+pub mod BufferLaws

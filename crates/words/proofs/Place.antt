@@ -1,12 +1,12 @@
 -- Laws of bytes put into a place.
-use Prim.Native.Nat.{ℕ, _+_, _≤_, _<_}
+use Prim.Native.Nat.{ℕ, _+_, _-_, _≤_, _<_}
 use mathlib.Core.Bool.{Bool, true, false}
 use mathlib.Core.List.{List, [], _∷_, _++_, append-assoc}
 use mathlib.Core.Path.{_≡_, refl, sym, ap, _∙_}
 use native.Mathlib.Omega.{arith}
-use lib.ListN.{length, take, drop, length-append, length-take, length-drop}
+use lib.ListN.{length, take, drop, length-append, length-take, length-drop, take-append-drop}
 use lib.Dec.{leb}
-use lib.Seq.{paste, take-length, take-at, drop-at, take-append-le, drop-drop}
+use lib.Seq.{paste, take-length, take-at, drop-at, take-append-le, drop-append-le, drop-drop}
 use borrow.Author.Tests.{le-leb, lt-leb}
 use Rattle.words.specs.Choice.{choose}
 use Rattle.words.specs.Place.{putAt, placed}
@@ -64,3 +64,38 @@ put-three at k l a b c d e f h =
 pub placed-front : (s d : List ℕ) (n : ℕ) → length s ≡ n → n ≤ length d → take n (placed 0 s d) ≡ s
 unfolding putAt
 placed-front s d n e h = rw (placed-fits 0 s d (omega arith)) (take-at s (drop (0 + length s) d) n e)
+
+-- A stretch of what was put into: at the same place it is what was put,
+module _ (p : ℕ) (s d : List ℕ) (room : p + length s ≤ length d) where
+  pub stretch-same : take (length s) (drop p (placed p s d)) ≡ s
+  unfolding putAt
+  stretch-same =
+      let front : length (take p d) ≡ p = simp length-take (omega arith) in
+      rw (placed-fits p s d room, drop-at (take p d) (s ++ drop (p + length s) d) p front) (take-at s (drop (p + length s) d) (length s) refl)
+
+  -- before it
+  pub stretch-before : (n at : ℕ) → at + n ≤ p → take n (drop at (placed p s d)) ≡ take n (drop at d)
+  unfolding putAt
+  stretch-before n at h = rw (placed-fits p s d room) (cut (s ++ drop (p + length s) d) ∙ sym (cut (drop p d)) ∙ ap (λ (l : List ℕ). take n (drop at l)) (take-append-drop p d))
+    where
+      cut : (rest : List ℕ) → take n (drop at (take p d ++ rest)) ≡ take n (drop at (take p d))
+      cut rest =
+          let front : length (take p d) ≡ p = simp length-take (omega arith) in
+          let within : at ≤ length (take p d) = omega arith in
+          let room' : n ≤ length (drop at (take p d)) = omega (arith, length-drop at (take p d)) in
+          rw (drop-append-le at (take p d) rest within) (take-append-le n (drop at (take p d)) rest room')
+
+  -- and behind it all is as it was.
+  pub stretch-behind : (n at : ℕ) → p + length s ≤ at → take n (drop at (placed p s d)) ≡ take n (drop at d)
+  unfolding putAt
+  stretch-behind n at h =
+      let front : length (take p d ++ s) ≡ p + length s = simp (length-append, length-take) (omega arith) in
+      let split : p + length s + (at - (p + length s)) ≡ at = omega arith in
+      let whole : putAt p s d ≡ (take p d ++ s) ++ drop (p + length s) d = sym (append-assoc (take p d) s (drop (p + length s) d)) in
+      let rest : drop at ((take p d ++ s) ++ drop (p + length s) d) ≡ drop at d =
+          ap (λ (k : ℕ). drop k ((take p d ++ s) ++ drop (p + length s) d)) (sym split)
+          ∙ sym (drop-drop (at - (p + length s)) (p + length s) ((take p d ++ s) ++ drop (p + length s) d))
+          ∙ ap (drop (at - (p + length s))) (drop-at (take p d ++ s) (drop (p + length s) d) (p + length s) front)
+          ∙ drop-drop (at - (p + length s)) (p + length s) d
+          ∙ ap (λ (k : ℕ). drop k d) split in
+      ap (take n) (ap (drop at) (placed-fits p s d room ∙ whole) ∙ rest)
