@@ -1,9 +1,11 @@
 //! The commands of a script, decoded from their bytes and encoded into them.
 
 use crate::codec::Header;
+use crate::fack::Held;
 
 const READ: u8 = 0x21;
 const WRITE: u8 = 0x22;
+const FACK: u8 = 0x23;
 
 /// The longest datagram or body that a read or a write may name.
 pub const LENGTH_LIMIT: u16 = 2_048;
@@ -17,6 +19,10 @@ pub enum Command<'a> {
         header: Header,
         body_length: u16,
         seed: u8,
+    },
+    Fack {
+        serial_answered: u16,
+        held: Held,
     },
 }
 
@@ -49,6 +55,7 @@ fn decode<'a>(byte: u8, fields: &mut Fields<'a>) -> Result<Command<'a>, Bad> {
     match byte {
         READ => decode_read(fields),
         WRITE => decode_write(fields),
+        FACK => decode_fack(fields),
         _ => Err(Bad),
     }
 }
@@ -84,6 +91,13 @@ fn decode_write<'a>(fields: &mut Fields<'a>) -> Result<Command<'a>, Bad> {
         header,
         body_length,
         seed,
+    })
+}
+
+fn decode_fack<'a>(fields: &mut Fields<'a>) -> Result<Command<'a>, Bad> {
+    Ok(Command::Fack {
+        serial_answered: fields.u16()?,
+        held: Held(fields.u32()?),
     })
 }
 
@@ -150,4 +164,11 @@ pub fn encode_write(header: &Header, body_length: u16, seed: u8, script: &mut Ve
     script.push(header.authentication);
     script.extend(body_length.to_le_bytes());
     script.push(seed);
+}
+
+/// Adds a fack command to a script.
+pub fn encode_fack(serial_answered: u16, held: Held, script: &mut Vec<u8>) {
+    script.push(FACK);
+    script.extend(serial_answered.to_le_bytes());
+    script.extend(held.0.to_le_bytes());
 }

@@ -3,6 +3,7 @@
 use crate::codec::{self, answer, offset, ByteOrder, Header, BODY_LIMIT, HEADER_LENGTH};
 use crate::codec::{HIGHEST_TYPE, PDU_LIMIT, VERSION};
 use crate::command::{commands, Command};
+use crate::fack::{Held, FRAGMENTS};
 use std::collections::HashMap;
 use std::io::{self, Write};
 
@@ -38,6 +39,7 @@ pub fn coverage(script: &[u8], output: &mut impl Write) -> io::Result<()> {
                 body_length,
                 ..
             }) => count_write(&header, usize::from(body_length), &mut counts),
+            Ok(Command::Fack { held, .. }) => count_fack(held, &mut counts),
             Err(_) => counts.add("bad".into()),
         }
     }
@@ -78,6 +80,11 @@ fn count_write(header: &Header, body_length: usize, counts: &mut Counts) {
         counts.add(format!("write-body-{body_length}-answer-{answer}"));
     }
     count_pairs("write", &write_grounds(header, body_length), counts);
+}
+
+fn count_fack(held: Held, counts: &mut Counts) {
+    counts.add("fack".into());
+    counts.add(format!("fack-contiguous-{}", held.contiguous()));
 }
 
 /// Only a command that gives grounds for two answers shows which of them comes first.
@@ -163,7 +170,7 @@ fn order_name(order: ByteOrder) -> &'static str {
 
 /// All that a script can reach, in the order in which it is printed.
 fn names() -> Vec<String> {
-    let mut names: Vec<String> = vec!["read".into(), "write".into(), "bad".into()];
+    let mut names: Vec<String> = ["read", "write", "fack", "bad"].map(String::from).into();
     names.extend(READ_ANSWERS.map(|answer| format!("read-answer-{answer}")));
     for order in ["little", "big"] {
         names.push(format!("read-{order}"));
@@ -187,6 +194,7 @@ fn names() -> Vec<String> {
         );
     }
     names.extend(pair_names("write", &WRITE_ANSWERS[2..]));
+    names.extend((0..=FRAGMENTS).map(|count| format!("fack-contiguous-{count}")));
     names
 }
 

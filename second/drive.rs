@@ -41,6 +41,10 @@ impl Stage {
                 body_length,
                 seed,
             } => self.write(header, &message(usize::from(*body_length), *seed), output),
+            Command::Fack {
+                serial_answered,
+                held,
+            } => output::fack_line(*serial_answered, *held, output),
         }
     }
 

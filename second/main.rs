@@ -9,16 +9,18 @@ mod command;
 mod coverage;
 mod datagram;
 mod drive;
+mod fack;
 mod output;
 mod random;
 mod script_codec;
+mod script_fack;
 mod self_test;
 
 use std::io::{self, BufWriter, Read, StdoutLock, Write};
 use std::process::ExitCode;
 
 const USAGE: &str =
-    "usage: second drive | second script codec SEED N | second coverage | second selftest";
+    "usage: second drive | second script codec|fack SEED N | second coverage | second selftest";
 
 const OUTPUT_BUFFER: usize = 1 << 16;
 
@@ -61,10 +63,13 @@ fn run(words: &[&str]) -> Result<(), Failure> {
             let script = whole_input()?;
             printing(|output| drive::drive(&script, output))
         }
-        ["script", "codec", seed, count] => {
+        ["script", kind @ ("codec" | "fack"), seed, count] => {
             let seed = number("SEED", seed)?;
             let count = number("N", count)?;
-            printing(|output| script_codec::write_script(seed, count, output))
+            printing(|output| match *kind {
+                "codec" => script_codec::write_script(seed, count, output),
+                _ => script_fack::write_script(seed, count, output),
+            })
         }
         ["coverage"] => {
             let script = whole_input()?;

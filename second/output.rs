@@ -2,6 +2,7 @@
 
 use crate::adler::adler32;
 use crate::codec::{answer, Pdu, Refusal};
+use crate::fack::{self, Held};
 use std::io::{self, Write};
 
 const DIGITS: &[u8; 16] = b"0123456789abcdef";
@@ -47,6 +48,13 @@ pub fn write_line(
     let pdu_length = result.unwrap_or(0);
     hex(&pdu_buffer[..pdu_length], output)?;
     writeln!(output, " out={}", adler32(pdu_buffer))
+}
+
+/// The line of a fack: its fragment number, its mask and its body.
+pub fn fack_line(serial_answered: u16, held: Held, output: &mut impl Write) -> io::Result<()> {
+    write!(output, "fack {} {} ", held.number(), held.mask())?;
+    hex(&fack::body(serial_answered, held.mask()), output)?;
+    output.write_all(b"\n")
 }
 
 fn number_field(name: &str, number: impl Into<u64>, output: &mut impl Write) -> io::Result<()> {

@@ -7,6 +7,7 @@ use crate::codec::{
 use crate::command::{commands, encode_read, encode_write, Bad, Command};
 use crate::datagram::datagram;
 use crate::drive::message;
+use crate::fack::Held;
 use crate::random::Random;
 
 const ROUNDS: usize = 10_000;
@@ -25,6 +26,7 @@ pub fn self_test() -> Result<(), &'static str> {
         message(1_394, 250)[1_391..] == [3, 11, 18],
         "bytes of a message",
     )?;
+    fack_rows()?;
     reading_rows()?;
     field_places()?;
     let mut random = Random::new(1);
@@ -33,6 +35,20 @@ pub fn self_test() -> Result<(), &'static str> {
     }
     writing_rows(&random.header(7))?;
     script_round_trip(&mut random)
+}
+
+/// Document 01's bench rows of a fack.
+fn fack_rows() -> Result<(), &'static str> {
+    let gap = Held(0b11011);
+    check(
+        (gap.contiguous(), gap.number(), gap.mask()) == (2, 1, 6),
+        "a fack of 0, 1, 3 and 4",
+    )?;
+    let none = Held(0b110);
+    check(
+        (none.contiguous(), none.number(), none.mask()) == (0, 65_535, 6),
+        "a fack of 1 and 2",
+    )
 }
 
 fn check(holds: bool, name: &'static str) -> Result<(), &'static str> {

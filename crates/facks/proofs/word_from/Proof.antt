@@ -1,0 +1,50 @@
+-- `facks::word_from` meets its contract. Before each turn the word is that of the slots from i on.
+use Prim.Native.Nat.{ℕ, _≤_, _-_}
+use mathlib.Core.Path.{_≡_, refl, sym, ap, _∙_}
+use native.Mathlib.Omega.{arith}
+use borrow.Author.Needs.{needs}
+use lib.ListN.{length, drop, drop-of-length-le}
+use Rattle.facks.specs.Mask.{heldWord}
+use Rattle.facks.proofs.MaskLaws.{word-step}
+use Rattle.facks.proofs.word_from.Statement.{statement}
+use Rattle.facks.proofs.word_from.Tie as tie
+
+abbrev Inv-loop : tie.InvT-loop
+Inv-loop from slots word₀ i₀ word i = (from ≤ i) × (i ≤ 32) × (length slots ≡ 32) × (word ≡ heldWord (drop i slots))
+
+abbrev μ-loop : tie.MeasureT-loop
+μ-loop from slots word₀ i₀ word i = i
+
+loop-holds : tie.Need-loop-holds Inv-loop μ-loop
+loop-holds c =
+    let long : length (c .args .t1) ≡ 32 = search needs in
+    let past : length (c .args .t1) ≤ 32 = omega arith in
+    (c .pre, omega arith, long, sym (ap heldWord (drop-of-length-le (c .args .t1) past)))
+
+loop-again : tie.Need-loop-again Inv-loop μ-loop
+loop-again c =
+    let l = c .before .before .before .loop in
+    let slots = c .before .before .before .before .args .t1 in
+    (omega arith, omega arith, l .inv .2, word-step slots (l .i) (l .word) (c .bit-of .result) _ (l .inv .2) (omega arith) (l .inv .1) (l .inv .3) (c .bit-of .ensures))
+
+returns : tie.Need-returns Inv-loop μ-loop
+returns c =
+    let l = c .before .loop in
+    let end : l .i ≡ c .before .before .args .from = omega arith in
+    l .inv .3 ∙ ap (λ (k : ℕ). heldWord (drop k (c .before .before .args .t1))) end
+
+pub word-from-spec : {M : Type 1} → statement M
+word-from-spec =
+    tie.close
+    (tie.spec
+    Inv-loop
+    μ-loop
+    loop-holds
+    (λ c. search needs)
+    (λ c. search needs)
+    (λ c. search needs)
+    (λ c. search needs)
+    (λ c κs. search needs)
+    (λ c. search needs)
+    loop-again
+    returns)

@@ -1,0 +1,2 @@
+-- What the cut into fragments owes.
+pub mod OutgoingLaws

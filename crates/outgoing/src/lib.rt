@@ -1,0 +1,193 @@
+// The message being sent: its cut into fragments, how far it is sent and acknowledged, and the sender's serial.
+ghost use mathlib.Core.Path.{_≡_};
+ghost use Prim.Native.Nat.{max};
+ghost use Rattle.outgoing.specs.Message.{fragments, fragmentOf, flagsOf};
+ghost use Rattle.outgoing.specs.Sending.{nextSerial, oneMore, afterSend, acknowledgedTo, firstToSend, rewound, started, begun, replied, noMessage, bounded, hasMessage, hasNothing};
+
+// A message has at most as many bytes: 32 fragments of 1,392.
+pub const MESSAGE_SIZE: u32 = 44544;
+
+// flags1 of a fragment that is not the last,
+const FRAGMENT: u8 = 4;
+
+// and of the last: fragment and last are set.
+const FRAGMENT_AND_LAST: u8 = 6;
+
+// Length and fragment count of the message; sent is the next fragment to send, so also how many are sent.
+pub struct Outgoing {
+    pub length: u32,
+    pub count: u8,
+    pub sent: u8,
+    pub acknowledged: u8,
+    pub serial: u16,
+}
+
+// How many fragments a message of this length has.
+pub fn fragments(length: u32) -> u32
+    ensures { λ r. ⌜ r ≡ fragments length ⌝ }
+{
+    if length == 0 {
+        return 1;
+    }
+    (length - 1) / 1392 + 1
+}
+
+// The part of a message that is its fragment f; an empty part where there is none.
+pub fn fragment(message: &[u8], f: u16) -> &[u8]
+    ensures { λ r. ⌜ now r ≡ fragmentOf (now (message .entry)) f ⌝ }
+{
+    let from = 1392 * (f as usize);
+    let size = message.len();
+    if size <= from {
+        return &message[0..0];
+    }
+    if size - from < 1392 {
+        return &message[from..size];
+    }
+    let to = from + 1392;
+    &message[from..to]
+}
+
+// flags1 of fragment f of a message of `count` fragments.
+pub fn flags(count: u8, f: u8) -> u8
+    ensures { λ r. ⌜ r ≡ flagsOf count f ⌝ }
+{
+    if count == 1 {
+        return 0;
+    }
+    if f as u16 + 1 == count as u16 {
+        return FRAGMENT_AND_LAST;
+    }
+    FRAGMENT
+}
+
+// The serial of the next request, response or ping.
+pub fn next_serial(serial: u16) -> u16
+    ensures { λ r. ⌜ r ≡ nextSerial serial ⌝ }
+{
+    std::num::wrapping_add_u16(serial, 1)
+}
+
+// One more is sent; 255, which no sound record has, stays.
+fn one_more(sent: u8) -> u8
+    ensures { λ r. ⌜ r ≡ oneMore sent ⌝ }
+{
+    if sent < 255 {
+        return sent + 1;
+    }
+    sent
+}
+
+// After the next fragment is sent.
+pub fn after_send(o: Outgoing) -> Outgoing
+    ensures { λ r. ⌜ r ≡ afterSend o ⌝ }
+{
+    let sent = one_more(o.sent);
+    let serial = next_serial(o.serial);
+    let mut next = o;
+    next.sent = sent;
+    next.serial = serial;
+    next
+}
+
+fn larger(a: u8, b: u8) -> u8
+    ensures { λ r. ⌜ r ≡ max a b ⌝ }
+{
+    if a < b {
+        return b;
+    }
+    a
+}
+
+// After a fack for the first `count` fragments.
+pub fn acknowledge(o: Outgoing, count: u8) -> Outgoing
+    ensures { λ r. ⌜ r ≡ acknowledgedTo o count ⌝ }
+{
+    let acknowledged = larger(o.acknowledged, count);
+    let mut next = o;
+    next.acknowledged = acknowledged;
+    next
+}
+
+// The first unacknowledged fragment, or 0 if none.
+fn first_to_send(acknowledged: u8, count: u8) -> u8
+    ensures { λ r. ⌜ r ≡ firstToSend acknowledged count ⌝ }
+{
+    if acknowledged < count {
+        return acknowledged;
+    }
+    0
+}
+
+// The message goes out again, from the first unacknowledged fragment, or 0 if none.
+pub fn rewind(o: Outgoing) -> Outgoing
+    ensures { λ r. ⌜ r ≡ rewound o ⌝ }
+{
+    let sent = first_to_send(o.acknowledged, o.count);
+    let mut next = o;
+    next.sent = sent;
+    next
+}
+
+// A message of this length, of which nothing is sent or acknowledged.
+fn start(length: u32, serial: u16) -> Outgoing
+    ensures { λ r. ⌜ r ≡ started length serial ⌝ }
+{
+    let count = fragments(length);
+    Outgoing {
+        length,
+        count: (count % 256) as u8,
+        sent: 0,
+        acknowledged: 0,
+        serial,
+    }
+}
+
+// A call starts: its serial starts at 0.
+pub fn begin(length: u32) -> Outgoing
+    ensures { λ r. ⌜ r ≡ begun length ⌝ }
+{
+    start(length, 0)
+}
+
+// A reply is given: the serial goes on.
+pub fn reply(o: Outgoing, length: u32) -> Outgoing
+    ensures { λ r. ⌜ r ≡ replied o length ⌝ }
+{
+    start(length, o.serial)
+}
+
+// No message is out.
+pub fn nothing(serial: u16) -> Outgoing
+    ensures { λ r. ⌜ r ≡ noMessage serial ⌝ }
+{
+    Outgoing {
+        length: 0,
+        count: 0,
+        sent: 0,
+        acknowledged: 0,
+        serial,
+    }
+}
+
+// Whether sent and acknowledged are at most the fragment count.
+pub fn is_bounded(o: Outgoing) -> bool
+    ensures { λ r. ⌜ r ≡ bounded o ⌝ }
+{
+    words::both(o.sent <= o.count, o.acknowledged <= o.count)
+}
+
+// Whether the fragment count is the message length's, as it must be where a message is out.
+pub fn has_message(o: Outgoing) -> bool
+    ensures { λ r. ⌜ r ≡ hasMessage o ⌝ }
+{
+    let count = fragments(o.length);
+    words::both(o.length <= MESSAGE_SIZE, o.count as u32 == count)
+}
+
+// Whether the fragment count is 0, as it must be where no message is out.
+pub fn has_nothing(o: Outgoing) -> bool
+    ensures { λ r. ⌜ r ≡ hasNothing o ⌝ }
+{
+    o.count == 0
+}
