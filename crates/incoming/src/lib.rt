@@ -124,7 +124,10 @@ pub fn empty() -> Incoming
     ensures { λ r. ⌜ r ≡ cleared ⌝ }
 {
     Incoming {
-        slots: [Slot { held: false, length: 0 }; 32],
+        slots: [Slot {
+            held: false,
+            length: 0,
+        }; 32],
         last: Last::Unknown,
     }
 }

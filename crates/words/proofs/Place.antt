@@ -93,9 +93,9 @@ module _ (p : ℕ) (s d : List ℕ) (room : p + length s ≤ length d) where
       let split : p + length s + (at - (p + length s)) ≡ at = omega arith in
       let whole : putAt p s d ≡ (take p d ++ s) ++ drop (p + length s) d = sym (append-assoc (take p d) s (drop (p + length s) d)) in
       let rest : drop at ((take p d ++ s) ++ drop (p + length s) d) ≡ drop at d =
-          ap (λ (k : ℕ). drop k ((take p d ++ s) ++ drop (p + length s) d)) (sym split)
-          ∙ sym (drop-drop (at - (p + length s)) (p + length s) ((take p d ++ s) ++ drop (p + length s) d))
-          ∙ ap (drop (at - (p + length s))) (drop-at (take p d ++ s) (drop (p + length s) d) (p + length s) front)
-          ∙ drop-drop (at - (p + length s)) (p + length s) d
-          ∙ ap (λ (k : ℕ). drop k d) split in
+      ap (λ (k : ℕ). drop k ((take p d ++ s) ++ drop (p + length s) d)) (sym split)
+      ∙ sym (drop-drop (at - (p + length s)) (p + length s) ((take p d ++ s) ++ drop (p + length s) d))
+      ∙ ap (drop (at - (p + length s))) (drop-at (take p d ++ s) (drop (p + length s) d) (p + length s) front)
+      ∙ drop-drop (at - (p + length s)) (p + length s) d
+      ∙ ap (λ (k : ℕ). drop k d) split in
       ap (take n) (ap (drop at) (placed-fits p s d room ∙ whole) ∙ rest)

@@ -2,10 +2,7 @@ use mathlib.Core.Path.{refl}
 use Rattle.incoming.specs.Slots.{cleared}
 use Rattle.incoming.proofs.empty.Statement.{statement}
 use Rattle.incoming.proofs.empty.Tie as tie
-use Rattle.incoming.proofs.empty.Reads as reads
-use Rattle.incoming.proofs.empty.Lts as lts
 
--- src/lib.rt:89:1
 returns : tie.Need-returns
 unfolding cleared
 returns c = refl

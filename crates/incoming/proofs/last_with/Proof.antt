@@ -2,15 +2,11 @@ use Rattle.words.proofs.Tests.{tests}
 use Rattle.incoming.specs.Slots.{lastWith}
 use Rattle.incoming.proofs.last_with.Statement.{statement}
 use Rattle.incoming.proofs.last_with.Tie as tie
-use Rattle.incoming.proofs.last_with.Reads as reads
-use Rattle.incoming.proofs.last_with.Lts as lts
 
--- src/lib.rt:123:9
 returns : tie.Need-returns
 unfolding lastWith
 returns c = search tests
 
--- src/lib.rt:119:1
 returns-2 : tie.Need-returns-2
 unfolding lastWith
 returns-2 c = search tests
