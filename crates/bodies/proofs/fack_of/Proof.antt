@@ -1,13 +1,11 @@
+-- `bodies::fack_of` meets its contract.
 use Rattle.bodies.specs.Fack.{fackOf}
 use borrow.Author.Needs.{needs}
 use Rattle.bodies.proofs.fack_of.Statement.{statement}
 use Rattle.bodies.proofs.fack_of.Tie as tie
 
-returns : tie.Need-returns
-unfolding fackOf
-returns c = cc
-
 pub fack-of-spec : {M : Type 1} → statement M
+unfolding fackOf
 fack-of-spec =
     tie.close
     (tie.spec
@@ -18,4 +16,4 @@ fack-of-spec =
     (λ c κs. search needs)
     (λ c κs. search needs)
     (λ c κs. search needs)
-    returns)
+    (λ c. cc))

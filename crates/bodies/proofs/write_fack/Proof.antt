@@ -1,13 +1,11 @@
+-- `bodies::write_fack` meets its contract.
 use Rattle.bodies.specs.Fack.{fackBytes}
 use borrow.Author.Needs.{needs}
 use Rattle.bodies.proofs.write_fack.Statement.{statement}
 use Rattle.bodies.proofs.write_fack.Tie as tie
 
-returns : tie.Need-returns
-unfolding fackBytes
-returns c = rw (c .split32 .ensures, c .before .split16 .ensures)
-
 pub write-fack-spec : {M : Type 1} → statement M
+unfolding fackBytes
 write-fack-spec =
     tie.close
     (tie.spec
@@ -19,4 +17,4 @@ write-fack-spec =
     (λ c. search needs)
     (λ c. search needs)
     (λ c. search needs)
-    returns)
+    (λ c. rw (c .split32 .ensures, c .before .split16 .ensures)))

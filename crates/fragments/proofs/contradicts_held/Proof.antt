@@ -1,13 +1,11 @@
+-- `fragments::contradicts_held` meets its contract.
 use Rattle.fragments.specs.Judgement.{contradicts, lastBelowHeld, heldAbove}
 use borrow.Author.Needs.{needs}
 use Rattle.fragments.proofs.contradicts_held.Statement.{statement}
 use Rattle.fragments.proofs.contradicts_held.Tie as tie
 
-returns : tie.Need-returns
-unfolding contradicts lastBelowHeld heldAbove
-returns c = cc
-
 pub contradicts-held-spec : {M : Type 1} → statement M
+unfolding contradicts lastBelowHeld heldAbove
 contradicts-held-spec =
     tie.close
     (tie.spec
@@ -18,4 +16,4 @@ contradicts-held-spec =
     (λ c κs. search needs)
     (λ c κs. search needs)
     (λ c κs. search needs)
-    returns)
+    (λ c. cc))

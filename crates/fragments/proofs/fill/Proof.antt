@@ -1,11 +1,13 @@
+-- `fragments::fill` meets its contract.
 use Rattle.fragments.specs.Slots.{filled}
 use borrow.Author.Needs.{needs}
 use Rattle.fragments.proofs.fill.Statement.{statement}
 use Rattle.fragments.proofs.fill.Tie as tie
 
-returns : tie.Need-returns
-unfolding filled
-returns c = c .before .before .put .ensures
-
 pub fill-spec : {M : Type 1} → statement M
-fill-spec = tie.close (tie.spec (λ c. search needs) (λ c κs. search needs) (λ c. search needs) returns)
+unfolding filled
+fill-spec = tie.close (tie.spec
+    (λ c. search needs)
+    (λ c κs. search needs)
+    (λ c. search needs)
+    (λ c. c .before .before .put .ensures))

@@ -1,3 +1,4 @@
+-- `fragments::is_held` meets its contract.
 use mathlib.Core.Path.{ap}
 use Rattle.incoming.specs.declared.Slot.{Slot}
 use Rattle.fragments.specs.Judgement.{held}
@@ -5,9 +6,8 @@ use borrow.Author.Needs.{needs}
 use Rattle.fragments.proofs.is_held.Statement.{statement}
 use Rattle.fragments.proofs.is_held.Tie as tie
 
-returns : tie.Need-returns
-unfolding held
-returns c = ap (λ (s : Slot). s .held) (c .slot-of .ensures)
-
 pub is-held-spec : {M : Type 1} → statement M
-is-held-spec = tie.close (tie.spec (λ c κs. search needs) returns)
+unfolding held
+is-held-spec = tie.close (tie.spec
+    (λ c κs. search needs)
+    (λ c. ap (λ (s : Slot). s .held) (c .slot-of .ensures)))

@@ -1,3 +1,4 @@
+-- `incoming::is_within` meets its contract.
 use borrow.Author.Needs.{needs}
 use Rattle.incoming.proofs.is_within.Statement.{statement}
 use Rattle.incoming.proofs.is_within.Tie as tie

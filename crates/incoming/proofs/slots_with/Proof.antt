@@ -1,3 +1,4 @@
+-- `incoming::slots_with` meets its contract.
 use Prim.Native.Nat.{_≤_}
 use mathlib.Core.Path.{_≡_}
 use native.Mathlib.Omega.{arith}
@@ -9,10 +10,6 @@ use borrow.Author.Needs.{needs}
 use Rattle.incoming.proofs.slots_with.Statement.{statement}
 use Rattle.incoming.proofs.slots_with.Tie as tie
 
-returns : tie.Need-returns
-unfolding slotsWith
-returns c = refl
-
 returns-2 : tie.Need-returns-2
 unfolding slotsWith
 returns-2 c =
@@ -21,4 +18,9 @@ returns-2 c =
     sym (set-out _ _ _ past)
 
 pub slots-with-spec : {M : Type 1} → statement M
-slots-with-spec = tie.close (tie.spec (λ c. search needs) (λ c. search needs) returns returns-2)
+unfolding slotsWith
+slots-with-spec = tie.close (tie.spec
+    (λ c. search needs)
+    (λ c. search needs)
+    (λ c. refl)
+    returns-2)

@@ -1,3 +1,4 @@
+-- `incoming::with` meets its contract.
 use Rattle.incoming.specs.Slots.{stored}
 use borrow.Author.Needs.{needs}
 use Rattle.incoming.proofs.with.Statement.{statement}

@@ -7,13 +7,10 @@ use Rattle.pdu.specs.Header.{fieldsOf}
 use Rattle.pdu.proofs.fields.Statement.{statement}
 use Rattle.pdu.proofs.fields.Tie as tie
 
-returns : tie.Need-returns
-unfolding fieldsOf
-returns c = c .no-header .ensures ∙ sym (choose-true _ _ _ (lt-ltb _ _ (c .before .if1 .taken)))
-
-returns-2 : tie.Need-returns-2
-unfolding fieldsOf
-returns-2 c = c .header-of .ensures ∙ sym (choose-false _ _ _ (le-ltb _ _ (c .before .if1 .left)))
-
 pub fields-spec : {M : Type 1} → statement M
-fields-spec = tie.close (tie.spec (λ c κs. search needs) returns (λ c κs. search needs) returns-2)
+unfolding fieldsOf
+fields-spec = tie.close (tie.spec
+    (λ c κs. search needs)
+    (λ c. c .no-header .ensures ∙ sym (choose-true _ _ _ (lt-ltb _ _ (c .before .if1 .taken))))
+    (λ c κs. search needs)
+    (λ c. c .header-of .ensures ∙ sym (choose-false _ _ _ (le-ltb _ _ (c .before .if1 .left)))))

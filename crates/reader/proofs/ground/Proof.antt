@@ -1,13 +1,11 @@
+-- `reader::ground` meets its contract.
 use Rattle.reader.specs.Reading.{groundBy}
 use borrow.Author.Needs.{needs}
 use Rattle.reader.proofs.ground.Statement.{statement}
 use Rattle.reader.proofs.ground.Tie as tie
 
-returns : tie.Need-returns
-unfolding groundBy
-returns c = cc
-
 pub ground-spec : {M : Type 1} → statement M
+unfolding groundBy
 ground-spec =
     tie.close
     (tie.spec
@@ -17,4 +15,4 @@ ground-spec =
     (λ c κs. search needs)
     (λ c κs. search needs)
     (λ c κs. search needs)
-    returns)
+    (λ c. cc))

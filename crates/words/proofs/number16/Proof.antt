@@ -1,3 +1,4 @@
+-- `words::number16` meets its contract.
 use Rattle.words.proofs.Number.{number-past, number-is}
 use mathlib.Core.Bool.{true, false}
 use borrow.Author.Needs.{needs}

@@ -1,3 +1,4 @@
+-- `writer::back` meets its contract.
 use borrow.Author.Needs.{needs}
 use Rattle.writer.proofs.back.Statement.{statement}
 use Rattle.writer.proofs.back.Tie as tie

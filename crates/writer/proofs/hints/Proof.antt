@@ -1,3 +1,4 @@
+-- `writer::hints` meets its contract.
 use borrow.Author.Needs.{needs}
 use Rattle.writer.proofs.hints.Statement.{statement}
 use Rattle.writer.proofs.hints.Tie as tie

@@ -1,3 +1,4 @@
+-- `writer::numbers` meets its contract.
 use borrow.Author.Needs.{needs}
 use Rattle.writer.proofs.numbers.Statement.{statement}
 use Rattle.writer.proofs.numbers.Tie as tie
