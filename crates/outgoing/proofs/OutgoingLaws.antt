@@ -6,12 +6,17 @@ use native.Mathlib.Omega.{arith}
 use lib.ListN.{length, take, drop, length-take, length-drop, drop-of-length-le}
 use lib.Seq.{take-add, take-all, take-nil}
 use Rattle.outgoing.specs.Message.{fragments, fragmentOf}
-use Rattle.outgoing.specs.Sending.{nextSerial}
+use Rattle.outgoing.specs.Sending.{nextSerial, started}
 
--- A message has 1 to 32 fragments.
+-- A message has 1 to 32 fragments,
 pub fragments-range : (n : ℕ) → n ≤ 44544 → (1 ≤ fragments n) × (fragments n ≤ 32)
 unfolding fragments
 fragments-range n h = (omega arith, omega arith)
+
+-- so the count of a message that is not over 44,544 fits its byte.
+pub started-count : (n serial : ℕ) → n ≤ 44544 → started n serial .count ≡ fragments n
+unfolding started fragments
+started-count n serial h = omega arith
 
 -- Joined in order, the fragments are the message: each goes on where those before it end,
 pub fragment-joins : (m : List ℕ) (f : ℕ) → take (1392 * f) m ++ fragmentOf m f ≡ take (1392 * (f + 1)) m

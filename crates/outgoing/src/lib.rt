@@ -90,6 +90,7 @@ pub fn after_send(o: Outgoing) -> Outgoing
     next
 }
 
+// The larger of two numbers.
 fn larger(a: u8, b: u8) -> u8
     ensures { λ r. ⌜ r ≡ max a b ⌝ }
 {

@@ -23,6 +23,7 @@ unfoldable pub armedWith : Timer → ℕ → Bool
 armedWith Off ticket = false
 armedWith (Armed held) ticket = eqb held ticket
 
+-- No ticket is armed.
 unfoldable pub off : Timer → Bool
 off Off = true
 off (Armed held) = false

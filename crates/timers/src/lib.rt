@@ -45,6 +45,7 @@ pub fn is_armed_with(timer: Timer, ticket: u64) -> bool
     }
 }
 
+// Whether no ticket is armed.
 pub fn is_off(timer: Timer) -> bool
     ensures { λ r. ⌜ r ≡ off timer ⌝ }
 {
