@@ -1,12 +1,7 @@
 // The commands of the reader and the writer.
-use crate::command::Done;
-use crate::command::Outcome;
+use crate::command;
 use crate::command::State;
 use crate::input;
-use crate::message;
-use crate::output;
-use crate::part;
-use crate::sum;
 use pdu::Header;
 use writer::Written;
 
@@ -22,91 +17,87 @@ const BUFFER_SIZE: usize = 2048;
 // Each of its bytes before a write.
 const FILL: u8 = 0xa5;
 
-// Type, flags and serial.
-fn put_front(out: &mut [u8], used: usize, kind: u8, flags1: u8, flags2: u8, serial: u16) -> usize {
-    let end = output::put_number_field(out, used, b" type=", kind as u64);
-    let end = output::put_number_field(out, end, b" flags1=", flags1 as u64);
-    let end = output::put_number_field(out, end, b" flags2=", flags2 as u64);
-    output::put_number_field(out, end, b" serial=", serial as u64)
+// The numbers of a header, in the order of its line.
+fn numbers(h: Header) -> [u64; 11] {
+    [
+        h.kind as u64,
+        h.flags1 as u64,
+        h.flags2 as u64,
+        h.serial as u64,
+        h.boot as u64,
+        h.version as u64,
+        h.number as u64,
+        h.operation as u64,
+        h.ihint as u64,
+        h.ahint as u64,
+        h.fragment as u64,
+    ]
 }
 
-fn put_uuids(
-    out: &mut [u8],
-    used: usize,
-    object: [u8; 16],
-    interface: [u8; 16],
-    activity: [u8; 16],
-) -> usize {
-    let end = output::put_hex_field(out, used, b" object=", &object);
-    let end = output::put_hex_field(out, end, b" interface=", &interface);
-    output::put_hex_field(out, end, b" activity=", &activity)
-}
-
-fn put_numbers(out: &mut [u8], used: usize, boot: u32, version: u32, number: u32) -> usize {
-    let end = output::put_number_field(out, used, b" boot=", boot as u64);
-    let end = output::put_number_field(out, end, b" version=", version as u64);
-    output::put_number_field(out, end, b" number=", number as u64)
-}
-
-// Operation, hints and fragment number.
-fn put_back(
-    out: &mut [u8],
-    used: usize,
-    operation: u16,
-    ihint: u16,
-    ahint: u16,
-    fragment: u16,
-) -> usize {
-    let end = output::put_number_field(out, used, b" operation=", operation as u64);
-    let end = output::put_number_field(out, end, b" ihint=", ihint as u64);
-    let end = output::put_number_field(out, end, b" ahint=", ahint as u64);
-    output::put_number_field(out, end, b" fragment=", fragment as u64)
-}
-
-fn put_header(out: &mut [u8], used: usize, h: Header) -> usize {
+// The UUIDs of a header, in the order of its line.
+fn uuids(h: Header) -> [u8; 48] {
     let object = h.object;
     let interface = h.interface;
     let activity = h.activity;
-    let end = put_front(out, used, h.kind, h.flags1, h.flags2, h.serial);
-    let end = put_uuids(out, end, object, interface, activity);
-    let end = put_numbers(out, end, h.boot, h.version, h.number);
-    put_back(out, end, h.operation, h.ihint, h.ahint, h.fragment)
+    let mut all = [0u8; 48];
+    words::put(&mut all, 0, &object);
+    words::put(&mut all, 16, &interface);
+    words::put(&mut all, 32, &activity);
+    all
+}
+
+// The line of an accepted datagram.
+fn put_accepted(out: &mut [u8], used: usize, h: Header, body: &[u8]) -> usize {
+    let numbers = numbers(h);
+    let uuids = uuids(h);
+    lines::put_row(
+        out,
+        used,
+        b"read 0 type=# flags1=# flags2=# serial=# object=$ interface=$ activity=$ boot=# version=# number=# operation=# ihint=# ahint=# fragment=# body=*\n",
+        &numbers,
+        &uuids,
+        body,
+    )
+}
+
+// The line of a refused one.
+fn put_refused(out: &mut [u8], used: usize, answer: u64, datagram: &[u8]) -> usize {
+    lines::put_row(out, used, b"read #\n", &[answer], datagram, datagram)
 }
 
 // The line of a read.
 fn put_reading(out: &mut [u8], used: usize, datagram: &[u8]) -> usize {
     let reading = reader::read(datagram);
     let answer = reading.answer;
-    let number = answers::number(answer);
-    let end = output::put_number_field(out, used, b"read ", number as u64);
+    let number = answers::number(answer) as u64;
     if number != 0 {
-        return output::put_text(out, end, b"\n");
+        return put_refused(out, used, number, datagram);
     }
-    let header = reading.header;
-    let end = put_header(out, end, header);
-    let end = output::put_hex_field(out, end, b" body=", reader::body(datagram));
-    output::put_text(out, end, b"\n")
+    let h = reading.header;
+    put_accepted(out, used, h, reader::body(datagram))
 }
 
-// A length u16, and a datagram of it.
-pub fn read(fields: &[u8], state: State, out: &mut [u8], used: usize) -> Outcome {
-    if fields.len() < 2 {
-        return Outcome::Bad;
-    }
+// Where a datagram behind its length u16 ends, or 0 where it is too long or cut off.
+fn datagram_end(fields: &[u8]) -> usize {
     let length = words::number16(fields, 0, true) as usize;
     if length > LENGTH_LIMIT {
-        return Outcome::Bad;
+        return 0;
     }
     let end = 2 + length;
     if fields.len() < end {
-        return Outcome::Bad;
+        return 0;
     }
-    let used = put_reading(out, used, &fields[2..end]);
-    Outcome::Done(Done {
-        taken: end,
-        used,
-        state,
-    })
+    end
+}
+
+// A length u16, and a datagram of it.
+pub(crate) fn read(fields: &[u8], state: State, out: &mut [u8]) -> State {
+    let end = datagram_end(fields);
+    if end == 0 {
+        return command::bad(state, out);
+    }
+    let datagram = lines::behind(lines::first(fields, end), 2);
+    command::done(state, end, put_reading(out, state.used, datagram))
 }
 
 // The header in a write command.
@@ -139,46 +130,41 @@ fn write_lent(h: Header, body: &[u8], buffer: &mut [u8], lent: usize) -> Written
 }
 
 // The line of a write; `buffer` is the whole PDU buffer after it.
-fn put_written(out: &mut [u8], used: usize, written: Written, buffer: &[u8]) -> usize {
-    let answer = written.answer;
-    let number = answers::number(answer);
-    let end = output::put_number_field(out, used, b"write ", number as u64);
-    let end = output::put_hex_field(out, end, b" ", part::first(buffer, written.length));
-    let sum = sum::adler(part::first(buffer, BUFFER_SIZE));
-    let end = output::put_number_field(out, end, b" out=", sum);
-    output::put_text(out, end, b"\n")
+fn put_written(out: &mut [u8], used: usize, answer: u64, length: usize, buffer: &[u8]) -> usize {
+    let numbers = [answer, lines::adler(buffer)];
+    let pdu = lines::first(buffer, length);
+    lines::put_row(out, used, b"write # * out=#\n", &numbers, pdu, pdu)
 }
 
-// Writes a PDU whose body is `length` bytes of a message, and its line.
-fn put_writing(
-    out: &mut [u8],
-    used: usize,
-    h: Header,
-    length: usize,
-    seed: u8,
-    lent: usize,
-) -> usize {
-    let mut body = [0u8; LENGTH_LIMIT];
-    message::fill(&mut body, seed);
+// Writes a PDU, and its line.
+fn put_writing(out: &mut [u8], used: usize, h: Header, body: &[u8], lent: usize) -> usize {
     let mut buffer = [FILL; BUFFER_SIZE];
-    let written = write_lent(h, part::first(&body, length), &mut buffer, lent);
-    put_written(out, used, written, &buffer)
+    let written = write_lent(h, body, &mut buffer, lent);
+    let answer = written.answer;
+    put_written(out, used, answers::number(answer) as u64, written.length, &buffer)
+}
+
+// The same of a command's fields; its body is the first bytes of a message.
+fn put_write(out: &mut [u8], used: usize, fields: &[u8], length: usize, lent: usize) -> usize {
+    let mut body = [0u8; LENGTH_LIMIT];
+    lines::fill(&mut body, words::byte_at(fields, 76));
+    put_writing(out, used, header_of(fields), lines::first(&body, length), lent)
+}
+
+// Whether a write command is whole and its body no longer than it may be.
+fn is_write(length: usize, body: usize) -> bool {
+    if length < WRITE_SIZE {
+        return false;
+    }
+    body <= LENGTH_LIMIT
 }
 
 // The header's fields, the length of the body u16 and its seed u8.
-pub fn write(fields: &[u8], state: State, out: &mut [u8], used: usize) -> Outcome {
-    if fields.len() < WRITE_SIZE {
-        return Outcome::Bad;
-    }
+pub(crate) fn write(fields: &[u8], state: State, out: &mut [u8]) -> State {
     let length = words::number16(fields, 74, true) as usize;
-    if length > LENGTH_LIMIT {
-        return Outcome::Bad;
+    if !is_write(fields.len(), length) {
+        return command::bad(state, out);
     }
-    let seed = words::byte_at(fields, 76);
-    let used = put_writing(out, used, header_of(fields), length, seed, state.lent);
-    Outcome::Done(Done {
-        taken: WRITE_SIZE,
-        used,
-        state,
-    })
+    let used = put_write(out, state.used, fields, length, state.lent);
+    command::done(state, WRITE_SIZE, used)
 }

@@ -1,27 +1,26 @@
 // The script: a window over a buffer that standard input is read into.
-use crate::part;
 use libc::STDIN_FILENO;
 
 // No command is longer: while the input has more, the window holds a whole one.
 const COMMAND_LIMIT: usize = 4096;
 
 // The bytes from `at` to `end` have been read and are not yet taken.
-pub struct Window {
-    pub at: usize,
-    pub end: usize,
+pub(crate) struct Window {
+    pub(crate) at: usize,
+    pub(crate) end: usize,
 }
 
-pub fn empty() -> Window {
+pub(crate) fn empty() -> Window {
     Window { at: 0, end: 0 }
 }
 
 // The bytes in the window.
-pub fn rest(buffer: &[u8], window: Window) -> &[u8] {
-    part::behind(part::first(buffer, window.end), window.at)
+pub(crate) fn rest(buffer: &[u8], window: Window) -> &[u8] {
+    lines::behind(lines::first(buffer, window.end), window.at)
 }
 
 // The window behind a command's first byte and the bytes that it took besides.
-pub fn advanced(window: Window, taken: usize) -> Window {
+pub(crate) fn advanced(window: Window, taken: usize) -> Window {
     let at = window.at;
     let end = window.end;
     if at <= end {
@@ -61,7 +60,7 @@ fn read_behind(buffer: &mut [u8], first: usize) -> usize {
 }
 
 // The window with a whole command in it, unless the input ends before.
-pub fn filled(buffer: &mut [u8], window: Window) -> Window {
+pub(crate) fn filled(buffer: &mut [u8], window: Window) -> Window {
     let at = window.at;
     let end = window.end;
     if at <= end {
@@ -77,8 +76,8 @@ pub fn filled(buffer: &mut [u8], window: Window) -> Window {
 }
 
 // The UUID that stands in s at `at`.
-pub fn uuid(s: &[u8], at: usize) -> [u8; 16] {
+pub(crate) fn uuid(s: &[u8], at: usize) -> [u8; 16] {
     let mut bytes = [0u8; 16];
-    words::put(&mut bytes, 0, part::first(part::behind(s, at), 16));
+    words::put(&mut bytes, 0, lines::first(lines::behind(s, at), 16));
     bytes
 }

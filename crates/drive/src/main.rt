@@ -3,72 +3,58 @@
 mod codec;
 mod command;
 mod input;
-mod message;
-mod output;
-mod part;
-mod sum;
 
-use command::Outcome;
 use command::State;
-use input::Window;
+use libc::STDOUT_FILENO;
+ghost use Prim.Native.Nat.{_≤_};
 
-// What lasts from one turn to the next.
-struct Progress {
-    more: bool,
-    window: Window,
-    used: usize,
-    state: State,
+// No line is longer.
+const LINE_LIMIT: usize = 16384;
+
+// Writes out what is used.
+fn flush(out: &[u8], used: usize) {
+    io::write_all(STDOUT_FILENO, lines::first(out, used));
+}
+
+// Room for a line: writes out what is used where there is too little, and answers what is used then.
+fn with_room(out: &[u8], used: usize) -> usize {
+    if used <= out.len() {
+        if out.len() - used >= LINE_LIMIT {
+            return used;
+        }
+    }
+    flush(out, used);
+    0
 }
 
 // One turn: a command, or the end of the input.
-fn turn(script: &mut [u8], out: &mut [u8], before: Progress) -> Progress {
-    let state = before.state;
-    let left = before.window;
-    let window = input::filled(script, left);
-    let used = output::with_room(out, before.used);
-    match command::step(input::rest(script, window), state, out, used) {
-        Outcome::Done(done) => {
-            let after = done.state;
-            Progress {
-                more: true,
-                window: input::advanced(window, done.taken),
-                used: done.used,
-                state: after,
-            }
-        }
-        Outcome::Bad => Progress {
-            more: false,
-            window,
-            used: output::put_text(out, used, b"bad\n"),
-            state,
-        },
-        Outcome::End => Progress {
-            more: false,
-            window,
-            used,
-            state,
-        },
+fn turn(script: &mut [u8], out: &mut [u8], state: State) -> State {
+    let mut next = state;
+    next.used = with_room(out, state.used);
+    next.window = input::filled(script, state.window);
+    command::step(input::rest(script, next.window), next, out)
+}
+
+// The turns that are left: none at the end.
+fn left(turns: u64, more: bool) -> u64
+    ensures { λ r. ⌜ r ≤ turns ⌝ }
+{
+    if more {
+        return turns;
     }
+    0
 }
 
 // All turns. Nothing says that the input ends, so they are counted down from a number that no run
 // uses up.
 fn run(script: &mut [u8], out: &mut [u8]) {
-    let mut progress = Progress {
-        more: true,
-        window: input::empty(),
-        used: 0,
-        state: command::fresh(),
-    };
+    let mut state = command::fresh();
     let mut turns = u64::MAX;
     while turns > 0 {
-        turns -= 1;
-        progress = turn(script, out, progress);
-        if !progress.more {
-            break;
-        }
+        state = turn(script, out, state);
+        turns = left(turns - 1, state.more);
     }
-    output::flush(out, progress.used);
+    flush(out, state.used);
 }
 
 fn main() {

@@ -13,6 +13,7 @@ use Rattle.words.specs.Place.{placed}
 use Rattle.words.proofs.Place.{stretch-same, stretch-before, stretch-behind}
 use Rattle.incoming.specs.declared.Slot.{Slot}
 use Rattle.incoming.specs.Slots.{missing, contiguousFrom}
+use Rattle.outgoing.specs.Message.{fragmentOf}
 use Rattle.fragments.specs.Slots.{stretch, filled}
 use Rattle.fragments.specs.Joined.{joinedFrom}
 
@@ -32,17 +33,13 @@ module _ (f : ℕ) (body buffer : List ℕ) (room : 1392 * f + length body ≤ l
       by-order (yes before) = stretch-before (1392 * f) body buffer room n (1392 * g) (omega arith)
       by-order (no other) = stretch-behind (1392 * f) body buffer room n (1392 * g) (omega arith)
 
--- The part of a message that is its fragment f.
-abbrev pub fragmentAt : ℕ → List ℕ → List ℕ
-fragmentAt f message = take 1392 (drop (1392 * f) message)
-
 add-suc-left : (i k : ℕ) → i + suc k ≡ i + 1 + k
 add-suc-left i k = omega arith
 
 -- Every held slot from number i on has in the buffer the bytes of the message's fragment of that number.
 abbrev pub CarriesFrom : ℕ → List Slot → List ℕ → List ℕ → Type 0
 CarriesFrom i slots buffer message =
-    (k : ℕ) → getD slots k missing .held ≡ true → stretch (getD slots k missing .length) (1392 * (i + k)) buffer ≡ fragmentAt (i + k) message
+    (k : ℕ) → getD slots k missing .held ≡ true → stretch (getD slots k missing .length) (1392 * (i + k)) buffer ≡ fragmentOf message (i + k)
 
 -- One step of joining: a held fragment and what follows, or the end.
 joined-step : (held : Bool) (n c : ℕ) (own rest message : List ℕ) → (held ≡ true → own ≡ take 1392 (drop n message))
@@ -57,6 +54,7 @@ joined-step false n c own rest message p q = refl
 -- Then the joined part is as much of the message as the contiguous count says,
 pub joined-front : (i : ℕ) (slots : List Slot) (buffer message : List ℕ) → CarriesFrom i slots buffer message
     → joinedFrom i slots buffer ≡ take (1392 * contiguousFrom slots) (drop (1392 * i) message)
+unfolding fragmentOf
 joined-front i [] buffer message h = refl
 joined-front i (s ∷ ss) buffer message h =
     let place : 1392 * (i + 1) ≡ 1392 * i + 1392 = omega arith in

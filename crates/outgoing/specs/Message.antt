@@ -4,6 +4,7 @@ use mathlib.Core.List.{List}
 use lib.ListN.{take, drop}
 use lib.Dec.{eqb}
 use Rattle.words.specs.Choice.{choose}
+use Rattle.flags.specs.Flags.{lastFragment, fragment}
 
 -- How many fragments a message of n bytes has; an empty message is one empty fragment.
 unfoldable pub fragments : ℕ → ℕ
@@ -13,13 +14,6 @@ fragments n = (n + 1391) / 1392 + (1 - n)
 unfoldable pub fragmentOf : List ℕ → ℕ → List ℕ
 fragmentOf message f = take 1392 (drop (1392 * f) message)
 
--- The two bits of flags1 that tell a fragment's place.
-abbrev pub lastFlag : ℕ
-lastFlag = 2
-
-abbrev pub fragmentFlag : ℕ
-fragmentFlag = 4
-
 -- flags1 of fragment f: a one-fragment message has both clear; otherwise fragment is set on all and last on the last.
 unfoldable pub flagsOf : ℕ → ℕ → ℕ
-flagsOf count f = choose (eqb count 1) 0 (choose (eqb (f + 1) count) (fragmentFlag + lastFlag) fragmentFlag)
+flagsOf count f = choose (eqb count 1) 0 (choose (eqb (f + 1) count) (fragment + lastFragment) fragment)

@@ -1,4 +1,6 @@
 // The message being sent: its cut into fragments, how far it is sent and acknowledged, and the sender's serial.
+use flags::FRAGMENT;
+use flags::LAST_FRAGMENT;
 ghost use mathlib.Core.Path.{_≡_};
 ghost use Prim.Native.Nat.{max};
 ghost use Rattle.outgoing.specs.Message.{fragments, fragmentOf, flagsOf};
@@ -7,11 +9,8 @@ ghost use Rattle.outgoing.specs.Sending.{nextSerial, oneMore, afterSend,
 // A message has at most as many bytes: 32 fragments of 1,392.
 pub const MESSAGE_SIZE: u32 = 44544;
 
-// flags1 of a fragment that is not the last,
-const FRAGMENT: u8 = 4;
-
-// and of the last: fragment and last are set.
-const FRAGMENT_AND_LAST: u8 = 6;
+// flags1 of the last of several fragments.
+const FRAGMENT_AND_LAST: u8 = FRAGMENT + LAST_FRAGMENT;
 
 // Length and fragment count of the message; sent is the next fragment to send, so also how many are sent.
 pub struct Outgoing {

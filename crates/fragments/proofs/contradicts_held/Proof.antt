@@ -16,4 +16,4 @@ contradicts-held-spec =
     (λ c κs. search needs)
     (λ c κs. search needs)
     (λ c κs. search needs)
-    (λ c. cc))
+    (λ c. rw (c .either2 .ensures, c .before .either .ensures, c .before .before .both .ensures, c .before .before .before .held-from .ensures, c .before .before .before .before .other-last .ensures, c .before .before .before .before .before .above-last .ensures)))

@@ -12,4 +12,4 @@ is-handed-up-spec =
     (λ c κs. search needs)
     (λ c κs. search needs)
     (λ c κs. search needs)
-    (λ c. cc))
+    (λ c. rw (c .both2 .ensures, c .before .both .ensures, c .before .before .count .ensures, c .before .before .before .is-sound .ensures)))

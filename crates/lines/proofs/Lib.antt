@@ -1,0 +1,5 @@
+-- The laws of lines, of text, of rows and of messages.
+pub mod LineLaws
+pub mod MessageLaws
+pub mod RowLaws
+pub mod TextLaws
