@@ -3,7 +3,7 @@ use Prim.Native.Nat.{ℕ}
 use Rattle.answers.specs.declared.Answer.{Answer}
 use Rattle.answers.specs.declared.Ground.{Ground}
 use Rattle.answers.specs.declared.Ground.the-variants.{Pass, Refuse}
-use Rattle.answers.specs.declared.Answer.the-variants.{Done, WrongLength, BrokenRecord, ShortDatagram, WrongVersion, UnknownType, UnknownRepresentation, Authenticated, WrongBodyLength, OtherActivity, WrongSide, MaybeOrBroadcast, WrongFragment, OldCall, MalformedBody, NoRow, Repeated, Contradiction, LateTimer, NumbersSpent, TicketsSpent}
+use Rattle.answers.specs.declared.Answer.the-variants.{Done, WrongLength, BrokenRecord, ShortDatagram, WrongVersion, UnknownType, UnknownRepresentation, Authenticated, WrongBodyLength, OtherActivity, WrongSide, MaybeOrBroadcast, WrongFragment, OldCall, MalformedBody, NoRow, Repeated, Contradiction, LateTimer, NumbersUsedUp, TicketsUsedUp}
 
 abbrev pub numberOf : Answer → ℕ
 numberOf Done = 0
@@ -25,8 +25,8 @@ numberOf NoRow = 15
 numberOf Repeated = 16
 numberOf Contradiction = 17
 numberOf LateTimer = 18
-numberOf NumbersSpent = 19
-numberOf TicketsSpent = 20
+numberOf NumbersUsedUp = 19
+numberOf TicketsUsedUp = 20
 
 -- What a ground answers.
 abbrev pub answerOf : Ground → Answer

@@ -26,7 +26,7 @@ pub enum Answer {
     WrongSide,
     // 11: a request with maybe or broadcast
     MaybeOrBroadcast,
-    // 12: a fragment number above 31, or a lone fragment with a number other than 0
+    // 12: a request or response with a fragment number above 31, or a lone one with a number other than 0
     WrongFragment,
     // 13: an old call
     OldCall,
@@ -41,9 +41,9 @@ pub enum Answer {
     // 18: a late timer
     LateTimer,
     // 19: a start after the last call number
-    NumbersSpent,
+    NumbersUsedUp,
     // 20: a timer to arm after the last ticket
-    TicketsSpent,
+    TicketsUsedUp,
 }
 
 // The number of an answer.
@@ -70,8 +70,8 @@ pub fn number(answer: Answer) -> u8
         Answer::Repeated => 16,
         Answer::Contradiction => 17,
         Answer::LateTimer => 18,
-        Answer::NumbersSpent => 19,
-        Answer::TicketsSpent => 20,
+        Answer::NumbersUsedUp => 19,
+        Answer::TicketsUsedUp => 20,
     }
 }
 

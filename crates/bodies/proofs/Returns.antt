@@ -15,7 +15,7 @@ use Rattle.answers.specs.declared.Ground.the-variants.{Pass, Refuse}
 use Rattle.bodies.specs.declared.Fack.{Fack}
 use Rattle.bodies.specs.declared.FackReading.{FackReading}
 use Rattle.bodies.specs.declared.StatusReading.{StatusReading}
-use Rattle.bodies.specs.Fack.{fackGround, fackOf, noFack, fackBy, fackReading}
+use Rattle.bodies.specs.Fack.{fackGround, fackOf, blankFack, fackBy, fackReading}
 use Rattle.bodies.specs.Status.{statusReading}
 
 pub status-read : (little : Bool) (body : List ℕ) (n : ℕ) → 4 ≤ length body → n ≡ number 4 little body 0
@@ -33,6 +33,6 @@ module _ (little : Bool) (body : List ℕ) (version words : ℕ) (g : Ground) (j
   unfolding fackReading fackBy
   fack-passed f e k = rw (ground ∙ e) (λ i. record { answer = Done; fack = k i })
 
-  pub fack-refused : (a : Answer) (f : Fack) → g ≡ Refuse a → f ≡ noFack → _≡_ {A = FackReading} (record { answer = a; fack = f }) (fackReading little body)
+  pub fack-refused : (a : Answer) (f : Fack) → g ≡ Refuse a → f ≡ blankFack → _≡_ {A = FackReading} (record { answer = a; fack = f }) (fackReading little body)
   unfolding fackReading fackBy
   fack-refused a f e k = rw (ground ∙ e) (λ i. record { answer = a; fack = k i })

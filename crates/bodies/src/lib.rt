@@ -2,7 +2,7 @@
 use answers::Answer;
 use answers::Ground;
 ghost use mathlib.Core.Path.{_≡_};
-ghost use Rattle.bodies.specs.Fack.{fackGround, fackOf, noFack, fackReading, fackBytes, fackSent};
+ghost use Rattle.bodies.specs.Fack.{fackGround, fackOf, blankFack, fackReading, fackBytes, fackSent};
 ghost use Rattle.bodies.specs.Status.{statusReading, statusBytes};
 
 // A fack's body, with its first mask.
@@ -59,7 +59,7 @@ fn fack_of(body: &[u8], little: bool) -> Fack
 
 // The fields that stand with a refusal.
 fn no_fack() -> Fack
-    ensures { λ r. ⌜ r ≡ noFack ⌝ }
+    ensures { λ r. ⌜ r ≡ blankFack ⌝ }
 {
     Fack {
         pad: 0,

@@ -7,14 +7,14 @@ use borrow.Author.Tests.{leb-true, le-leb, ne-eqb}
 use Rattle.words.proofs.Tests.{choose-false}
 use Rattle.timers.specs.declared.Timer.{Timer}
 use Rattle.timers.specs.declared.Timer.the-variants.{Off, Armed}
-use Rattle.timers.specs.Tickets.{spent, nextTicket, armedAfresh, armedWith, sound}
+use Rattle.timers.specs.Tickets.{usedUp, nextTicket, armedAfresh, armedWith, sound}
 
--- A counter that is not spent goes up by one.
-pub next-is : (counter : ℕ) → spent counter ≡ false → nextTicket counter ≡ counter + 1
+-- A counter that is not used up goes up by one.
+pub next-is : (counter : ℕ) → usedUp counter ≡ false → nextTicket counter ≡ counter + 1
 unfolding nextTicket
-next-is counter e = choose-false (spent counter) counter (counter + 1) e
+next-is counter e = choose-false (usedUp counter) counter (counter + 1) e
 
-module _ (counter : ℕ) (e : spent counter ≡ false) where
+module _ (counter : ℕ) (e : usedUp counter ≡ false) where
   -- A timer armed afresh is sound for the new counter,
   pub armed-sound : sound (armedAfresh counter) (nextTicket counter) ≡ true
   unfolding sound armedAfresh

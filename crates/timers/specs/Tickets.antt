@@ -7,12 +7,12 @@ use Rattle.timers.specs.declared.Timer.{Timer}
 use Rattle.timers.specs.declared.Timer.the-variants.{Off, Armed}
 
 -- No further ticket can be made.
-unfoldable pub spent : ℕ → Bool
-spent counter = eqb counter 18446744073709551615
+unfoldable pub usedUp : ℕ → Bool
+usedUp counter = eqb counter 18446744073709551615
 
--- Arming adds one to the counter; a spent counter stays as it is.
+-- Arming adds one to the counter; a used up counter stays as it is.
 unfoldable pub nextTicket : ℕ → ℕ
-nextTicket counter = choose (spent counter) counter (counter + 1)
+nextTicket counter = choose (usedUp counter) counter (counter + 1)
 
 -- Arming stores the counter so raised as the ticket.
 unfoldable pub armedAfresh : ℕ → Timer

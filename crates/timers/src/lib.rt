@@ -1,6 +1,6 @@
 // Timers: off, or armed with a ticket that a record's one counter gives out.
 ghost use mathlib.Core.Path.{_≡_};
-ghost use Rattle.timers.specs.Tickets.{spent, nextTicket, armedAfresh, armedWith, off, sound};
+ghost use Rattle.timers.specs.Tickets.{usedUp, nextTicket, armedAfresh, armedWith, off, sound};
 
 // The largest counter.
 const LARGEST: u64 = 18446744073709551615;
@@ -11,13 +11,13 @@ pub enum Timer {
 }
 
 // Whether no further ticket can be made.
-pub fn spent(counter: u64) -> bool
-    ensures { λ r. ⌜ r ≡ spent counter ⌝ }
+pub fn used_up(counter: u64) -> bool
+    ensures { λ r. ⌜ r ≡ usedUp counter ⌝ }
 {
     counter == LARGEST
 }
 
-// The counter after arming, which is the new ticket; a spent counter stays as it is.
+// The counter after arming, which is the new ticket; a used up counter stays as it is.
 pub fn next_ticket(counter: u64) -> u64
     ensures { λ r. ⌜ r ≡ nextTicket counter ⌝ }
 {
