@@ -1,68 +1,72 @@
 -- Laws of the slot buffer: what a put changes, and what the joined parts of a message are.
 use Prim.Native.Nat.{ℕ, zero, suc, _+_, _*_, _<_, _≤_}
-use mathlib.Core.Bool.{Bool, true, false}
-use mathlib.Core.List.{List, [], _∷_, _++_}
+use mathlib.Core.Bool.{true}
+use mathlib.Core.List.{List, [], _++_}
 use mathlib.Core.Path.{_≡_, refl, sym, ap, _∙_}
 use native.Mathlib.Omega.{arith}
-use native.Mathlib.Nat.{add-zero}
 use native.Mathlib.Decide.{decLt}
+use native.Mathlib.Nat.{le-refl}
+use native.Mathlib.Numerals.{add-one}
+use lib.Dec.{eqb, leb, ltb}
 use lib.ListN.{length, take, drop, getD}
-use lib.Seq.{drop-drop, take-add, take-all}
-use Rattle.words.specs.Choice.{choose}
+use lib.Seq.{take-all}
+use borrow.Author.Tests.{eq-eqb, le-leb, lt-ltb}
+use Rattle.words.specs.Choice.{both}
 use Rattle.words.specs.Place.{placed}
 use Rattle.words.proofs.Place.{stretch-same, stretch-before, stretch-behind}
-use Rattle.incoming.specs.declared.Slot.{Slot}
-use Rattle.incoming.specs.Slots.{missing, contiguousFrom}
+use Rattle.words.proofs.Tests.{choose-true, both-hold}
+use Rattle.incoming.specs.declared.Incoming.{Incoming}
+use Rattle.incoming.specs.Slots.{missing, sound, contiguous}
+use Rattle.incoming.proofs.SlotLaws.{count-held}
 use Rattle.outgoing.specs.Message.{fragmentOf}
-use Rattle.fragments.specs.Slots.{stretch, filled}
-use Rattle.fragments.specs.Joined.{joinedFrom}
+use Rattle.outgoing.proofs.OutgoingLaws.{fragment-joins}
+use Rattle.fragments.specs.Slots.{stretch, bytesOf, filled, isHandedUp, handedUp}
+use Rattle.fragments.specs.Joined.{handedBelow, joined}
 
-module _ (f : ℕ) (body buffer : List ℕ) (room : 1392 * f + length body ≤ length buffer) where
-  -- After a put a fragment's own bytes are the body,
-  pub filled-here : stretch (length body) (1392 * f) (filled f body buffer) ≡ body
+-- A fragment of up to 1,392 bytes with a number up to 31 is put into a buffer of 44,544.
+module _ (f : ℕ) (body buffer : List ℕ) (whole : length buffer ≡ 44544) (short : length body ≤ 1392) (number : f < 32) where
+  filled-placed : filled f body buffer ≡ placed (1392 * f) body buffer
   unfolding filled
-  filled-here = stretch-same (1392 * f) body buffer room
+  filled-placed =
+      choose-true (both (eqb (length buffer) 44544) (leb (length body) 1392)) (placed (1392 * f) body buffer) buffer
+      (both-hold (eqb (length buffer) 44544) (leb (length body) 1392) (eq-eqb (length buffer) 44544 whole) (le-leb (length body) 1392 short))
+
+  -- After the put a fragment's own bytes are the body,
+  pub filled-here : stretch (length body) (1392 * f) (filled f body buffer) ≡ body
+  filled-here = rw filled-placed (stretch-same (1392 * f) body buffer (omega arith))
 
   -- and another fragment's are as they were.
-  pub filled-other : (g n : ℕ) → (g ≡ f → ⊥) → length body ≤ 1392 → n ≤ 1392
-      → stretch n (1392 * g) (filled f body buffer) ≡ stretch n (1392 * g) buffer
-  unfolding filled
-  filled-other g n apart short most = by-order (decLt g f)
+  pub filled-other : (g n : ℕ) → (g ≡ f → ⊥) → n ≤ 1392 → stretch n (1392 * g) (filled f body buffer) ≡ stretch n (1392 * g) buffer
+  filled-other g n apart most = rw filled-placed (by-order (decLt g f))
     where
       by-order : Dec (g < f) → take n (drop (1392 * g) (placed (1392 * f) body buffer)) ≡ take n (drop (1392 * g) buffer)
-      by-order (yes before) = stretch-before (1392 * f) body buffer room n (1392 * g) (omega arith)
-      by-order (no other) = stretch-behind (1392 * f) body buffer room n (1392 * g) (omega arith)
+      by-order (yes before) = stretch-before (1392 * f) body buffer (omega arith) n (1392 * g) (omega arith)
+      by-order (no other) = stretch-behind (1392 * f) body buffer (omega arith) n (1392 * g) (omega arith)
 
-add-suc-left : (i k : ℕ) → i + suc k ≡ i + 1 + k
-add-suc-left i k = omega arith
+-- Every held fragment has in the buffer the bytes of the message's fragment of that number.
+abbrev pub Carries : Incoming → List ℕ → List ℕ → Type 0
+Carries m buffer message = (f : ℕ) → getD (m .slots) f missing .held ≡ true → bytesOf (m .slots) f buffer ≡ fragmentOf message f
 
--- Every held slot from number i on has in the buffer the bytes of the message's fragment of that number.
-abbrev pub CarriesFrom : ℕ → List Slot → List ℕ → List ℕ → Type 0
-CarriesFrom i slots buffer message =
-    (k : ℕ) → getD slots k missing .held ≡ true → stretch (getD slots k missing .length) (1392 * (i + k)) buffer ≡ fragmentOf message (i + k)
+module _ (m : Incoming) (buffer message : List ℕ) (kept : sound m ≡ true) (whole : length buffer ≡ 44544) (carries : Carries m buffer message) where
+  -- The part handed back for a contiguous number is the message's fragment.
+  handed-fragment : (f : ℕ) → f < contiguous m → handedUp m f buffer ≡ fragmentOf message f
+  unfolding handedUp isHandedUp contiguous
+  handed-fragment f below =
+      choose-true (isHandedUp m f (length buffer)) (bytesOf (m .slots) f buffer) []
+      (both-hold (eqb (length buffer) 44544) _ (eq-eqb (length buffer) 44544 whole) (both-hold (sound m) _ kept (lt-ltb f (contiguous m) below)))
+      ∙ carries f (count-held (m .slots) f missing below)
 
--- One step of joining: a held fragment and what follows, or the end.
-joined-step : (held : Bool) (n c : ℕ) (own rest message : List ℕ) → (held ≡ true → own ≡ take 1392 (drop n message))
-    → rest ≡ take (1392 * c) (drop (n + 1392) message)
-    → choose held (own ++ rest) [] ≡ take (1392 * choose held (c + 1) 0) (drop n message)
-unfolding choose
-joined-step true n c own rest message p q =
-    let count : 1392 * (c + 1) ≡ 1392 + 1392 * c = omega arith in
-    rw (p refl, q, count, take-add 1392 (1392 * c) (drop n message), drop-drop 1392 n message)
-joined-step false n c own rest message p q = refl
+  handed-front : (n : ℕ) → n ≤ contiguous m → handedBelow m buffer n ≡ take (1392 * n) message
+  unfolding handedBelow
+  handed-front zero h = refl
+  handed-front (suc n) h =
+      rw (handed-front n (omega arith), handed-fragment n h) (fragment-joins message n ∙ ap (λ (k : ℕ). take (1392 * k) message) (add-one n))
 
--- Then the joined part is as much of the message as the contiguous count says,
-pub joined-front : (i : ℕ) (slots : List Slot) (buffer message : List ℕ) → CarriesFrom i slots buffer message
-    → joinedFrom i slots buffer ≡ take (1392 * contiguousFrom slots) (drop (1392 * i) message)
-unfolding fragmentOf
-joined-front i [] buffer message h = refl
-joined-front i (s ∷ ss) buffer message h =
-    let place : 1392 * (i + 1) ≡ 1392 * i + 1392 = omega arith in
-    joined-step (s .held) (1392 * i) (contiguousFrom ss) (stretch (s .length) (1392 * i) buffer) (joinedFrom (i + 1) ss buffer) message
-    (λ e. rw (add-zero i) at (h zero e))
-    (joined-front (i + 1) ss buffer message (λ k e. rw (add-suc-left i k) at (h (suc k) e)) ∙ ap (λ (n : ℕ). take (1392 * contiguousFrom ss) (drop n message)) place)
+  -- The joined part is as much of the message as the contiguous count says,
+  pub joined-front : joined m buffer ≡ take (1392 * contiguous m) message
+  unfolding joined
+  joined-front = handed-front (contiguous m) (le-refl (contiguous m))
 
--- and where that reaches its end, the message.
-pub joined-whole : (slots : List Slot) (buffer message : List ℕ) → CarriesFrom 0 slots buffer message
-    → length message ≤ 1392 * contiguousFrom slots → joinedFrom 0 slots buffer ≡ message
-joined-whole slots buffer message h whole = joined-front 0 slots buffer message h ∙ take-all (1392 * contiguousFrom slots) message whole
+  -- and where that reaches its end, the message.
+  pub joined-whole : length message ≤ 1392 * contiguous m → joined m buffer ≡ message
+  joined-whole end = joined-front ∙ take-all (1392 * contiguous m) message end

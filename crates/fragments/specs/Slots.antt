@@ -3,16 +3,17 @@ use Prim.Native.Nat.{ℕ, _+_, _*_}
 use mathlib.Core.Bool.{Bool}
 use mathlib.Core.List.{List, []}
 use lib.ListN.{length, take, drop, getD}
-use lib.Dec.{ltb, eqb}
+use lib.Dec.{ltb, leb, eqb}
 use Rattle.words.specs.Choice.{choose, both}
 use Rattle.words.specs.Place.{placed}
 use Rattle.incoming.specs.declared.Slot.{Slot}
 use Rattle.incoming.specs.declared.Incoming.{Incoming}
 use Rattle.incoming.specs.Slots.{missing, sound, contiguous}
 
--- The slot buffer with a fragment's bytes in their place; all other bytes are as they were.
+-- The slot buffer with a fragment's bytes in their place; all other bytes are as they were. A body over 1,392 bytes, which
+-- would run into the next fragment's, and a buffer of another length are left alone.
 unfoldable pub filled : ℕ → List ℕ → List ℕ → List ℕ
-filled f body buffer = placed (1392 * f) body buffer
+filled f body buffer = choose (both (eqb (length buffer) 44544) (leb (length body) 1392)) (placed (1392 * f) body buffer) buffer
 
 -- n bytes from `at` on.
 abbrev pub stretch : ℕ → ℕ → List ℕ → List ℕ

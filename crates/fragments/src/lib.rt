@@ -5,7 +5,8 @@ use incoming::Slot;
 ghost use mathlib.Core.Path.{_≡_};
 ghost use mathlib.Core.Bool.{not};
 ghost use lib.ListN.{getD, drop};
-ghost use lib.Dec.{eqb};
+ghost use lib.Dec.{eqb, leb};
+ghost use Rattle.words.specs.Choice.{both};
 ghost use Rattle.incoming.specs.Slots.{missing};
 ghost use Rattle.fragments.specs.Judgement.{held, anyHeld, heldAbove, aboveLast, otherLast, lastBelowHeld, contradicts};
 ghost use Rattle.fragments.specs.Slots.{filled, isHandedUp, handedUp};
@@ -84,11 +85,21 @@ pub fn contradicts_held(m: Incoming, f: u16, is_last: bool) -> bool
     words::either(above, words::either(other, below))
 }
 
-// Puts a fragment's bytes into their place of the slot buffer; what has no room there is left out.
+// Whether a body has its place in a slot buffer.
+fn has_place(size: usize, body: usize) -> bool
+    ensures { λ r. ⌜ r ≡ both (eqb size 44544) (leb body 1392) ⌝ }
+{
+    words::both(size == SLOTS_SIZE, body <= 1392)
+}
+
+// Puts a fragment's bytes into their place of the slot buffer. A body over 1,392 bytes, a number above 31 and a buffer of
+// another length leave it as it was.
 pub fn fill(buffer: &mut [u8], f: u16, body: &[u8])
     ensures { λ _. ⌜ now (buffer .exit) ≡ filled f (now (body .entry)) (now (buffer .entry)) ⌝ }
 {
-    words::put(buffer, 1392 * (f as usize), body);
+    if has_place(buffer.len(), body.len()) {
+        words::put(buffer, 1392 * (f as usize), body);
+    }
 }
 
 // Whether number f is handed up: a buffer of the right length, a sound record, a contiguous fragment.

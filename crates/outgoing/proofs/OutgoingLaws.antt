@@ -4,9 +4,12 @@ use mathlib.Core.List.{List, [], _++_}
 use mathlib.Core.Path.{_≡_, refl, sym, ap, _∙_}
 use native.Mathlib.Omega.{arith}
 use lib.ListN.{length, take, drop, length-take, length-drop, drop-of-length-le}
+use lib.Dec.{ltb}
 use lib.Seq.{take-add, take-all, take-nil}
+use borrow.Author.Tests.{lt-ltb}
+use Rattle.words.proofs.Tests.{choose-true}
 use Rattle.outgoing.specs.Message.{fragments, fragmentOf}
-use Rattle.outgoing.specs.Sending.{nextSerial, started}
+use Rattle.outgoing.specs.Sending.{nextSerial, inByte, messageOf}
 
 -- A message has 1 to 32 fragments,
 pub fragments-range : (n : ℕ) → n ≤ 44544 → (1 ≤ fragments n) × (fragments n ≤ 32)
@@ -14,9 +17,11 @@ unfolding fragments
 fragments-range n h = (omega arith, omega arith)
 
 -- so the count of a message that is not over 44,544 fits its byte.
-pub started-count : (n serial : ℕ) → n ≤ 44544 → started n serial .count ≡ fragments n
-unfolding started fragments
-started-count n serial h = omega arith
+pub message-count : (n serial : ℕ) → n ≤ 44544 → messageOf n serial .count ≡ fragments n
+unfolding messageOf inByte
+message-count n serial h =
+    let small : fragments n < 255 = omega (arith, fragments-range n h) in
+    choose-true (ltb (fragments n) 255) (fragments n) 255 (lt-ltb (fragments n) 255 small)
 
 -- Joined in order, the fragments are the message: each goes on where those before it end,
 pub fragment-joins : (m : List ℕ) (f : ℕ) → take (1392 * f) m ++ fragmentOf m f ≡ take (1392 * (f + 1)) m

@@ -6,7 +6,7 @@ use lib.Dec.{eqb}
 use Rattle.words.specs.Choice.{choose}
 use Rattle.flags.specs.Flags.{lastFragment, fragment}
 
--- How many fragments a message of n bytes has; an empty message is one empty fragment.
+-- How many fragments a message of n bytes has; an empty message is one empty fragment: 1 - n is 1 for 0, else 0.
 unfoldable pub fragments : ℕ → ℕ
 fragments n = (n + 1391) / 1392 + (1 - n)
 

@@ -48,23 +48,27 @@ rewound o = record {
   serial = o .serial;
 }
 
--- A message of n bytes, nothing sent or acknowledged. The count is kept in a byte, which a message over 44,544 may not fit.
-unfoldable pub started : ℕ → ℕ → Outgoing
-started n serial = record {
+-- A fragment count as the record keeps it, in a byte; more than 255, which no message has, counts as 255.
+unfoldable pub inByte : ℕ → ℕ
+inByte count = choose (ltb count 255) count 255
+
+-- A message of n bytes, nothing sent or acknowledged.
+unfoldable pub messageOf : ℕ → ℕ → Outgoing
+messageOf n serial = record {
   length = n;
-  count = fragments n % 256;
+  count = inByte (fragments n);
   sent = 0;
   acknowledged = 0;
   serial = serial;
 }
 
 -- A call starts: the serial starts at 0.
-unfoldable pub begun : ℕ → Outgoing
-begun n = started n 0
+unfoldable pub started : ℕ → Outgoing
+started n = messageOf n 0
 
 -- A reply is given: the serial goes on.
 unfoldable pub replied : Outgoing → ℕ → Outgoing
-replied o n = started n (o .serial)
+replied o n = messageOf n (o .serial)
 
 -- No message is out.
 unfoldable pub noMessage : ℕ → Outgoing

@@ -4,7 +4,7 @@ use flags::LAST_FRAGMENT;
 ghost use mathlib.Core.Path.{_≡_};
 ghost use Prim.Native.Nat.{max};
 ghost use Rattle.outgoing.specs.Message.{fragments, fragmentOf, flagsOf};
-ghost use Rattle.outgoing.specs.Sending.{nextSerial, oneMore, afterSend, acknowledgedTo, firstToSend, rewound, started, begun, replied, noMessage, bounded, hasMessage, hasNothing};
+ghost use Rattle.outgoing.specs.Sending.{nextSerial, oneMore, inByte, afterSend, acknowledgedTo, firstToSend, rewound, messageOf, started, replied, noMessage, bounded, hasMessage, hasNothing};
 
 // A message has at most as many bytes: 32 fragments of 1,392.
 pub const MESSAGE_SIZE: u32 = 44544;
@@ -129,14 +129,24 @@ pub fn rewind(o: Outgoing) -> Outgoing
     next
 }
 
-// A message of this length, of which nothing is sent or acknowledged.
-fn start(length: u32, serial: u16) -> Outgoing
-    ensures { λ r. ⌜ r ≡ started length serial ⌝ }
+// A fragment count as the record keeps it; more than 255, which no message has, counts as 255.
+fn counted(count: u32) -> u8
+    ensures { λ r. ⌜ r ≡ inByte count ⌝ }
 {
-    let count = fragments(length);
+    if count < 255 {
+        return count as u8;
+    }
+    255
+}
+
+// A message of this length, of which nothing is sent or acknowledged.
+fn message_of(length: u32, serial: u16) -> Outgoing
+    ensures { λ r. ⌜ r ≡ messageOf length serial ⌝ }
+{
+    let count = counted(fragments(length));
     Outgoing {
         length,
-        count: (count % 256) as u8,
+        count,
         sent: 0,
         acknowledged: 0,
         serial,
@@ -144,17 +154,17 @@ fn start(length: u32, serial: u16) -> Outgoing
 }
 
 // A call starts: its serial starts at 0.
-pub fn begin(length: u32) -> Outgoing
-    ensures { λ r. ⌜ r ≡ begun length ⌝ }
+pub fn start(length: u32) -> Outgoing
+    ensures { λ r. ⌜ r ≡ started length ⌝ }
 {
-    start(length, 0)
+    message_of(length, 0)
 }
 
 // A reply is given: the serial goes on.
 pub fn reply(o: Outgoing, length: u32) -> Outgoing
     ensures { λ r. ⌜ r ≡ replied o length ⌝ }
 {
-    start(length, o.serial)
+    message_of(length, o.serial)
 }
 
 // No message is out.
