@@ -1,7 +1,6 @@
 // The commands: one arm and one function for each.
 use crate::codec;
-use crate::input;
-use crate::input::Window;
+use script::Window;
 
 // What lasts from one command to the next.
 pub(crate) struct State {
@@ -18,7 +17,7 @@ pub(crate) struct State {
 pub(crate) fn fresh() -> State {
     State {
         more: true,
-        window: input::empty(),
+        window: script::empty(),
         used: 0,
         lent: pdu::PDU_SIZE,
     }
@@ -28,7 +27,7 @@ pub(crate) fn fresh() -> State {
 pub(crate) fn done(state: State, taken: usize, used: usize) -> State {
     let mut next = state;
     let window = state.window;
-    next.window = input::advanced(window, taken);
+    next.window = script::advanced(window, taken);
     next.used = used;
     next
 }

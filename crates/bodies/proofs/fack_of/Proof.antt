@@ -14,7 +14,8 @@ returns c =
       size = c .before .before .before .number322 .ensures i;
       serial = c .before .before .number162 .ensures i;
       words = c .before .number163 .ensures i;
-      mask = c .number323 .ensures i }
+      mask = c .number323 .ensures i;
+    }
 
 pub fack-of-spec : {M : Type 1} → statement M
 fack-of-spec =

@@ -29,8 +29,8 @@ loop-again c =
       omega arith,
       search needs,
       row-turn (a .pattern .now) (a .numbers .now) (a .uuids .now) (a .bytes .now) (l .i) (l .at) (l .from) (line (l .end) (l .out)) _ (l .inv .2)
-      _ _ _ _ _ (omega arith) (put .put-next .ensures)
-      (c .before .before .before .numbers-taken .ensures) (c .before .before .onward .ensures) (c .before .uuid-taken .ensures) (c .onward2 .ensures),
+          _ _ _ _ _ (omega arith) (put .put-next .ensures)
+          (c .before .before .before .numbers-taken .ensures) (c .before .before .onward .ensures) (c .before .uuid-taken .ensures) (c .onward2 .ensures),
     )
 
 returns : tie.Need-returns Inv-loop μ-loop

@@ -29,7 +29,7 @@ loop-again c =
       omega arith,
       search needs,
       hex-turn (a .bytes .now) (l .i) (line (l .end) (l .out)) _ (l .inv .2) _ _ _ _ (omega arith)
-      (first .before .digit .ensures) (second .before .digit2 .ensures) (first .put-byte .ensures) (second .put-byte2 .ensures),
+          (first .before .digit .ensures) (second .before .digit2 .ensures) (first .put-byte .ensures) (second .put-byte2 .ensures),
     )
 
 returns : tie.Need-returns Inv-loop μ-loop

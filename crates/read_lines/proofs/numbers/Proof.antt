@@ -1,8 +1,8 @@
--- `drive::codec::numbers` is safe: each number of the header fits its new type.
+-- `read_lines::numbers` meets its contract: each number of the header fits its new type.
 use native.Mathlib.Omega.{arith}
 use borrow.Author.Needs.{needs}
-use Rattle.drive.proofs.codec.numbers.Statement.{statement}
-use Rattle.drive.proofs.codec.numbers.Tie as tie
+use Rattle.read_lines.proofs.numbers.Statement.{statement}
+use Rattle.read_lines.proofs.numbers.Tie as tie
 
 pub numbers-spec : {M : Type 1} → statement M
 numbers-spec =
