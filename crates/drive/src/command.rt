@@ -1,6 +1,8 @@
 // The commands: one arm and one function for each.
 use crate::codec;
-use script::Window;
+use crate::fack;
+use crate::input;
+use crate::input::Window;
 
 // What lasts from one command to the next.
 pub(crate) struct State {
@@ -17,7 +19,7 @@ pub(crate) struct State {
 pub(crate) fn fresh() -> State {
     State {
         more: true,
-        window: script::empty(),
+        window: input::empty(),
         used: 0,
         lent: pdu::PDU_SIZE,
     }
@@ -27,7 +29,7 @@ pub(crate) fn fresh() -> State {
 pub(crate) fn done(state: State, taken: usize, used: usize) -> State {
     let mut next = state;
     let window = state.window;
-    next.window = script::advanced(window, taken);
+    next.window = input::advanced(window, taken);
     next.used = used;
     next
 }
@@ -54,6 +56,7 @@ pub(crate) fn step(rest: &[u8], state: State, out: &mut [u8]) -> State {
     match rest[0] {
         0x21 => codec::read(fields, state, out),
         0x22 => codec::write(fields, state, out),
+        0x23 => fack::fack(fields, state, out),
         _ => bad(state, out),
     }
 }
