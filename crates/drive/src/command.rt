@@ -1,8 +1,7 @@
 // The commands: one arm and one function for each.
 use crate::codec;
 use crate::fack;
-use crate::input;
-use crate::input::Window;
+use script::Window;
 
 // What lasts from one command to the next.
 pub(crate) struct State {
@@ -19,7 +18,7 @@ pub(crate) struct State {
 pub(crate) fn fresh() -> State {
     State {
         more: true,
-        window: input::empty(),
+        window: script::empty(),
         used: 0,
         lent: pdu::PDU_SIZE,
     }
@@ -29,7 +28,7 @@ pub(crate) fn fresh() -> State {
 pub(crate) fn done(state: State, taken: usize, used: usize) -> State {
     let mut next = state;
     let window = state.window;
-    next.window = input::advanced(window, taken);
+    next.window = script::advanced(window, taken);
     next.used = used;
     next
 }

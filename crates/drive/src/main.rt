@@ -3,7 +3,6 @@
 mod codec;
 mod command;
 mod fack;
-mod input;
 
 use command::State;
 use libc::STDOUT_FILENO;
@@ -29,11 +28,11 @@ fn with_room(out: &[u8], used: usize) -> usize {
 }
 
 // One turn: a command, or the end of the input.
-fn turn(script: &mut [u8], out: &mut [u8], state: State) -> State {
+fn turn(buffer: &mut [u8], out: &mut [u8], state: State) -> State {
     let mut next = state;
     next.used = with_room(out, state.used);
-    next.window = input::filled(script, state.window);
-    command::step(input::rest(script, next.window), next, out)
+    next.window = script::filled(buffer, state.window);
+    command::step(script::rest(buffer, next.window), next, out)
 }
 
 // The turns that are left: none at the end.
@@ -48,18 +47,18 @@ fn left(turns: u64, more: bool) -> u64
 
 // All turns. Nothing says that the input ends, so they are counted down from a number that no run
 // uses up.
-fn run(script: &mut [u8], out: &mut [u8]) {
+fn run(buffer: &mut [u8], out: &mut [u8]) {
     let mut state = command::fresh();
     let mut turns = u64::MAX;
     while turns > 0 {
-        state = turn(script, out, state);
+        state = turn(buffer, out, state);
         turns = left(turns - 1, state.more);
     }
     flush(out, state.used);
 }
 
 fn main() {
-    let mut script = io::large_buffer();
+    let mut buffer = io::large_buffer();
     let mut out = io::large_buffer();
-    run(&mut script, &mut out);
+    run(&mut buffer, &mut out);
 }

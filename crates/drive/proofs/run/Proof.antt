@@ -7,10 +7,10 @@ use Rattle.drive.proofs.run.Statement.{statement}
 use Rattle.drive.proofs.run.Tie as tie
 
 abbrev Inv-loop : tie.InvT-loop
-Inv-loop script₀ out₀ state₀ turns₀ script out state turns = (length script ≡ length script₀) × (length out ≡ length out₀)
+Inv-loop buffer₀ out₀ state₀ turns₀ buffer out state turns = (length buffer ≡ length buffer₀) × (length out ≡ length out₀)
 
 abbrev μ-loop : tie.MeasureT-loop
-μ-loop script₀ out₀ state₀ turns₀ script out state turns = turns
+μ-loop buffer₀ out₀ state₀ turns₀ buffer out state turns = turns
 
 pub run-spec : {M : Type 1} → statement M
 run-spec =
