@@ -1,10 +1,31 @@
 //! The reader and the writer of the connectionless PDU: a header of 80 bytes and a body.
 
+use crate::refusal::Refusal;
+
 pub const HEADER_LENGTH: usize = 80;
 pub const BODY_LIMIT: usize = 1_392;
 pub const PDU_LIMIT: usize = HEADER_LENGTH + BODY_LIMIT;
 pub const VERSION: u8 = 4;
 pub const HIGHEST_TYPE: u8 = 10;
+
+pub mod pdu_type {
+    pub const REQUEST: u8 = 0;
+    pub const PING: u8 = 1;
+    pub const RESPONSE: u8 = 2;
+    pub const FAULT: u8 = 3;
+    pub const WORKING: u8 = 4;
+    pub const NOCALL: u8 = 5;
+    pub const REJECT: u8 = 6;
+    pub const ACK: u8 = 7;
+    pub const FACK: u8 = 9;
+}
+
+pub mod flags1 {
+    pub const LAST_FRAGMENT: u8 = 2;
+    pub const FRAGMENT: u8 = 4;
+    pub const NO_FACK: u8 = 8;
+    pub const IDEMPOTENT: u8 = 32;
+}
 
 /// Where each field of the header lies.
 pub mod offset {
@@ -55,6 +76,20 @@ impl ByteOrder {
             _ => None,
         }
     }
+
+    pub fn u16(self, bytes: [u8; 2]) -> u16 {
+        match self {
+            ByteOrder::Little => u16::from_le_bytes(bytes),
+            ByteOrder::Big => u16::from_be_bytes(bytes),
+        }
+    }
+
+    pub fn u32(self, bytes: [u8; 4]) -> u32 {
+        match self {
+            ByteOrder::Little => u32::from_le_bytes(bytes),
+            ByteOrder::Big => u32::from_be_bytes(bytes),
+        }
+    }
 }
 
 /// The fields of a header. Version, representation and body length are not among them: the reader
@@ -84,40 +119,6 @@ pub struct Pdu<'a> {
     pub order: ByteOrder,
     pub header: Header,
     pub body: &'a [u8],
-}
-
-#[derive(Clone, Copy, Debug, PartialEq, Eq)]
-pub enum Refusal {
-    LentBuffer,
-    ShortDatagram,
-    Version,
-    Type,
-    Representation,
-    Authentication,
-    BodyLength,
-}
-
-impl Refusal {
-    /// The number in the table of numbers answered.
-    pub fn number(self) -> u8 {
-        match self {
-            Refusal::LentBuffer => 1,
-            Refusal::ShortDatagram => 3,
-            Refusal::Version => 4,
-            Refusal::Type => 5,
-            Refusal::Representation => 6,
-            Refusal::Authentication => 7,
-            Refusal::BodyLength => 8,
-        }
-    }
-}
-
-/// The number answered: 0, or that of the refusal.
-pub fn answer<T>(result: &Result<T, Refusal>) -> u8 {
-    match result {
-        Ok(_) => 0,
-        Err(refusal) => refusal.number(),
-    }
 }
 
 /// Reads a datagram. The refusals are tried in the order of their numbers.
@@ -183,10 +184,15 @@ pub fn write(header: &Header, body: &[u8], lent: &mut [u8]) -> Result<usize, Ref
     if body.len() > BODY_LIMIT {
         return Err(Refusal::BodyLength);
     }
+    Ok(put_pdu(header, body, lent))
+}
+
+/// The same without a judgement, for a PDU of the machines: these judge what is lent beforehand.
+pub fn put_pdu(header: &Header, body: &[u8], lent: &mut [u8]) -> usize {
     let pdu_length = HEADER_LENGTH + body.len();
     lent[..HEADER_LENGTH].copy_from_slice(&written_header(header, body.len() as u16));
     lent[HEADER_LENGTH..pdu_length].copy_from_slice(body);
-    Ok(pdu_length)
+    pdu_length
 }
 
 /// The header as it is written: always little-endian.
@@ -263,17 +269,11 @@ fn uuid_at(bytes: &HeaderBytes, at: usize, order: ByteOrder) -> Uuid {
 }
 
 fn u16_at(bytes: &HeaderBytes, at: usize, order: ByteOrder) -> u16 {
-    match order {
-        ByteOrder::Little => u16::from_le_bytes(array_at(bytes, at)),
-        ByteOrder::Big => u16::from_be_bytes(array_at(bytes, at)),
-    }
+    order.u16(array_at(bytes, at))
 }
 
 fn u32_at(bytes: &HeaderBytes, at: usize, order: ByteOrder) -> u32 {
-    match order {
-        ByteOrder::Little => u32::from_le_bytes(array_at(bytes, at)),
-        ByteOrder::Big => u32::from_be_bytes(array_at(bytes, at)),
-    }
+    order.u32(array_at(bytes, at))
 }
 
 fn array_at<const LENGTH: usize>(bytes: &HeaderBytes, at: usize) -> [u8; LENGTH] {

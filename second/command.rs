@@ -1,17 +1,36 @@
 //! The commands of a script, decoded from their bytes and encoded into them.
 
-use crate::codec::Header;
+use crate::client_command::{self, ClientEvent};
+use crate::client_record::Client;
+use crate::codec::{Header, Uuid};
 use crate::fack::Held;
+use crate::fields::{Bad, Fields};
 
+const FRESH_CLIENT: u8 = b'C';
+const CLIENT_RECORD: u8 = b'c';
+const LEND: u8 = b'L';
+const CLIENT_START: u8 = 0x01;
+const CLIENT_TRANSMIT: u8 = 0x02;
+const CLIENT_ARRIVE: u8 = 0x03;
+const CLIENT_TIMER: u8 = 0x04;
+const CLIENT_HAND_UP: u8 = 0x05;
 const READ: u8 = 0x21;
 const WRITE: u8 = 0x22;
 const FACK: u8 = 0x23;
 
-/// The longest datagram or body that a read or a write may name.
+/// The longest datagram or body that a command may name, and the longest PDU buffer lent.
 pub const LENGTH_LIMIT: u16 = 2_048;
+
+/// The longest message that a command may name, and the longest slot buffer lent.
+pub const LONG_LENGTH_LIMIT: u32 = 65_536;
 
 #[derive(Clone, Debug, PartialEq, Eq)]
 pub enum Command<'a> {
+    Set(Setting),
+    Client(ClientEvent<'a>),
+    ClientHandUp {
+        fragment_number: u8,
+    },
     Read {
         datagram: &'a [u8],
     },
@@ -26,9 +45,20 @@ pub enum Command<'a> {
     },
 }
 
-/// What the line `bad` stands for: no command, a value not allowed, or an end inside a command.
-#[derive(Clone, Copy, Debug, PartialEq, Eq)]
-pub struct Bad;
+/// A command that sets something and prints nothing.
+#[derive(Clone, Debug, PartialEq, Eq)]
+pub enum Setting {
+    FreshClient {
+        activity: Uuid,
+        ticket_counter: u64,
+    },
+    ClientRecord(Client),
+    /// The lengths of the buffers that are lent from now on.
+    Lend {
+        pdu_length: u16,
+        slot_buffer_length: u32,
+    },
+}
 
 /// The commands of a script in their order; after one that is bad no more come.
 pub fn commands(script: &[u8]) -> Commands<'_> {
@@ -53,17 +83,41 @@ impl<'a> Iterator for Commands<'a> {
 
 fn decode<'a>(byte: u8, fields: &mut Fields<'a>) -> Result<Command<'a>, Bad> {
     match byte {
-        READ => decode_read(fields),
+        FRESH_CLIENT | CLIENT_RECORD | LEND => decode_setting(byte, fields).map(Command::Set),
+        CLIENT_START => client_command::decode_start(fields).map(Command::Client),
+        CLIENT_TRANSMIT => client_command::decode_transmit(fields).map(Command::Client),
+        CLIENT_ARRIVE => client_command::decode_arrive(fields).map(Command::Client),
+        CLIENT_TIMER => client_command::decode_timer(fields).map(Command::Client),
+        CLIENT_HAND_UP => Ok(Command::ClientHandUp {
+            fragment_number: fields.u8()?,
+        }),
+        READ => Ok(Command::Read {
+            datagram: decode_datagram(fields)?,
+        }),
         WRITE => decode_write(fields),
         FACK => decode_fack(fields),
         _ => Err(Bad),
     }
 }
 
-fn decode_read<'a>(fields: &mut Fields<'a>) -> Result<Command<'a>, Bad> {
+fn decode_setting(byte: u8, fields: &mut Fields) -> Result<Setting, Bad> {
+    match byte {
+        FRESH_CLIENT => Ok(Setting::FreshClient {
+            activity: fields.array()?,
+            ticket_counter: fields.u64()?,
+        }),
+        CLIENT_RECORD => client_command::decode_record(fields).map(Setting::ClientRecord),
+        LEND => Ok(Setting::Lend {
+            pdu_length: fields.limited_u16(LENGTH_LIMIT)?,
+            slot_buffer_length: fields.limited_u32(LONG_LENGTH_LIMIT)?,
+        }),
+        _ => Err(Bad),
+    }
+}
+
+pub fn decode_datagram<'a>(fields: &mut Fields<'a>) -> Result<&'a [u8], Bad> {
     let length = fields.limited_u16(LENGTH_LIMIT)?;
-    let datagram = fields.bytes(usize::from(length))?;
-    Ok(Command::Read { datagram })
+    fields.bytes(usize::from(length))
 }
 
 fn decode_write<'a>(fields: &mut Fields<'a>) -> Result<Command<'a>, Bad> {
@@ -101,55 +155,72 @@ fn decode_fack<'a>(fields: &mut Fields<'a>) -> Result<Command<'a>, Bad> {
     })
 }
 
-/// The bytes behind the command byte, taken field by field.
-struct Fields<'a> {
-    rest: &'a [u8],
-}
-
-impl<'a> Fields<'a> {
-    fn bytes(&mut self, length: usize) -> Result<&'a [u8], Bad> {
-        let (taken, rest) = self.rest.split_at_checked(length).ok_or(Bad)?;
-        self.rest = rest;
-        Ok(taken)
-    }
-
-    fn array<const LENGTH: usize>(&mut self) -> Result<[u8; LENGTH], Bad> {
-        let (taken, rest) = self.rest.split_first_chunk().ok_or(Bad)?;
-        self.rest = rest;
-        Ok(*taken)
-    }
-
-    fn u8(&mut self) -> Result<u8, Bad> {
-        self.array().map(u8::from_le_bytes)
-    }
-
-    fn u16(&mut self) -> Result<u16, Bad> {
-        self.array().map(u16::from_le_bytes)
-    }
-
-    fn u32(&mut self) -> Result<u32, Bad> {
-        self.array().map(u32::from_le_bytes)
-    }
-
-    fn limited_u16(&mut self, limit: u16) -> Result<u16, Bad> {
-        let number = self.u16()?;
-        if number > limit {
-            return Err(Bad);
+/// Adds a command to a script.
+pub fn encode(command: &Command, script: &mut Vec<u8>) {
+    script.push(command_byte(command));
+    match command {
+        Command::Set(setting) => encode_setting(setting, script),
+        Command::Client(event) => client_command::encode_event(event, script),
+        Command::ClientHandUp { fragment_number } => script.push(*fragment_number),
+        Command::Read { datagram } => encode_datagram(datagram, script),
+        Command::Write {
+            header,
+            body_length,
+            seed,
+        } => encode_write(header, *body_length, *seed, script),
+        Command::Fack {
+            serial_answered,
+            held,
+        } => {
+            script.extend(serial_answered.to_le_bytes());
+            script.extend(held.0.to_le_bytes());
         }
-        Ok(number)
     }
 }
 
-/// Adds a read command to a script.
-pub fn encode_read(datagram: &[u8], script: &mut Vec<u8>) {
-    script.push(READ);
+fn command_byte(command: &Command) -> u8 {
+    match command {
+        Command::Set(Setting::FreshClient { .. }) => FRESH_CLIENT,
+        Command::Set(Setting::ClientRecord(_)) => CLIENT_RECORD,
+        Command::Set(Setting::Lend { .. }) => LEND,
+        Command::Client(ClientEvent::Start { .. }) => CLIENT_START,
+        Command::Client(ClientEvent::Transmit { .. }) => CLIENT_TRANSMIT,
+        Command::Client(ClientEvent::Arrive { .. }) => CLIENT_ARRIVE,
+        Command::Client(ClientEvent::Timer { .. }) => CLIENT_TIMER,
+        Command::ClientHandUp { .. } => CLIENT_HAND_UP,
+        Command::Read { .. } => READ,
+        Command::Write { .. } => WRITE,
+        Command::Fack { .. } => FACK,
+    }
+}
+
+fn encode_setting(setting: &Setting, script: &mut Vec<u8>) {
+    match setting {
+        Setting::FreshClient {
+            activity,
+            ticket_counter,
+        } => {
+            script.extend(activity);
+            script.extend(ticket_counter.to_le_bytes());
+        }
+        Setting::ClientRecord(client) => client_command::encode_record(client, script),
+        Setting::Lend {
+            pdu_length,
+            slot_buffer_length,
+        } => {
+            script.extend(pdu_length.to_le_bytes());
+            script.extend(slot_buffer_length.to_le_bytes());
+        }
+    }
+}
+
+pub fn encode_datagram(datagram: &[u8], script: &mut Vec<u8>) {
     script.extend((datagram.len() as u16).to_le_bytes());
     script.extend(datagram);
 }
 
-/// Adds a write command to a script.
-pub fn encode_write(header: &Header, body_length: u16, seed: u8, script: &mut Vec<u8>) {
-    script.extend([WRITE, header.pdu_type, header.flags1, header.flags2]);
+fn encode_write(header: &Header, body_length: u16, seed: u8, script: &mut Vec<u8>) {
+    script.extend([header.pdu_type, header.flags1, header.flags2]);
     script.extend(header.serial.to_le_bytes());
     script.extend(header.object);
     script.extend(header.interface);
@@ -164,11 +235,4 @@ pub fn encode_write(header: &Header, body_length: u16, seed: u8, script: &mut Ve
     script.push(header.authentication);
     script.extend(body_length.to_le_bytes());
     script.push(seed);
-}
-
-/// Adds a fack command to a script.
-pub fn encode_fack(serial_answered: u16, held: Held, script: &mut Vec<u8>) {
-    script.push(FACK);
-    script.extend(serial_answered.to_le_bytes());
-    script.extend(held.0.to_le_bytes());
 }

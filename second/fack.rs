@@ -1,10 +1,15 @@
 //! What a fack says of the fragments that are held, word for word as document 01 has it.
 
+use crate::codec::{flags1, ByteOrder};
+
 /// Fragments of a message have the numbers 0 to 31.
 pub const FRAGMENTS: u32 = 32;
 
 const WINDOW: u16 = 43;
 const SIZE: u32 = 1_472;
+
+/// The length of a fack's body without its masks.
+const FIXED_LENGTH: usize = 16;
 
 /// The fragments held: bit f is set where fragment f is.
 #[derive(Clone, Copy, Debug, PartialEq, Eq)]
@@ -34,6 +39,20 @@ impl Held {
             .filter(|j| self.holds((number + 1 + j) % 65_536))
             .fold(0, |mask, j| mask | 1 << j)
     }
+}
+
+/// A fack is sent for a request or response put exactly when no fack and fragment are both clear.
+pub fn is_due(flags: u8) -> bool {
+    flags & (flags1::NO_FACK | flags1::FRAGMENT) == 0
+}
+
+/// Malformed is another version than 0, or another length than the word count says.
+pub fn is_malformed(body: &[u8], order: ByteOrder) -> bool {
+    let Some(fixed) = body.first_chunk::<FIXED_LENGTH>() else {
+        return true;
+    };
+    let words = order.u16([fixed[14], fixed[15]]);
+    fixed[0] != 0 || body.len() != FIXED_LENGTH + 4 * usize::from(words)
 }
 
 /// The body of a fack as it is written, with one mask.

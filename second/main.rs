@@ -4,23 +4,49 @@
 //! Build: `rustc -O --edition 2021 -o OUT second/main.rs`
 
 mod adler;
+mod body;
+mod client;
+mod client_author;
+mod client_command;
+mod client_record;
 mod codec;
 mod command;
+mod counts;
 mod coverage;
+mod coverage_client;
+mod coverage_client_names;
+mod coverage_codec;
 mod datagram;
+mod defect;
 mod drive;
 mod fack;
+mod fields;
+mod incoming;
+mod outgoing;
 mod output;
 mod random;
+mod refusal;
+mod rule;
+mod script_client;
+mod script_client_calls;
+mod script_client_cases;
+mod script_client_defects;
+mod script_client_pdu;
+mod script_client_record;
 mod script_codec;
 mod script_fack;
 mod self_test;
+mod self_test_client;
+mod sent;
+mod stage;
+mod timer;
+mod turn;
 
 use std::io::{self, BufWriter, Read, StdoutLock, Write};
 use std::process::ExitCode;
 
 const USAGE: &str =
-    "usage: second drive | second script codec|fack SEED N | second coverage | second selftest";
+    "usage: second drive | second script codec|fack|client SEED N | second coverage | second selftest";
 
 const OUTPUT_BUFFER: usize = 1 << 16;
 
@@ -63,11 +89,12 @@ fn run(words: &[&str]) -> Result<(), Failure> {
             let script = whole_input()?;
             printing(|output| drive::drive(&script, output))
         }
-        ["script", kind @ ("codec" | "fack"), seed, count] => {
+        ["script", kind @ ("codec" | "fack" | "client"), seed, count] => {
             let seed = number("SEED", seed)?;
             let count = number("N", count)?;
             printing(|output| match *kind {
                 "codec" => script_codec::write_script(seed, count, output),
+                "client" => script_client::write_script(seed, count, output),
                 _ => script_fack::write_script(seed, count, output),
             })
         }

@@ -1,8 +1,15 @@
 //! The lines that `drive` prints.
 
 use crate::adler::adler32;
-use crate::codec::{answer, Pdu, Refusal};
+use crate::client_record::{Client, State};
+use crate::codec::Pdu;
 use crate::fack::{self, Held};
+use crate::incoming::Incoming;
+use crate::outgoing::Outgoing;
+use crate::refusal::{answer, Refusal};
+use crate::sent::{Call, Effect, Notice};
+use crate::stage::Stage;
+use std::fmt::Display;
 use std::io::{self, Write};
 
 const DIGITS: &[u8; 16] = b"0123456789abcdef";
@@ -55,6 +62,105 @@ pub fn fack_line(serial_answered: u16, held: Held, output: &mut impl Write) -> i
     write!(output, "fack {} {} ", held.number(), held.mask())?;
     hex(&fack::body(serial_answered, held.mask()), output)?;
     output.write_all(b"\n")
+}
+
+/// The line of an event of the client, which has taken place on the stage.
+pub fn client_line(
+    result: &Result<Effect, Refusal>,
+    stage: &Stage,
+    output: &mut impl Write,
+) -> io::Result<()> {
+    effect_words(result, &stage.pdu_buffer, output)?;
+    client_fields(&stage.client, output)?;
+    number_field("slots", adler32(stage.client_slots()), output)?;
+    number_field("out", adler32(&stage.pdu_buffer), output)?;
+    output.write_all(b"\n")
+}
+
+pub fn hand_up_line(part: &[u8], output: &mut impl Write) -> io::Result<()> {
+    output.write_all(b"handup ")?;
+    hex(part, output)?;
+    output.write_all(b"\n")
+}
+
+/// The number answered, the PDU and the notice.
+fn effect_words(
+    result: &Result<Effect, Refusal>,
+    pdu_buffer: &[u8],
+    output: &mut impl Write,
+) -> io::Result<()> {
+    let effect = result.clone().unwrap_or_default();
+    write!(output, "{} ", answer(result))?;
+    hex(&pdu_buffer[..effect.pdu_length.unwrap_or(0)], output)?;
+    match effect.notice {
+        None => write!(output, " -"),
+        Some(Notice::Last) => write!(output, " last"),
+        Some(Notice::Count(count)) => write!(output, " count:{count}"),
+        Some(Notice::Fault(status)) => write!(output, " fault:{status}"),
+        Some(Notice::Reject(status)) => write!(output, " reject:{status}"),
+        Some(Notice::Cause(cause)) => write!(output, " cause:{cause}"),
+    }
+}
+
+fn client_fields(client: &Client, output: &mut impl Write) -> io::Result<()> {
+    let call = (client.state != State::Queued).then_some((client.number, &client.call));
+    write!(output, " state={}", client.state.name())?;
+    call_fields(call, output)?;
+    outgoing_fields(&client.outgoing, output)?;
+    number_field("waits", client.waits, output)?;
+    number_field("resends", client.resends, output)?;
+    incoming_fields(&client.incoming, output)?;
+    number_field("tickets", client.tickets.counter, output)?;
+    optional_field("wait", client.wait, output)?;
+    optional_field("ack", client.ack, output)?;
+    hex_field("activity", &client.activity, output)
+}
+
+/// The call number and the call, where the state gives them a meaning.
+fn call_fields(call: Option<(u32, &Call)>, output: &mut impl Write) -> io::Result<()> {
+    let Some((number, call)) = call else {
+        let names = "number idempotent object interface version operation";
+        return names
+            .split(' ')
+            .try_for_each(|name| write!(output, " {name}=-"));
+    };
+    number_field("number", number, output)?;
+    number_field("idempotent", call.idempotent, output)?;
+    hex_field("object", &call.object, output)?;
+    hex_field("interface", &call.interface, output)?;
+    number_field("version", call.version, output)?;
+    number_field("operation", call.operation, output)
+}
+
+fn outgoing_fields(outgoing: &Outgoing, output: &mut impl Write) -> io::Result<()> {
+    let length = (outgoing.fragments != 0).then_some(outgoing.length);
+    optional_field("length", length, output)?;
+    number_field("fragments", outgoing.fragments, output)?;
+    number_field("sent", outgoing.sent, output)?;
+    number_field("acknowledged", outgoing.acknowledged, output)?;
+    number_field("serial", outgoing.serial, output)
+}
+
+fn incoming_fields(incoming: &Incoming, output: &mut impl Write) -> io::Result<()> {
+    let held: Vec<String> = incoming
+        .held_fragments()
+        .map(|(number, length)| format!("{number}:{length}"))
+        .collect();
+    let held = (!held.is_empty()).then(|| held.join(","));
+    optional_field("last", incoming.last, output)?;
+    optional_field("held", held, output)
+}
+
+/// What there is, or `-`.
+fn optional_field(
+    name: &str,
+    value: Option<impl Display>,
+    output: &mut impl Write,
+) -> io::Result<()> {
+    match value {
+        Some(value) => write!(output, " {name}={value}"),
+        None => write!(output, " {name}=-"),
+    }
 }
 
 fn number_field(name: &str, number: impl Into<u64>, output: &mut impl Write) -> io::Result<()> {

@@ -39,23 +39,29 @@ impl Random {
         choices[self.between(0, choices.len() - 1)]
     }
 
+    pub fn shuffle<T>(&mut self, things: &mut [T]) {
+        for place in (1..things.len()).rev() {
+            things.swap(place, self.between(0, place));
+        }
+    }
+
     pub fn bytes(&mut self, length: usize) -> Vec<u8> {
         (0..length).map(|_| self.u8()).collect()
     }
 
-    fn uuid(&mut self) -> [u8; 16] {
+    pub fn uuid(&mut self) -> [u8; 16] {
         (u128::from(self.u64()) << 64 | u128::from(self.u64())).to_le_bytes()
     }
 
     /// Mostly any number; now and then one at an edge.
-    fn field_u16(&mut self) -> u16 {
+    pub fn field_u16(&mut self) -> u16 {
         if self.percent(10) {
             return self.pick(&[0, 1, 255, 256, 32_767, 32_768, 65_534, 65_535]);
         }
         (self.u64() >> 48) as u16
     }
 
-    fn field_u32(&mut self) -> u32 {
+    pub fn field_u32(&mut self) -> u32 {
         if self.percent(10) {
             return self.pick(&[0, 1, 65_535, 65_536, 0x7fff_ffff, 0x8000_0000, 0xffff_ffff]);
         }

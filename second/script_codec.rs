@@ -4,9 +4,11 @@
 //! round in turn; the rest is random.
 
 use crate::codec::{offset, ByteOrder, BODY_LIMIT, HEADER_LENGTH, HIGHEST_TYPE};
-use crate::command::{encode_read, encode_write, LENGTH_LIMIT};
-use crate::datagram::{datagram, u16_bytes};
+use crate::command::{encode, Command, LENGTH_LIMIT};
+use crate::datagram::datagram;
+use crate::defect::{Defect, Draft, DEFECTS};
 use crate::random::Random;
+use crate::turn::{pairs_below, Turn};
 use std::io::{self, Write};
 
 pub fn write_script(seed: u64, count: u64, output: &mut impl Write) -> io::Result<()> {
@@ -20,81 +22,6 @@ pub fn write_script(seed: u64, count: u64, output: &mut impl Write) -> io::Resul
     Ok(())
 }
 
-/// Something wrong with a datagram.
-#[derive(Clone, Copy)]
-enum Defect {
-    CutTo(usize),
-    Version(u8),
-    Type(u8),
-    Representation([u8; 3]),
-    Authentication(u8),
-    /// The body length says one byte more than there is.
-    LengthMore,
-    LengthLess,
-    /// The body length in the other byte order.
-    LengthTurned,
-    LengthSays(u16),
-    /// A body over the limit, with a body length that matches.
-    BodyOf(usize),
-}
-
-/// The defects by the answer that they lead to: 3 to 8.
-const DEFECTS: [&[Defect]; 6] = [
-    &[
-        Defect::CutTo(0),
-        Defect::CutTo(1),
-        Defect::CutTo(2),
-        Defect::CutTo(40),
-        Defect::CutTo(76),
-        Defect::CutTo(78),
-        Defect::CutTo(79),
-    ],
-    &[
-        Defect::Version(0x14),
-        Defect::Version(0),
-        Defect::Version(3),
-        Defect::Version(5),
-        Defect::Version(0x84),
-        Defect::Version(0xff),
-    ],
-    &[
-        Defect::Type(11),
-        Defect::Type(12),
-        Defect::Type(0x20),
-        Defect::Type(0x22),
-        Defect::Type(0x80),
-        Defect::Type(255),
-    ],
-    &[
-        Defect::Representation([32, 0, 0]),
-        Defect::Representation([16, 1, 0]),
-        Defect::Representation([16, 0, 1]),
-        Defect::Representation([0, 1, 0]),
-        Defect::Representation([0, 0, 1]),
-        Defect::Representation([1, 0, 0]),
-        Defect::Representation([17, 0, 0]),
-        Defect::Representation([0, 0, 16]),
-        Defect::Representation([255, 255, 255]),
-    ],
-    &[
-        Defect::Authentication(1),
-        Defect::Authentication(4),
-        Defect::Authentication(0x80),
-        Defect::Authentication(255),
-    ],
-    &[
-        Defect::LengthMore,
-        Defect::LengthLess,
-        Defect::LengthTurned,
-        Defect::LengthSays(1_392),
-        Defect::LengthSays(1_393),
-        Defect::LengthSays(65_456),
-        Defect::LengthSays(65_535),
-        Defect::BodyOf(1_393),
-        Defect::BodyOf(1_968),
-    ],
-];
-
 /// Datagram lengths at which something changes, and some others.
 const BOUNDARY_LENGTHS: [usize; 10] = [79, 80, 81, 1_471, 1_472, 1_473, 0, 1, 40, 2_048];
 
@@ -107,67 +34,6 @@ const BOUNDARY_DEFECTS: [&[Defect]; 6] = [
     DEFECTS[4],
     &[Defect::LengthMore, Defect::LengthLess],
 ];
-
-/// A good datagram that is about to be damaged.
-struct Draft {
-    order: ByteOrder,
-    bytes: Vec<u8>,
-}
-
-impl Draft {
-    fn apply(&mut self, defect: Defect, random: &mut Random) {
-        match defect {
-            Defect::CutTo(length) => self.bytes.truncate(length),
-            Defect::Version(version) => self.put(offset::VERSION, &[version]),
-            Defect::Type(pdu_type) => self.put(offset::TYPE, &[pdu_type]),
-            Defect::Representation(bytes) => self.put(offset::REPRESENTATION, &bytes),
-            Defect::Authentication(byte) => self.put(offset::AUTHENTICATION, &[byte]),
-            Defect::LengthMore => self.put_body_length(self.body_length().wrapping_add(1)),
-            Defect::LengthLess => self.put_body_length(self.body_length().wrapping_sub(1)),
-            Defect::LengthTurned => self.put_body_length(self.body_length().swap_bytes()),
-            Defect::LengthSays(length) => self.put_body_length(length),
-            Defect::BodyOf(length) => {
-                self.bytes.truncate(HEADER_LENGTH);
-                self.bytes.extend(random.bytes(length));
-                self.put_body_length(length as u16);
-            }
-        }
-    }
-
-    /// The length of the body that is there.
-    fn body_length(&self) -> u16 {
-        self.bytes.len().saturating_sub(HEADER_LENGTH) as u16
-    }
-
-    fn put_body_length(&mut self, length: u16) {
-        self.put(offset::BODY_LENGTH, &u16_bytes(length, self.order));
-    }
-
-    /// Bytes behind the datagram's end are left out.
-    fn put(&mut self, at: usize, bytes: &[u8]) {
-        for (place, byte) in self.bytes.iter_mut().skip(at).zip(bytes) {
-            *place = *byte;
-        }
-    }
-}
-
-/// Goes round the numbers below a limit.
-struct Turn {
-    next: usize,
-    limit: usize,
-}
-
-impl Turn {
-    fn new(limit: usize) -> Turn {
-        Turn { next: 0, limit }
-    }
-
-    fn take(&mut self) -> usize {
-        let taken = self.next;
-        self.next = (taken + 1) % self.limit;
-        taken
-    }
-}
 
 struct Author {
     random: Random,
@@ -202,7 +68,8 @@ impl Author {
     fn next_command(&mut self, script: &mut Vec<u8>) {
         if self.random.percent(50) {
             let datagram = self.datagram_to_read();
-            encode_read(&datagram, script);
+            let datagram = &datagram;
+            encode(&Command::Read { datagram }, script);
         } else if self.random.percent(70) {
             self.good_write(script);
         } else {
@@ -313,8 +180,14 @@ impl Author {
     fn good_write(&mut self, script: &mut Vec<u8>) {
         let pdu_type = self.write_types.take() as u8;
         let header = self.random.header(pdu_type);
-        let body_length = self.good_body_length();
-        encode_write(&header, body_length as u16, self.random.u8(), script);
+        let body_length = self.good_body_length() as u16;
+        let seed = self.random.u8();
+        let command = Command::Write {
+            header,
+            body_length,
+            seed,
+        };
+        encode(&command, script);
     }
 
     fn good_body_length(&mut self) -> usize {
@@ -342,7 +215,12 @@ impl Author {
         if defects & 4 != 0 {
             body_length = self.body_length_over_the_limit();
         }
-        encode_write(&header, body_length as u16, self.random.u8(), script);
+        let command = Command::Write {
+            header,
+            body_length: body_length as u16,
+            seed: self.random.u8(),
+        };
+        encode(&command, script);
     }
 
     fn body_length_over_the_limit(&mut self) -> usize {
@@ -352,11 +230,4 @@ impl Author {
         }
         self.random.between(BODY_LIMIT + 1, longest)
     }
-}
-
-/// All pairs of different numbers below a limit, the lower one first.
-fn pairs_below(limit: usize) -> Vec<(usize, usize)> {
-    (0..limit)
-        .flat_map(|low| (low + 1..limit).map(move |high| (low, high)))
-        .collect()
 }

@@ -1,17 +1,21 @@
 //! Scripts of fack commands: many sets of held fragments.
 
-use crate::command::encode_fack;
+use crate::command::{encode, Command};
 use crate::fack::{Held, FRAGMENTS};
 use crate::random::Random;
 use std::io::{self, Write};
 
 pub fn write_script(seed: u64, count: u64, output: &mut impl Write) -> io::Result<()> {
     let mut random = Random::new(seed);
-    let mut command = Vec::new();
+    let mut script = Vec::new();
     for number in 0..count {
-        command.clear();
-        encode_fack(random.u64() as u16, held(number, &mut random), &mut command);
-        output.write_all(&command)?;
+        script.clear();
+        let command = Command::Fack {
+            serial_answered: random.u64() as u16,
+            held: held(number, &mut random),
+        };
+        encode(&command, &mut script);
+        output.write_all(&script)?;
     }
     Ok(())
 }

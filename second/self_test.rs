@@ -1,14 +1,15 @@
 //! A small check of this program against itself and against rows of the papers.
 
 use crate::adler::adler32;
-use crate::codec::{
-    answer, read, write, ByteOrder, Header, Refusal, BODY_LIMIT, HIGHEST_TYPE, PDU_LIMIT,
-};
-use crate::command::{commands, encode_read, encode_write, Bad, Command};
+use crate::codec::{read, write, ByteOrder, Header, BODY_LIMIT, HIGHEST_TYPE, PDU_LIMIT};
+use crate::command::{commands, encode, Command};
 use crate::datagram::datagram;
-use crate::drive::message;
 use crate::fack::Held;
+use crate::fields::Bad;
 use crate::random::Random;
+use crate::refusal::{answer, Refusal};
+use crate::self_test_client;
+use crate::stage::message;
 
 const ROUNDS: usize = 10_000;
 
@@ -34,7 +35,8 @@ pub fn self_test() -> Result<(), &'static str> {
         round_trip(&mut random)?;
     }
     writing_rows(&random.header(7))?;
-    script_round_trip(&mut random)
+    script_round_trip(&mut random)?;
+    self_test_client::self_test()
 }
 
 /// Document 01's bench rows of a fack.
@@ -51,7 +53,7 @@ fn fack_rows() -> Result<(), &'static str> {
     )
 }
 
-fn check(holds: bool, name: &'static str) -> Result<(), &'static str> {
+pub fn check(holds: bool, name: &'static str) -> Result<(), &'static str> {
     if holds {
         Ok(())
     } else {
@@ -206,25 +208,25 @@ fn writing_rows(header: &Header) -> Result<(), &'static str> {
 }
 
 fn script_round_trip(random: &mut Random) -> Result<(), &'static str> {
-    let header = random.header(200);
     let datagram = random.bytes(90);
-    let mut script = Vec::new();
-    encode_write(&header, 2_048, 9, &mut script);
-    encode_read(&datagram, &mut script);
-    script.push(0);
-    let expected = [
-        Ok(Command::Write {
-            header,
+    let whole = [
+        Command::Write {
+            header: random.header(200),
             body_length: 2_048,
             seed: 9,
-        }),
-        Ok(Command::Read {
+        },
+        Command::Read {
             datagram: &datagram,
-        }),
-        Err(Bad),
+        },
     ];
+    let mut script = Vec::new();
+    for command in &whole {
+        encode(command, &mut script);
+    }
+    script.push(0);
+    let decoded = whole.into_iter().map(Ok).chain([Err(Bad)]);
     check(
-        commands(&script).eq(expected),
+        commands(&script).eq(decoded),
         "commands encoded and decoded",
     )
 }

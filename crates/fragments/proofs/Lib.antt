@@ -1,2 +1,3 @@
 pub mod FragmentLaws
 pub mod BufferLaws
+pub mod PutLaws

@@ -5,13 +5,13 @@ use mathlib.Core.List.{List, [], _∷_}
 use mathlib.Core.Path.{_≡_, refl, sym, ap, _∙_}
 use native.Mathlib.Omega.{arith}
 use native.Mathlib.Numerals.{add-one}
-use lib.ListN.{length, drop, getD}
+use lib.ListN.{length, drop, getD, set}
 use lib.Dec.{leb}
-use borrow.Author.Tests.{leb-true}
-use native.Mathlib.Nat.{add-zero, suc-le-suc-iff}
+use borrow.Author.Tests.{leb-true, le-leb}
+use native.Mathlib.Nat.{add-zero, le-refl, suc-le-suc-iff}
 use lib.Seq.{drop-cons, drop-length}
 use Rattle.words.specs.Choice.{choose, both}
-use Rattle.words.proofs.Tests.{choose-true, choose-false, both-true}
+use Rattle.words.proofs.Tests.{choose-true, choose-false, both-hold, both-true}
 use Rattle.incoming.specs.declared.Slot.{Slot}
 use Rattle.incoming.specs.declared.Last.{Last}
 use Rattle.incoming.specs.Slots.{within, slotSound, soundFrom, contiguousFrom}
@@ -61,6 +61,22 @@ count-held [] f d h = absurd (omega arith)
 count-held (s ∷ ss) zero d h = step-below (s .held) (contiguousFrom ss) zero h .0
 count-held (s ∷ ss) (suc f) d h = count-held ss f d (step-below (s .held) (contiguousFrom ss) (suc f) h .1)
 
+-- Holding one more never lets the count fall.
+step-grows : (t : Bool) (a b : ℕ) → a ≤ b → choose t (a + 1) 0 ≤ choose t (b + 1) 0
+unfolding choose
+step-grows true a b h = omega arith
+step-grows false a b h = zero-le
+
+step-held : (t : Bool) (a : ℕ) → choose t (a + 1) 0 ≤ choose true (a + 1) 0
+unfolding choose
+step-held true a = le-refl (a + 1)
+step-held false a = zero-le
+
+pub set-grows : (slots : List Slot) (f n : ℕ) → contiguousFrom slots ≤ contiguousFrom (set slots f (record { held = true; length = n }))
+set-grows [] f n = zero-le
+set-grows (s ∷ ss) zero n = step-held (s .held) (contiguousFrom ss)
+set-grows (s ∷ ss) (suc f) n = step-grows (s .held) (contiguousFrom ss) (contiguousFrom (set ss f (record { held = true; length = n }))) (set-grows ss f n)
+
 -- What is held of a sound record is at most 1,392 long and not above the known last.
 slot-told : (last : Last) (i : ℕ) (isHeld : Bool) (n : ℕ) → slotSound last i isHeld n ≡ true → isHeld ≡ true → (n ≤ 1392) × (within last i ≡ true)
 unfolding slotSound choose
@@ -80,3 +96,25 @@ sound-told last i (s ∷ ss) (suc f) d e h k =
     let index : i + suc f ≡ i + 1 + f = omega arith in
     rw index
     (sound-told last (i + 1) ss f d (both-true (slotSound last i (s .held) (s .length)) (soundFrom last (i + 1) ss) e .1) (suc-le-suc-iff .0 h) k)
+
+-- The other way round: where every held slot is so, all are sound.
+slot-holds : (last : Last) (i : ℕ) (isHeld : Bool) (n : ℕ) → (isHeld ≡ true → (n ≤ 1392) × (within last i ≡ true)) → slotSound last i isHeld n ≡ true
+unfolding slotSound choose
+slot-holds last i true n h = choose-true (leb n 1392) (within last i) false (le-leb n 1392 (h refl .0)) ∙ h refl .1
+slot-holds last i false n h = refl
+
+pub sound-all : (last : Last) (i : ℕ) (slots : List Slot) (d : Slot)
+    → ((g : ℕ) → g < length slots → getD slots g d .held ≡ true → (getD slots g d .length ≤ 1392) × (within last (i + g) ≡ true))
+    → soundFrom last i slots ≡ true
+sound-all last i [] d h = refl
+sound-all last i (s ∷ ss) d h =
+    both-hold (slotSound last i (s .held) (s .length)) (soundFrom last (i + 1) ss) (slot-holds last i (s .held) (s .length) first)
+    (sound-all last (i + 1) ss d later)
+  where
+    first : s .held ≡ true → (s .length ≤ 1392) × (within last i ≡ true)
+    first k = rw add-zero at (h zero (omega arith) k)
+
+    later : (g : ℕ) → g < length ss → getD ss g d .held ≡ true → (getD ss g d .length ≤ 1392) × (within last (i + 1 + g) ≡ true)
+    later g below k =
+        let index : i + 1 + g ≡ i + suc g = omega arith in
+        rw index (h (suc g) (omega arith) k)

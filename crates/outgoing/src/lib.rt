@@ -4,7 +4,7 @@ use flags::LAST_FRAGMENT;
 ghost use mathlib.Core.Path.{_≡_};
 ghost use Prim.Native.Nat.{max};
 ghost use Rattle.outgoing.specs.Message.{fragments, fragmentOf, flagsOf};
-ghost use Rattle.outgoing.specs.Sending.{nextSerial, oneMore, inByte, afterSend, acknowledgedTo, firstToSend, rewound, messageOf, started, replied, noMessage, bounded, hasMessage, hasNothing};
+ghost use Rattle.outgoing.specs.Sending.{nextSerial, oneMore, inByte, afterSend, sendsLast, afterPing, acknowledgedTo, firstToSend, rewound, messageOf, started, replied, noMessage, bounded, hasMessage, hasNothing};
 
 // A message has at most as many bytes: 32 fragments of 1,392.
 pub const MESSAGE_SIZE: u32 = 44544;
@@ -85,6 +85,23 @@ pub fn after_send(o: Outgoing) -> Outgoing
     let serial = next_serial(o.serial);
     let mut next = o;
     next.sent = sent;
+    next.serial = serial;
+    next
+}
+
+// Whether the next fragment to send is the message's last.
+pub fn sends_last(o: Outgoing) -> bool
+    ensures { λ r. ⌜ r ≡ sendsLast o ⌝ }
+{
+    o.sent as u16 + 1 == o.count as u16
+}
+
+// The next ping is sent: the serial goes up.
+pub fn after_ping(o: Outgoing) -> Outgoing
+    ensures { λ r. ⌜ r ≡ afterPing o ⌝ }
+{
+    let serial = next_serial(o.serial);
+    let mut next = o;
     next.serial = serial;
     next
 }

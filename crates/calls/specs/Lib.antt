@@ -1,0 +1,2 @@
+-- PDUs as they are sent.
+pub mod Sent

@@ -1,0 +1,2 @@
+-- What the client's events owe.
+pub mod Returns

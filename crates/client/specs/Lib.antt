@@ -1,0 +1,3 @@
+-- The client call machine.
+pub mod Sending
+pub mod Machine

@@ -1,0 +1,99 @@
+-- What each event of the client gives and leaves, for all that a caller can hand in.
+use Prim.Native.Nat.{ℕ}
+use mathlib.Core.Bool.{Bool}
+use mathlib.Core.List.{List, []}
+use mathlib.Core.Path.{_≡_}
+use lib.ListN.{length}
+use Rattle.words.specs.Choice.{choose}
+use Rattle.answers.specs.declared.Ground.{Ground}
+use Rattle.bodies.specs.Status.{statusReading}
+use Rattle.calls.specs.declared.Call.{Call}
+use Rattle.calls.specs.declared.Sent.{Sent}
+use Rattle.calls.specs.declared.Sent.the-variants.{Nothing}
+use Rattle.fragments.specs.Slots.{filled, handedUp}
+use Rattle.grounds.specs.Entry.{lentGround}
+use Rattle.pdu.specs.Header.{bodyOf}
+use Rattle.reader.specs.declared.Reading.{Reading}
+use Rattle.reader.specs.Reading.{reading}
+use Rattle.client_record.specs.declared.Client.{Client}
+use Rattle.client_record.specs.Rules.{sound}
+use Rattle.client_table.specs.declared.Kind.{Kind}
+use Rattle.client_table.specs.Arrival.{bodyLength, arrivalGround}
+use Rattle.client_table.specs.Local.{startGround, transmitGround, timerGround}
+use Rattle.client_steps.specs.declared.Plan.{Plan}
+use Rattle.client_steps.specs.Rows.{startPlan, transmitPlan, timerPlan}
+use Rattle.client_arrivals.specs.Table.{arrivalPlan}
+use Rattle.client.specs.declared.Outcome.{Outcome}
+use Rattle.client.specs.Sending.{sentOut}
+
+-- What an event gives back: the plan's answer, record and notice, and what was sent.
+unfoldable pub outcomeOf : Plan → Sent → Outcome
+outcomeOf plan sent = record { answer = plan .answer; client = plan .client; sent = sent; notice = plan .notice }
+
+-- Start.
+unfoldable pub starting : Client → Call → ℕ → Outcome
+starting c call length = outcomeOf (startPlan (startGround c length) c call length) Nothing
+
+-- What an event with a PDU buffer gives and leaves.
+pub record Step : Type 0 where
+  pub outcome : Outcome
+  pub out : List ℕ
+
+-- The result and the buffer after an event are those meant.
+pub record Stepped (s : Step) (r : Outcome) (out : List ℕ) : Type 0 where
+  pub outcome : r ≡ s .outcome
+  pub buffer : out ≡ s .out
+
+-- A plan whose PDU is sent, from a message that is lent.
+unfoldable pub sending : Plan → List ℕ → List ℕ → Step
+sending plan message out = record {
+  outcome = outcomeOf plan (sentOut (plan .send) (plan .client) message out .sent);
+  out = sentOut (plan .send) (plan .client) message out .out;
+}
+
+-- Transmit.
+unfoldable pub transmitting : Client → List ℕ → List ℕ → Step
+transmitting c message out = sending (transmitPlan (transmitGround c (length message) (length out)) c) message out
+
+-- A timer event.
+unfoldable pub timing : Client → Kind → ℕ → List ℕ → Step
+timing c kind ticket out = sending (timerPlan (timerGround c kind ticket (length out)) kind c) [] out
+
+-- What an arriving datagram gives and leaves.
+pub record Arrival : Type 0 where
+  pub outcome : Outcome
+  pub slots : List ℕ
+  pub out : List ℕ
+
+-- The result and both buffers after it are those meant.
+pub record Arrived (a : Arrival) (r : Outcome) (slots out : List ℕ) : Type 0 where
+  pub outcome : r ≡ a .outcome
+  pub stored : slots ≡ a .slots
+  pub buffer : out ≡ a .out
+
+-- The slot buffer after a plan: only the bytes of the fragment put differ.
+unfoldable pub storing : Bool → ℕ → List ℕ → List ℕ → List ℕ
+storing put f body slots = choose put (filled f body slots) slots
+
+-- The plan of an arriving PDU.
+unfoldable pub planOf : Client → Ground → Reading → List ℕ → Plan
+planOf c lent r body =
+    arrivalPlan (arrivalGround c lent r body) c (r .header) (bodyLength body) (statusReading (r .little) body .status)
+
+-- What acting on a plan leaves.
+unfoldable pub acted : Plan → ℕ → List ℕ → List ℕ → List ℕ → Arrival
+acted plan f body slots out = record {
+  outcome = sending plan [] out .outcome;
+  slots = storing (plan .put) f body slots;
+  out = sending plan [] out .out;
+}
+
+-- An arriving datagram.
+unfoldable pub arriving : Client → List ℕ → List ℕ → List ℕ → Arrival
+arriving c datagram slots out =
+    acted (planOf c (lentGround (length slots) (length out)) (reading datagram) (bodyOf datagram)) (reading datagram .header .fragment)
+    (bodyOf datagram) slots out
+
+-- The part handed back for number f: none of a record that breaks its rules.
+unfoldable pub handedUpOf : Client → ℕ → List ℕ → List ℕ
+handedUpOf c f slots = choose (sound c) (handedUp (c .incoming) f slots) []

@@ -1,0 +1,189 @@
+// The client call machine: a console's side of an activity. Each event takes the record by value and
+// the lent memory, judges, steps and only then acts.
+use answers::Answer;
+use answers::Ground;
+use calls::Call;
+use calls::Notice;
+use calls::Sent;
+use client_record::Client;
+use client_steps::Plan;
+use client_steps::Send;
+use client_table::Kind;
+use pdu::Header;
+use reader::Reading;
+ghost use mathlib.Core.Path.{_≡_};
+ghost use mathlib.Core.List.{[]};
+ghost use Rattle.calls.specs.Sent.{Posted};
+ghost use Rattle.client.specs.Sending.{pduHeader, requestSent, emptySent, fackSent, sentOut};
+ghost use Rattle.client.specs.Machine.{outcomeOf, Stepped, Arrived, storing, starting, transmitting, timing, planOf, acted, arriving, handedUpOf};
+
+// What an event gives back.
+pub struct Outcome {
+    pub answer: Answer,
+    pub client: Client,
+    pub sent: Sent,
+    pub notice: Notice,
+}
+
+// The header of a PDU of the call that the record is in.
+fn header(kind: u8, flags1: u8, fragment: u16, c: Client) -> Header
+    ensures { λ r. ⌜ r ≡ pduHeader kind flags1 fragment c ⌝ }
+{
+    let call = c.call;
+    let activity = c.activity;
+    let o = c.outgoing;
+    let marked = flags::with(flags1, flags::IDEMPOTENT, call.idempotent);
+    calls::header(
+        kind,
+        marked,
+        o.serial,
+        activity,
+        0,
+        c.number,
+        call,
+        fragment,
+    )
+}
+
+// Sends the request's fragment f.
+fn send_request(f: u8, c: Client, message: &[u8], out: &mut [u8]) -> Sent
+    ensures { λ r. ⌜ Posted (requestSent f c (now (message .entry)) (now (out .entry))) r (now (out .exit)) ⌝ }
+{
+    let o = c.outgoing;
+    let h = header(0, outgoing::flags(o.count, f), f as u16, c);
+    calls::post(h, outgoing::fragment(message, f as u16), out)
+}
+
+// Sends a PDU that has no body.
+fn send_empty(kind: u8, c: Client, out: &mut [u8]) -> Sent
+    ensures { λ r. ⌜ Posted (emptySent kind c (now (out .entry))) r (now (out .exit)) ⌝ }
+{
+    let h = header(kind, 0, 0, c);
+    let none: [u8; 0] = [];
+    calls::post(h, &none, out)
+}
+
+// Sends a fack for the serial answered.
+fn send_fack(serial: u16, c: Client, out: &mut [u8]) -> Sent
+    ensures { λ r. ⌜ Posted (fackSent serial c (now (out .entry))) r (now (out .exit)) ⌝ }
+{
+    let m = c.incoming;
+    let h = header(9, 0, facks::number(m), c);
+    let body = bodies::write_fack(serial, facks::mask(m));
+    calls::post(h, &body, out)
+}
+
+// Sends what a plan says, from the record after the step.
+fn send_out(send: Send, c: Client, message: &[u8], out: &mut [u8]) -> Sent
+    ensures { λ r. ⌜ Posted (sentOut send c (now (message .entry)) (now (out .entry))) r (now (out .exit)) ⌝ }
+{
+    match send {
+        Send::Nothing => Sent::Nothing,
+        Send::Request(f) => send_request(f, c, message, out),
+        Send::Ping => send_empty(1, c, out),
+        Send::Ack => send_empty(7, c, out),
+        Send::Fack(serial) => send_fack(serial, c, out),
+    }
+}
+
+// Puts the arriving fragment where the plan says so.
+fn store(put: bool, f: u16, body: &[u8], slots: &mut [u8])
+    ensures { λ _. ⌜ now (slots .exit) ≡ storing put f (now (body .entry)) (now (slots .entry)) ⌝ }
+{
+    if put {
+        fragments::fill(slots, f, body);
+    }
+}
+
+// What an event gives back of its plan and of what was sent.
+fn outcome_of(plan: Plan, sent: Sent) -> Outcome
+    ensures { λ r. ⌜ r ≡ outcomeOf plan sent ⌝ }
+{
+    let answer = plan.answer;
+    let client = plan.client;
+    let notice = plan.notice;
+    Outcome {
+        answer,
+        client,
+        sent,
+        notice,
+    }
+}
+
+// Start: a call with a message of this length.
+pub fn start(c: Client, call: Call, length: u32) -> Outcome
+    ensures { λ r. ⌜ r ≡ starting c call length ⌝ }
+{
+    let ground = client_table::start(c, length);
+    outcome_of(client_steps::start(ground, c, call, length), Sent::Nothing)
+}
+
+// Transmit: the next fragment of the lent message.
+pub fn transmit(c: Client, message: &[u8], out: &mut [u8]) -> Outcome
+    ensures { λ r. ⌜ Stepped (transmitting c (now (message .entry)) (now (out .entry))) r (now (out .exit)) ⌝ }
+{
+    let ground = client_table::transmit(c, message.len(), out.len());
+    let plan = client_steps::transmit(ground, c);
+    let client = plan.client;
+    let send = plan.send;
+    outcome_of(plan, send_out(send, client, message, out))
+}
+
+// A timer of that kind and ticket.
+pub fn timer(c: Client, kind: Kind, ticket: u64, out: &mut [u8]) -> Outcome
+    ensures { λ r. ⌜ Stepped (timing c kind ticket (now (out .entry))) r (now (out .exit)) ⌝ }
+{
+    let ground = client_table::timer(c, kind, ticket, out.len());
+    let plan = client_steps::timer(ground, kind, c);
+    let client = plan.client;
+    let send = plan.send;
+    let none: [u8; 0] = [];
+    outcome_of(plan, send_out(send, client, &none, out))
+}
+
+// The plan of an arriving PDU.
+fn plan_arrival(c: Client, lent: Ground, reading: Reading, body: &[u8]) -> Plan
+    ensures { λ r. ⌜ r ≡ planOf c lent reading (now (body .entry)) ⌝ }
+{
+    let h = reading.header;
+    let ground = client_table::arrival(c, lent, reading, body);
+    let status = bodies::read_status(body, reading.little);
+    let length = client_table::body_length(body.len());
+    client_arrivals::arrive(ground, c, h, length, status.status)
+}
+
+// Acts on the plan of an arriving PDU.
+fn act(plan: Plan, f: u16, body: &[u8], slots: &mut [u8], out: &mut [u8]) -> Outcome
+    ensures { λ r. ⌜ Arrived (acted plan f (now (body .entry)) (now (slots .entry)) (now (out .entry))) r (now (slots .exit)) (now (out .exit)) ⌝ }
+{
+    let client = plan.client;
+    let send = plan.send;
+    let none: [u8; 0] = [];
+    store(plan.put, f, body, slots);
+    outcome_of(plan, send_out(send, client, &none, out))
+}
+
+// An arriving PDU.
+pub fn arrive(c: Client, datagram: &[u8], slots: &mut [u8], out: &mut [u8]) -> Outcome
+    ensures { λ r. ⌜ Arrived (arriving c (now (datagram .entry)) (now (slots .entry)) (now (out .entry))) r (now (slots .exit)) (now (out .exit)) ⌝ }
+{
+    let reading = reader::read(datagram);
+    let body = reader::body(datagram);
+    let h = reading.header;
+    let lent = grounds::lent(slots.len(), out.len());
+    let plan = plan_arrival(c, lent, reading, body);
+    act(plan, h.fragment, body, slots, out)
+}
+
+// The part of the slot buffer that is fragment f of what was received; empty where f is not
+// contiguous, the record breaks its rules or the buffer has another length.
+pub fn hand_up(c: Client, f: u16, slots: &[u8]) -> &[u8]
+    ensures { λ r. ⌜ now r ≡ handedUpOf c f (now (slots .entry)) ⌝ }
+{
+    let m = c.incoming;
+    let sound = client_record::is_sound(c);
+    if sound {
+        return fragments::hand_up(m, f, slots);
+    }
+    &slots[0..0]
+}

@@ -1,0 +1,17 @@
+-- `client_arrivals::nocall` meets its contract.
+use Rattle.words.proofs.Tests.{tests}
+use Rattle.client_arrivals.specs.Rows.{nocallPlan}
+use borrow.Author.Needs.{needs}
+use Rattle.client_arrivals.proofs.nocall.Statement.{statement}
+use Rattle.client_arrivals.proofs.nocall.Tie as tie
+
+pub nocall-spec : {M : Type 1} → statement M
+unfolding nocallPlan
+nocall-spec =
+    tie.close
+    (tie.spec
+    (λ c κs. search needs)
+    (λ c κs. search needs)
+    (λ c. rw (c .accepted .ensures, c .before .resent .ensures) (search tests))
+    (λ c κs. search needs)
+    (λ c. search tests))

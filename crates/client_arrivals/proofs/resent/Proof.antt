@@ -1,0 +1,17 @@
+-- `client_arrivals::resent` meets its contract.
+use Rattle.client_arrivals.specs.Rows.{resent}
+use borrow.Author.Needs.{needs}
+use Rattle.client_arrivals.proofs.resent.Statement.{statement}
+use Rattle.client_arrivals.proofs.resent.Tie as tie
+
+pub resent-spec : {M : Type 1} → statement M
+unfolding resent
+resent-spec =
+    tie.close
+    (tie.spec
+    (λ c. search needs)
+    (λ c κs. search needs)
+    (λ c κs. search needs)
+    (λ c κs. search needs)
+    (λ c κs. search needs)
+    (λ c. cc))

@@ -1,0 +1,9 @@
+-- `client_arrivals::response` meets its contract.
+use Rattle.client_arrivals.specs.Rows.{responsePlan}
+use borrow.Author.Needs.{needs}
+use Rattle.client_arrivals.proofs.response.Statement.{statement}
+use Rattle.client_arrivals.proofs.response.Tie as tie
+
+pub response-spec : {M : Type 1} → statement M
+unfolding responsePlan
+response-spec = tie.close (tie.spec (λ c κs. search needs) (λ c κs. search needs) (λ c κs. search needs) (λ c. cc))

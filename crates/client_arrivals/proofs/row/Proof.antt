@@ -1,0 +1,32 @@
+-- `client_arrivals::row` meets its contract.
+use Rattle.client_arrivals.specs.Table.{arrivalRow}
+use borrow.Author.Needs.{needs}
+use Rattle.client_arrivals.proofs.row.Statement.{statement}
+use Rattle.client_arrivals.proofs.row.Tie as tie
+
+pub row-spec : {M : Type 1} → statement M
+unfolding arrivalRow
+row-spec =
+    tie.close
+    (tie.spec
+    (λ c. search needs)
+    (λ c κs. search needs)
+    (λ c. search needs)
+    (λ c κs. search needs)
+    (λ c. search needs)
+    (λ c κs. search needs)
+    (λ c. search needs)
+    (λ c κs. search needs)
+    (λ c. search needs)
+    (λ c κs. search needs)
+    (λ c. search needs)
+    (λ c κs. search needs)
+    (λ c. search needs)
+    (λ c κs. search needs)
+    (λ c. rw (c .before .enum-told .given .1, c .response .ensures))
+    (λ c. rw (c .before .enum-told2 .given .1, c .failed .ensures))
+    (λ c. rw (c .before .enum-told3 .given .1, c .failed2 .ensures))
+    (λ c. rw (c .before .enum-told4 .given .1, c .working .ensures))
+    (λ c. rw (c .before .enum-told5 .given .1, c .nocall .ensures))
+    (λ c. rw (c .before .enum-told6 .given .1, c .fack .ensures))
+    (λ c. rw (c .before .enum-told7 .given .1, c .refused .ensures)))

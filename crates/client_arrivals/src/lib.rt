@@ -1,0 +1,168 @@
+// What an arriving PDU's row makes of the client's record.
+use answers::Answer;
+use answers::Ground;
+use calls::Notice;
+use client_record::Client;
+use client_record::State;
+use client_steps::Plan;
+use client_steps::Send;
+use client_table::Event;
+use incoming::Incoming;
+use pdu::Header;
+ghost use mathlib.Core.Path.{_≡_};
+ghost use Prim.Native.Nat.{_<_};
+ghost use Rattle.client_arrivals.specs.Rows.{acknowledged as acknowledgedRecord, fackPlan, putRecord, withIncoming, withResends, putNotice, fackFor, putPlan, responsePlan, workingPlan, resent as resentRecord, nocallPlan};
+ghost use Rattle.client_arrivals.specs.Table.{arrivalRow, arrivalPlan};
+
+// The record after a fack of number g.
+fn acknowledged(c: Client, g: u16) -> Client
+    ensures { λ r. ⌜ r ≡ acknowledgedRecord c g ⌝ }
+{
+    let o = c.outgoing;
+    let count = (grounds::acknowledged_by(g) % 256) as u8;
+    client_steps::with_outgoing(c, outgoing::acknowledge(o, count))
+}
+
+// A fack.
+fn fack(c: Client, g: u16) -> Plan
+    ensures { λ r. ⌜ r ≡ fackPlan c g ⌝ }
+{
+    client_steps::accepted(acknowledged(c, g), Send::Nothing, Notice::Nothing)
+}
+
+// State and timers after a response.
+fn put_record(complete: bool, idempotent: bool, c: Client) -> Client
+    ensures { λ r. ⌜ r ≡ putRecord complete idempotent c ⌝ }
+{
+    if complete {
+        if idempotent {
+            return client_record::to_unarmed(c, State::Complete);
+        }
+        return client_record::to_confirming(c);
+    }
+    client_record::to_waiting(c, State::ReceiveFrags)
+}
+
+// The record with another message received, and the WAIT count 0.
+fn with_incoming(c: Client, m: Incoming) -> Client
+    ensures { λ r. ⌜ r ≡ withIncoming c m ⌝ }
+{
+    let mut next = c;
+    next.incoming = m;
+    next.waits = 0;
+    next
+}
+
+// What is told of a response.
+fn put_notice(complete: bool, count: u16) -> Notice
+    ensures { λ r. ⌜ r ≡ putNotice complete count ⌝ }
+{
+    if complete {
+        return Notice::Last;
+    }
+    Notice::Count(count)
+}
+
+// The fack for what was put, where one is wanted.
+fn fack_for(wanted: bool, serial: u16) -> Send
+    ensures { λ r. ⌜ r ≡ fackFor wanted serial ⌝ }
+{
+    if wanted {
+        return Send::Fack(serial);
+    }
+    Send::Nothing
+}
+
+// A response is put: m is what is held then.
+fn put(c: Client, m: Incoming, flags1: u8, serial: u16) -> Plan
+    ensures { λ r. ⌜ r ≡ putPlan c m flags1 serial ⌝ }
+{
+    let call = c.call;
+    let complete = incoming::is_complete(m);
+    let next = put_record(complete, call.idempotent, c);
+    let notice = put_notice(complete, incoming::count(m));
+    let send = fack_for(grounds::wants_fack(flags1), serial);
+    Plan {
+        answer: Answer::Done,
+        client: with_incoming(next, m),
+        send,
+        notice,
+        put: true,
+    }
+}
+
+// A response.
+fn response(c: Client, flags1: u8, serial: u16, f: u16, length: u16) -> Plan
+    ensures { λ r. ⌜ r ≡ responsePlan c flags1 serial f length ⌝ }
+{
+    let m = c.incoming;
+    let last = grounds::is_last(flags1);
+    put(c, incoming::with(m, f, length, last), flags1, serial)
+}
+
+// Working.
+fn working(c: Client) -> Plan
+    ensures { λ r. ⌜ r ≡ workingPlan c ⌝ }
+{
+    let next = client_steps::with_waits(c, 0);
+    client_steps::accepted(
+        client_record::to_waiting(next, State::Dispatched),
+        Send::Nothing,
+        Notice::Nothing,
+    )
+}
+
+// The record with another count of resends.
+fn with_resends(c: Client, resends: u8) -> Client
+    ensures { λ r. ⌜ r ≡ withResends c resends ⌝ }
+{
+    let mut next = c;
+    next.resends = resends;
+    next
+}
+
+// The record when the request goes out again.
+fn resent(c: Client) -> Client
+    requires { ⌜ c .resends < 5 ⌝ }
+    ensures { λ r. ⌜ r ≡ resentRecord c ⌝ }
+{
+    let o = c.outgoing;
+    let resends = c.resends + 1;
+    let next = client_steps::with_outgoing(c, outgoing::rewind(o));
+    with_resends(client_record::to_unarmed(next, State::SendFrags), resends)
+}
+
+// Nocall.
+fn nocall(c: Client) -> Plan
+    ensures { λ r. ⌜ r ≡ nocallPlan c ⌝ }
+{
+    if c.resends < 5 {
+        return client_steps::accepted(resent(c), Send::Nothing, Notice::Nothing);
+    }
+    client_steps::failed(c, Notice::Cause(2))
+}
+
+// The row of an event.
+fn row(event: Event, c: Client, h: Header, length: u16, status: u32) -> Plan
+    ensures { λ r. ⌜ r ≡ arrivalRow event c h length status ⌝ }
+{
+    match event {
+        Event::Response => response(c, h.flags1, h.serial, h.fragment, length),
+        Event::Fault => client_steps::failed(c, Notice::Fault(status)),
+        Event::Reject => client_steps::failed(c, Notice::Reject(status)),
+        Event::Working => working(c),
+        Event::Nocall => nocall(c),
+        Event::Fack => fack(c, h.fragment),
+        Event::Foreign => client_steps::refused(c, Answer::WrongSide),
+    }
+}
+
+// An arriving PDU, judged.
+pub fn arrive(ground: Ground, c: Client, h: Header, length: u16, status: u32) -> Plan
+    ensures { λ r. ⌜ r ≡ arrivalPlan ground c h length status ⌝ }
+{
+    match ground {
+        Ground::Refuse(answer) => client_steps::refused(c, answer),
+        Ground::Pass => row(client_table::event_of(h.kind), c, h, length, status),
+    }
+}

@@ -1,0 +1,19 @@
+-- `client_record::is_sound` meets its contract.
+use Rattle.client_record.specs.Rules.{sound}
+use borrow.Author.Needs.{needs}
+use Rattle.client_record.proofs.is_sound.Statement.{statement}
+use Rattle.client_record.proofs.is_sound.Tie as tie
+
+pub is-sound-spec : {M : Type 1} → statement M
+unfolding sound
+is-sound-spec =
+    tie.close
+    (tie.spec
+    (λ c κs. search needs)
+    (λ c κs. search needs)
+    (λ c κs. search needs)
+    (λ c κs. search needs)
+    (λ c κs. search needs)
+    (λ c κs. search needs)
+    (λ c κs. search needs)
+    (λ c. cc))

@@ -1,0 +1,17 @@
+-- `client_record::timers_are_sound` meets its contract.
+use Rattle.client_record.specs.Rules.{timersSound}
+use borrow.Author.Needs.{needs}
+use Rattle.client_record.proofs.timers_are_sound.Statement.{statement}
+use Rattle.client_record.proofs.timers_are_sound.Tie as tie
+
+pub timers-are-sound-spec : {M : Type 1} → statement M
+unfolding timersSound
+timers-are-sound-spec =
+    tie.close
+    (tie.spec
+    (λ c κs. search needs)
+    (λ c κs. search needs)
+    (λ c κs. search needs)
+    (λ c κs. search needs)
+    (λ c κs. search needs)
+    (λ c. cc))

@@ -1,0 +1,276 @@
+// The client's record: what a console keeps of its activity, the rules that a record keeps, and the
+// three ways in which a row leaves its timers.
+use calls::Call;
+use incoming::Incoming;
+use outgoing::Outgoing;
+use timers::Timer;
+ghost use mathlib.Core.Path.{_≡_};
+ghost use Rattle.client_record.specs.States.{mayStart, isQueued, isSending, isActive, isDispatched, isWaiting, isConfirming};
+ghost use Rattle.client_record.specs.Rules.{countsSound, messageRule, outgoingSound, timerSound, timersSound, sound};
+ghost use Rattle.client_record.specs.Record.{fresh as freshRecord, timed, waiting, confirming, unarmed};
+
+pub enum State {
+    Queued,
+    SendFrags,
+    Dispatched,
+    ReceiveFrags,
+    AckPending,
+    Complete,
+    Fault,
+}
+
+// The number and the call mean nothing in QUEUED.
+pub struct Client {
+    pub state: State,
+    pub activity: [u8; 16],
+    pub number: u32,
+    pub call: Call,
+    pub outgoing: Outgoing,
+    pub incoming: Incoming,
+    pub waits: u8,
+    pub resends: u8,
+    pub tickets: u64,
+    pub wait: Timer,
+    pub ack: Timer,
+}
+
+// Whether a call can start.
+pub fn may_start(state: State) -> bool
+    ensures { λ r. ⌜ r ≡ mayStart state ⌝ }
+{
+    match state {
+        State::Queued => true,
+        State::SendFrags => false,
+        State::Dispatched => false,
+        State::ReceiveFrags => false,
+        State::AckPending => true,
+        State::Complete => true,
+        State::Fault => true,
+    }
+}
+
+// Whether no call was started yet.
+pub fn is_queued(state: State) -> bool
+    ensures { λ r. ⌜ r ≡ isQueued state ⌝ }
+{
+    match state {
+        State::Queued => true,
+        State::SendFrags => false,
+        State::Dispatched => false,
+        State::ReceiveFrags => false,
+        State::AckPending => false,
+        State::Complete => false,
+        State::Fault => false,
+    }
+}
+
+// Whether fragments are being sent.
+pub fn is_sending(state: State) -> bool
+    ensures { λ r. ⌜ r ≡ isSending state ⌝ }
+{
+    match state {
+        State::Queued => false,
+        State::SendFrags => true,
+        State::Dispatched => false,
+        State::ReceiveFrags => false,
+        State::AckPending => false,
+        State::Complete => false,
+        State::Fault => false,
+    }
+}
+
+// Whether the call is one of the three active states.
+pub fn is_active(state: State) -> bool
+    ensures { λ r. ⌜ r ≡ isActive state ⌝ }
+{
+    match state {
+        State::Queued => false,
+        State::SendFrags => true,
+        State::Dispatched => true,
+        State::ReceiveFrags => true,
+        State::AckPending => false,
+        State::Complete => false,
+        State::Fault => false,
+    }
+}
+
+// Whether the whole request is sent and no response has come.
+pub fn is_dispatched(state: State) -> bool
+    ensures { λ r. ⌜ r ≡ isDispatched state ⌝ }
+{
+    match state {
+        State::Queued => false,
+        State::SendFrags => false,
+        State::Dispatched => true,
+        State::ReceiveFrags => false,
+        State::AckPending => false,
+        State::Complete => false,
+        State::Fault => false,
+    }
+}
+
+// Whether the state names the timer WAIT.
+pub fn is_waiting(state: State) -> bool
+    ensures { λ r. ⌜ r ≡ isWaiting state ⌝ }
+{
+    match state {
+        State::Queued => false,
+        State::SendFrags => false,
+        State::Dispatched => true,
+        State::ReceiveFrags => true,
+        State::AckPending => false,
+        State::Complete => false,
+        State::Fault => false,
+    }
+}
+
+// Whether the state names the timer ACK.
+pub fn is_confirming(state: State) -> bool
+    ensures { λ r. ⌜ r ≡ isConfirming state ⌝ }
+{
+    match state {
+        State::Queued => false,
+        State::SendFrags => false,
+        State::Dispatched => false,
+        State::ReceiveFrags => false,
+        State::AckPending => true,
+        State::Complete => false,
+        State::Fault => false,
+    }
+}
+
+// Whether the counts are at most 5.
+fn counts_are_sound(waits: u8, resends: u8) -> bool
+    ensures { λ r. ⌜ r ≡ countsSound waits resends ⌝ }
+{
+    words::both(waits <= 5, resends <= 5)
+}
+
+// Which rule of the fragment count a state asks for: none out, one that is not all sent, or one.
+fn message_rule(state: State, nothing: bool, unsent: bool, message: bool) -> bool
+    ensures { λ r. ⌜ r ≡ messageRule state nothing unsent message ⌝ }
+{
+    match state {
+        State::Queued => nothing,
+        State::SendFrags => unsent,
+        State::Dispatched => message,
+        State::ReceiveFrags => message,
+        State::AckPending => message,
+        State::Complete => message,
+        State::Fault => message,
+    }
+}
+
+// Whether the message sent keeps the rules of the state.
+fn outgoing_is_sound(state: State, o: Outgoing) -> bool
+    ensures { λ r. ⌜ r ≡ outgoingSound state o ⌝ }
+{
+    let bounded = outgoing::is_bounded(o);
+    let message = outgoing::has_message(o);
+    let nothing = outgoing::has_nothing(o);
+    let unsent = words::both(message, o.sent < o.count);
+    words::both(bounded, message_rule(state, nothing, unsent, message))
+}
+
+// Whether a timer is off, or named by the state and its ticket at most the counter.
+fn timer_is_sound(named: bool, timer: Timer, tickets: u64) -> bool
+    ensures { λ r. ⌜ r ≡ timerSound named timer tickets ⌝ }
+{
+    let off = timers::is_off(timer);
+    let sound = timers::is_sound(timer, tickets);
+    words::both(words::either(named, off), sound)
+}
+
+fn timers_are_sound(state: State, wait: Timer, ack: Timer, tickets: u64) -> bool
+    ensures { λ r. ⌜ r ≡ timersSound state wait ack tickets ⌝ }
+{
+    let waiting = is_waiting(state);
+    let confirming = is_confirming(state);
+    words::both(
+        timer_is_sound(waiting, wait, tickets),
+        timer_is_sound(confirming, ack, tickets),
+    )
+}
+
+// Whether the record keeps its rules.
+pub fn is_sound(c: Client) -> bool
+    ensures { λ r. ⌜ r ≡ sound c ⌝ }
+{
+    let state = c.state;
+    let o = c.outgoing;
+    let m = c.incoming;
+    let wait = c.wait;
+    let ack = c.ack;
+    let counts = counts_are_sound(c.waits, c.resends);
+    let sending = outgoing_is_sound(state, o);
+    let receiving = incoming::is_sound(m);
+    let timing = timers_are_sound(state, wait, ack, c.tickets);
+    words::both(counts, words::both(sending, words::both(receiving, timing)))
+}
+
+// A fresh client: QUEUED, nothing held or armed.
+pub fn fresh(activity: [u8; 16], tickets: u64) -> Client
+    ensures { λ r. ⌜ r ≡ freshRecord activity tickets ⌝ }
+{
+    Client {
+        state: State::Queued,
+        activity,
+        number: 0,
+        call: calls::no_call(),
+        outgoing: outgoing::nothing(0),
+        incoming: incoming::empty(),
+        waits: 0,
+        resends: 0,
+        tickets,
+        wait: Timer::Off,
+        ack: Timer::Off,
+    }
+}
+
+// The record in another state, with these timers and this counter.
+fn with_timers(c: Client, state: State, tickets: u64, wait: Timer, ack: Timer) -> Client
+    ensures { λ r. ⌜ r ≡ timed c state tickets wait ack ⌝ }
+{
+    let activity = c.activity;
+    let call = c.call;
+    let outgoing = c.outgoing;
+    let incoming = c.incoming;
+    Client {
+        state,
+        activity,
+        number: c.number,
+        call,
+        outgoing,
+        incoming,
+        waits: c.waits,
+        resends: c.resends,
+        tickets,
+        wait,
+        ack,
+    }
+}
+
+// To a state with only WAIT armed, afresh.
+pub fn to_waiting(c: Client, state: State) -> Client
+    ensures { λ r. ⌜ r ≡ waiting c state ⌝ }
+{
+    let tickets = timers::next_ticket(c.tickets);
+    let wait = timers::armed_afresh(c.tickets);
+    with_timers(c, state, tickets, wait, Timer::Off)
+}
+
+// To ACK_PENDING with only ACK armed.
+pub fn to_confirming(c: Client) -> Client
+    ensures { λ r. ⌜ r ≡ confirming c ⌝ }
+{
+    let tickets = timers::next_ticket(c.tickets);
+    let ack = timers::armed_afresh(c.tickets);
+    with_timers(c, State::AckPending, tickets, Timer::Off, ack)
+}
+
+// To a state with nothing armed.
+pub fn to_unarmed(c: Client, state: State) -> Client
+    ensures { λ r. ⌜ r ≡ unarmed c state ⌝ }
+{
+    with_timers(c, state, c.tickets, Timer::Off, Timer::Off)
+}

@@ -1,0 +1,17 @@
+-- `client_steps::pinged` meets its contract.
+use Rattle.client_steps.specs.Rows.{pinged}
+use borrow.Author.Needs.{needs}
+use Rattle.client_steps.proofs.pinged.Statement.{statement}
+use Rattle.client_steps.proofs.pinged.Tie as tie
+
+pub pinged-spec : {M : Type 1} → statement M
+unfolding pinged
+pinged-spec =
+    tie.close
+    (tie.spec
+    (λ c. search needs)
+    (λ c κs. search needs)
+    (λ c κs. search needs)
+    (λ c κs. search needs)
+    (λ c κs. search needs)
+    (λ c. cc))

@@ -1,0 +1,9 @@
+-- `client_steps::timer_row` meets its contract.
+use Rattle.client_steps.specs.Rows.{timerRow}
+use borrow.Author.Needs.{needs}
+use Rattle.client_steps.proofs.timer_row.Statement.{statement}
+use Rattle.client_steps.proofs.timer_row.Tie as tie
+
+pub timer-row-spec : {M : Type 1} → statement M
+unfolding timerRow
+timer-row-spec = tie.close (tie.spec (λ c. search needs) (λ c κs. search needs) (λ c. search needs) (λ c κs. search needs) (λ c. cc) (λ c. cc))

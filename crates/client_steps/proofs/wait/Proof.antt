@@ -1,0 +1,17 @@
+-- `client_steps::wait` meets its contract.
+use Rattle.words.proofs.Tests.{tests}
+use Rattle.client_steps.specs.Rows.{waitPlan}
+use borrow.Author.Needs.{needs}
+use Rattle.client_steps.proofs.wait.Statement.{statement}
+use Rattle.client_steps.proofs.wait.Tie as tie
+
+pub wait-spec : {M : Type 1} → statement M
+unfolding waitPlan
+wait-spec =
+    tie.close
+    (tie.spec
+    (λ c κs. search needs)
+    (λ c κs. search needs)
+    (λ c. rw (c .accepted .ensures, c .before .pinged .ensures) (search tests))
+    (λ c κs. search needs)
+    (λ c. rw (c .failed .ensures) (search tests)))

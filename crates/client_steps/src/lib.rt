@@ -1,0 +1,209 @@
+// What an event's row makes of the client's record: the plan of the step, before anything is
+// written. Here are start, transmit and the timers, and what the rows of arriving PDUs share.
+use answers::Answer;
+use answers::Ground;
+use calls::Call;
+use calls::Notice;
+use client_record::Client;
+use client_record::State;
+use client_table::Kind;
+use outgoing::Outgoing;
+use timers::Timer;
+ghost use mathlib.Core.Path.{_≡_};
+ghost use Prim.Native.Nat.{_<_};
+ghost use Rattle.client_steps.specs.Plan.{refused as refusedPlan, accepted as acceptedPlan, withOutgoing, withWaits, failed as failedPlan};
+ghost use Rattle.client_steps.specs.Rows.{nextNumber, started as startedRecord, startPlan, transmitted as transmittedRecord, transmitPlan, pinged as pingedRecord, waitPlan, ackPlan, timerRow, timerPlan};
+
+// What is to be sent: nothing, the request's fragment of that number, a ping, an ack, or a fack for
+// the serial answered.
+pub enum Send {
+    Nothing,
+    Request(u8),
+    Ping,
+    Ack,
+    Fack(u16),
+}
+
+// What a step is to do: the answer, the next record, the PDU to send, the notice, and whether the
+// arriving fragment is put.
+pub struct Plan {
+    pub answer: Answer,
+    pub client: Client,
+    pub send: Send,
+    pub notice: Notice,
+    pub put: bool,
+}
+
+// A refusal: the record stays, nothing is sent, put or told.
+pub fn refused(c: Client, answer: Answer) -> Plan
+    ensures { λ r. ⌜ r ≡ refusedPlan c answer ⌝ }
+{
+    Plan {
+        answer,
+        client: c,
+        send: Send::Nothing,
+        notice: Notice::Nothing,
+        put: false,
+    }
+}
+
+// An accepted event that puts nothing.
+pub fn accepted(c: Client, send: Send, notice: Notice) -> Plan
+    ensures { λ r. ⌜ r ≡ acceptedPlan c send notice ⌝ }
+{
+    Plan {
+        answer: Answer::Done,
+        client: c,
+        send,
+        notice,
+        put: false,
+    }
+}
+
+// The record with another message sent.
+pub fn with_outgoing(c: Client, o: Outgoing) -> Client
+    ensures { λ r. ⌜ r ≡ withOutgoing c o ⌝ }
+{
+    let mut next = c;
+    next.outgoing = o;
+    next
+}
+
+// The record with another WAIT count.
+pub fn with_waits(c: Client, waits: u8) -> Client
+    ensures { λ r. ⌜ r ≡ withWaits c waits ⌝ }
+{
+    let mut next = c;
+    next.waits = waits;
+    next
+}
+
+// The call fails: to FAULT, with nothing armed.
+pub fn failed(c: Client, notice: Notice) -> Plan
+    ensures { λ r. ⌜ r ≡ failedPlan c notice ⌝ }
+{
+    accepted(
+        client_record::to_unarmed(c, State::Fault),
+        Send::Nothing,
+        notice,
+    )
+}
+
+// The number of the next call.
+fn next_number(queued: bool, number: u32) -> u32
+    ensures { λ r. ⌜ r ≡ nextNumber queued number ⌝ }
+{
+    if queued {
+        return 0;
+    }
+    std::num::wrapping_add_u32(number, 1)
+}
+
+// The record of a call that starts.
+fn started(c: Client, call: Call, length: u32) -> Client
+    ensures { λ r. ⌜ r ≡ startedRecord c call length ⌝ }
+{
+    let state = c.state;
+    let activity = c.activity;
+    Client {
+        state: State::SendFrags,
+        activity,
+        number: next_number(client_record::is_queued(state), c.number),
+        call,
+        outgoing: outgoing::start(length),
+        incoming: incoming::empty(),
+        waits: 0,
+        resends: 0,
+        tickets: c.tickets,
+        wait: Timer::Off,
+        ack: Timer::Off,
+    }
+}
+
+// Start, judged.
+pub fn start(ground: Ground, c: Client, call: Call, length: u32) -> Plan
+    ensures { λ r. ⌜ r ≡ startPlan ground c call length ⌝ }
+{
+    match ground {
+        Ground::Refuse(answer) => refused(c, answer),
+        Ground::Pass => accepted(started(c, call, length), Send::Nothing, Notice::Nothing),
+    }
+}
+
+// The record after the next fragment is sent; after the last, to DISPATCHED with WAIT armed.
+fn transmitted(last: bool, c: Client) -> Client
+    ensures { λ r. ⌜ r ≡ transmittedRecord last c ⌝ }
+{
+    let o = c.outgoing;
+    let next = with_outgoing(c, outgoing::after_send(o));
+    if last {
+        return client_record::to_waiting(next, State::Dispatched);
+    }
+    next
+}
+
+// Transmit, judged.
+pub fn transmit(ground: Ground, c: Client) -> Plan
+    ensures { λ r. ⌜ r ≡ transmitPlan ground c ⌝ }
+{
+    let o = c.outgoing;
+    let last = outgoing::sends_last(o);
+    match ground {
+        Ground::Refuse(answer) => refused(c, answer),
+        Ground::Pass => accepted(transmitted(last, c), Send::Request(o.sent), Notice::Nothing),
+    }
+}
+
+// The record after a ping: the serial and the count go up, WAIT is armed afresh.
+fn pinged(c: Client) -> Client
+    requires { ⌜ c .waits < 5 ⌝ }
+    ensures { λ r. ⌜ r ≡ pingedRecord c ⌝ }
+{
+    let o = c.outgoing;
+    let state = c.state;
+    let waits = c.waits + 1;
+    with_waits(
+        client_record::to_waiting(with_outgoing(c, outgoing::after_ping(o)), state),
+        waits,
+    )
+}
+
+// WAIT acts.
+fn wait(c: Client) -> Plan
+    ensures { λ r. ⌜ r ≡ waitPlan c ⌝ }
+{
+    if c.waits < 5 {
+        return accepted(pinged(c), Send::Ping, Notice::Nothing);
+    }
+    failed(c, Notice::Cause(1))
+}
+
+// ACK acts.
+fn ack(c: Client) -> Plan
+    ensures { λ r. ⌜ r ≡ ackPlan c ⌝ }
+{
+    accepted(
+        client_record::to_unarmed(c, State::Complete),
+        Send::Ack,
+        Notice::Nothing,
+    )
+}
+
+fn timer_row(kind: Kind, c: Client) -> Plan
+    ensures { λ r. ⌜ r ≡ timerRow kind c ⌝ }
+{
+    match kind {
+        Kind::Wait => wait(c),
+        Kind::Ack => ack(c),
+    }
+}
+
+// A timer event, judged.
+pub fn timer(ground: Ground, kind: Kind, c: Client) -> Plan
+    ensures { λ r. ⌜ r ≡ timerPlan ground kind c ⌝ }
+{
+    match ground {
+        Ground::Refuse(answer) => refused(c, answer),
+        Ground::Pass => timer_row(kind, c),
+    }
+}

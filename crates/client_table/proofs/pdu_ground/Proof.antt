@@ -1,0 +1,21 @@
+-- `client_table::pdu_ground` meets its contract.
+use Rattle.client_table.specs.Arrival.{pduGround}
+use borrow.Author.Needs.{needs}
+use Rattle.client_table.proofs.pdu_ground.Statement.{statement}
+use Rattle.client_table.proofs.pdu_ground.Tie as tie
+
+pub pdu-ground-spec : {M : Type 1} → statement M
+unfolding pduGround
+pdu-ground-spec =
+    tie.close
+    (tie.spec
+    (λ c κs. search needs)
+    (λ c κs. search needs)
+    (λ c κs. search needs)
+    (λ c κs. search needs)
+    (λ c κs. search needs)
+    (λ c κs. search needs)
+    (λ c κs. search needs)
+    (λ c κs. search needs)
+    (λ c κs. search needs)
+    (λ c. cc))

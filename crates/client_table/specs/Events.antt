@@ -1,0 +1,61 @@
+-- What arrives, by its type number, and what the client's table has for it.
+use Prim.Native.Nat.{ℕ}
+use mathlib.Core.Bool.{Bool, true, false, not}
+use lib.Dec.{eqb}
+use Rattle.words.specs.Choice.{choose}
+use Rattle.answers.specs.declared.Answer.the-variants.{WrongSide}
+use Rattle.answers.specs.declared.Ground.{Ground}
+use Rattle.answers.specs.declared.Ground.the-variants.{Pass, Refuse}
+use Rattle.client_table.specs.declared.Event.{Event}
+use Rattle.client_table.specs.declared.Event.the-variants.{Response, Fault, Reject, Working, Nocall, Fack, Foreign}
+
+-- Types: response 2, fault 3, working 4, nocall 5, reject 6, fack 9; the client takes no other.
+unfoldable pub eventOf : ℕ → Event
+eventOf kind =
+    choose (eqb kind 2) Response
+    (choose (eqb kind 3) Fault
+    (choose (eqb kind 4) Working
+    (choose (eqb kind 5) Nocall
+    (choose (eqb kind 6) Reject
+    (choose (eqb kind 9) Fack
+    Foreign)))))
+
+-- What is judged of a response, of a fault or reject, and of a fack; nothing of the others.
+unfoldable pub byEvent : Event → Ground → Ground → Ground → Ground
+byEvent Response response status fack = response
+byEvent Fault response status fack = status
+byEvent Reject response status fack = status
+byEvent Working response status fack = Pass
+byEvent Nocall response status fack = Pass
+byEvent Fack response status fack = fack
+byEvent Foreign response status fack = Pass
+
+-- 10: a type that is not for this side.
+unfoldable pub sideGround : Event → Ground
+sideGround Response = Pass
+sideGround Fault = Pass
+sideGround Reject = Pass
+sideGround Working = Pass
+sideGround Nocall = Pass
+sideGround Fack = Pass
+sideGround Foreign = Refuse WrongSide
+
+-- Response, fault, reject and fack have a row in the three active states, working and nocall in DISPATCHED.
+unfoldable pub hasRow : Event → Bool → Bool → Bool
+hasRow Response active dispatched = active
+hasRow Fault active dispatched = active
+hasRow Reject active dispatched = active
+hasRow Working active dispatched = dispatched
+hasRow Nocall active dispatched = dispatched
+hasRow Fack active dispatched = active
+hasRow Foreign active dispatched = false
+
+-- Rows that arm a timer: a response unless it completes an idempotent call, and working.
+unfoldable pub arms : Event → Bool → Bool
+arms Response finishes = not finishes
+arms Fault finishes = false
+arms Reject finishes = false
+arms Working finishes = true
+arms Nocall finishes = false
+arms Fack finishes = false
+arms Foreign finishes = false

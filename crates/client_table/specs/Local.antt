@@ -1,0 +1,65 @@
+-- The grounds of start, transmit and the timer events.
+use Prim.Native.Nat.{ℕ}
+use mathlib.Core.Bool.{Bool, true, false, not}
+use lib.Dec.{ltb, leb, eqb}
+use Rattle.words.specs.Choice.{both, either}
+use Rattle.answers.specs.declared.Answer.the-variants.{WrongLength, BrokenRecord, NoRow, NumbersUsedUp}
+use Rattle.answers.specs.declared.Ground.{Ground}
+use Rattle.timers.specs.declared.Timer.{Timer}
+use Rattle.outgoing.specs.Sending.{sendsLast}
+use Rattle.grounds.specs.Order.{first, refuseIf}
+use Rattle.grounds.specs.Timing.{lateGround, ticketGround}
+use Rattle.client_record.specs.declared.State.{State}
+use Rattle.client_record.specs.declared.Client.{Client}
+use Rattle.client_record.specs.States.{mayStart, isQueued, isSending, isWaiting, isConfirming}
+use Rattle.client_record.specs.Rules.{sound}
+use Rattle.client_table.specs.declared.Kind.{Kind}
+use Rattle.client_table.specs.declared.Kind.the-variants.{Wait, Ack}
+
+-- Start: 1 of a message over 44,544; 2; 15 but in QUEUED, ACK_PENDING, COMPLETE and FAULT; 19 after the last number.
+unfoldable pub startGround : Client → ℕ → Ground
+startGround c length =
+    first (refuseIf (ltb 44544 length) WrongLength)
+    (first (refuseIf (not (sound c)) BrokenRecord)
+    (first (refuseIf (not (mayStart (c .state))) NoRow)
+    (refuseIf (both (not (isQueued (c .state))) (eqb (c .number) 4294967295)) NumbersUsedUp)))
+
+-- The message lent has the length that its start gave, where transmit has a row; only the limit is judged elsewhere.
+unfoldable pub sameMessage : State → ℕ → ℕ → Bool
+sameMessage state message length = either (not (isSending state)) (eqb message length)
+
+-- 1, of a transmit: the PDU buffer, a message over 44,544, another message.
+unfoldable pub transmitLent : State → ℕ → ℕ → ℕ → Ground
+transmitLent state message length out =
+    refuseIf (not (both (eqb out 1472) (both (leb message 44544) (sameMessage state message length)))) WrongLength
+
+-- Transmit: 1; 2; 15 but in SEND_FRAGS; 20 where the last fragment is sent, which arms WAIT.
+unfoldable pub transmitGround : Client → ℕ → ℕ → Ground
+transmitGround c message out =
+    first (transmitLent (c .state) message (c .outgoing .length) out)
+    (first (refuseIf (not (sound c)) BrokenRecord)
+    (first (refuseIf (not (isSending (c .state))) NoRow)
+    (ticketGround (sendsLast (c .outgoing)) (c .tickets))))
+
+-- The timer of a kind, and the states that have its row.
+unfoldable pub namedTimer : Kind → Timer → Timer → Timer
+namedTimer Wait wait ack = wait
+namedTimer Ack wait ack = ack
+
+unfoldable pub namedBy : Kind → State → Bool
+namedBy Wait state = isWaiting state
+namedBy Ack state = isConfirming state
+
+-- WAIT arms afresh while its count is below 5.
+unfoldable pub pings : Kind → ℕ → Bool
+pings Wait waits = ltb waits 5
+pings Ack waits = false
+
+-- A timer event: 1 of the PDU buffer; 2; 15 in a state without the timer's row; 18 of a late ticket; 20 where WAIT arms afresh.
+unfoldable pub timerGround : Client → Kind → ℕ → ℕ → Ground
+timerGround c kind ticket out =
+    first (refuseIf (not (eqb out 1472)) WrongLength)
+    (first (refuseIf (not (sound c)) BrokenRecord)
+    (first (refuseIf (not (namedBy kind (c .state))) NoRow)
+    (first (lateGround (namedTimer kind (c .wait) (c .ack)) ticket)
+    (ticketGround (pings kind (c .waits)) (c .tickets)))))

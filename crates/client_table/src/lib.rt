@@ -1,0 +1,306 @@
+// The client's judgement of each event: the ground of document 01's refusals in their order, the
+// lowest position deciding. Nothing is written here.
+use answers::Answer;
+use answers::Ground;
+use client_record::Client;
+use client_record::State;
+use incoming::Incoming;
+use outgoing::MESSAGE_SIZE;
+use reader::Reading;
+use timers::Timer;
+ghost use mathlib.Core.Path.{_≡_};
+ghost use Prim.Native.Nat.{_%_};
+ghost use Rattle.client_table.specs.Events.{eventOf, byEvent, sideGround, hasRow, arms as armsTimer};
+ghost use Rattle.client_table.specs.Arrival.{numberGround, pduGround, completes as completesMessage, rowGround, bodyLength, tableGround, arrivalGround};
+ghost use Rattle.client_table.specs.Local.{startGround, sameMessage, transmitLent, transmitGround, namedTimer, namedBy, pings, timerGround};
+
+// What an arriving PDU is to the client.
+pub enum Event {
+    Response,
+    Fault,
+    Reject,
+    Working,
+    Nocall,
+    Fack,
+    // A type that is not for this side.
+    Foreign,
+}
+
+// The client's timers.
+pub enum Kind {
+    Wait,
+    Ack,
+}
+
+// The last call number.
+const LAST_NUMBER: u32 = 4294967295;
+
+// The client takes types 2 to 6 and 9.
+pub fn event_of(kind: u8) -> Event
+    ensures { λ r. ⌜ r ≡ eventOf kind ⌝ }
+{
+    match kind {
+        2 => Event::Response,
+        3 => Event::Fault,
+        4 => Event::Working,
+        5 => Event::Nocall,
+        6 => Event::Reject,
+        9 => Event::Fack,
+        0..=1 => Event::Foreign,
+        7..=8 => Event::Foreign,
+        10..=255 => Event::Foreign,
+    }
+}
+
+// What is judged of a response, of a fault or reject, and of a fack.
+fn by_event(event: Event, response: Ground, status: Ground, fack: Ground) -> Ground
+    ensures { λ r. ⌜ r ≡ byEvent event response status fack ⌝ }
+{
+    match event {
+        Event::Response => response,
+        Event::Fault => status,
+        Event::Reject => status,
+        Event::Working => Ground::Pass,
+        Event::Nocall => Ground::Pass,
+        Event::Fack => fack,
+        Event::Foreign => Ground::Pass,
+    }
+}
+
+// 10.
+fn side(event: Event) -> Ground
+    ensures { λ r. ⌜ r ≡ sideGround event ⌝ }
+{
+    match event {
+        Event::Response => Ground::Pass,
+        Event::Fault => Ground::Pass,
+        Event::Reject => Ground::Pass,
+        Event::Working => Ground::Pass,
+        Event::Nocall => Ground::Pass,
+        Event::Fack => Ground::Pass,
+        Event::Foreign => Ground::Refuse(Answer::WrongSide),
+    }
+}
+
+// Whether the table has a row for the event: by whether the state is active, and whether it is DISPATCHED.
+fn has_row(event: Event, active: bool, dispatched: bool) -> bool
+    ensures { λ r. ⌜ r ≡ hasRow event active dispatched ⌝ }
+{
+    match event {
+        Event::Response => active,
+        Event::Fault => active,
+        Event::Reject => active,
+        Event::Working => dispatched,
+        Event::Nocall => dispatched,
+        Event::Fack => active,
+        Event::Foreign => false,
+    }
+}
+
+// Whether the row arms a timer: a response unless it completes an idempotent call, and working.
+fn arms(event: Event, finishes: bool) -> bool
+    ensures { λ r. ⌜ r ≡ armsTimer event finishes ⌝ }
+{
+    match event {
+        Event::Response => !finishes,
+        Event::Fault => false,
+        Event::Reject => false,
+        Event::Working => true,
+        Event::Nocall => false,
+        Event::Fack => false,
+        Event::Foreign => false,
+    }
+}
+
+// 13: a number that is not the client's; in QUEUED it has none.
+fn number(state: State, mine: u32, theirs: u32) -> Ground
+    ensures { λ r. ⌜ r ≡ numberGround state mine theirs ⌝ }
+{
+    let queued = client_record::is_queued(state);
+    grounds::refuse_if(words::either(queued, mine != theirs), Answer::OldCall)
+}
+
+// 10, 12, 13, 14.
+fn pdu_ground(event: Event, number: Ground, flags1: u8, f: u16, body: &[u8], little: bool) -> Ground
+    ensures { λ r. ⌜ r ≡ pduGround event number flags1 f (now (body .entry)) little ⌝ }
+{
+    let part = grounds::fragment(flags1, f);
+    let fragment = by_event(event, part, Ground::Pass, Ground::Pass);
+    let status = grounds::status_body(body, little);
+    let fack = grounds::fack_body(body, little);
+    let malformed = by_event(event, Ground::Pass, status, fack);
+    let rest = grounds::first_of(fragment, grounds::first_of(number, malformed));
+    grounds::first_of(side(event), rest)
+}
+
+// Whether all to the last are held once fragment f is put.
+pub fn completes(m: Incoming, f: u16, length: u16, last: bool) -> bool
+    ensures { λ r. ⌜ r ≡ completesMessage m f length last ⌝ }
+{
+    incoming::is_complete(incoming::with(m, f, length, last))
+}
+
+// 15, 16, 17, 20.
+fn row_ground(
+    event: Event,
+    row: bool,
+    m: Incoming,
+    count: u8,
+    f: u16,
+    last: bool,
+    finishes: bool,
+    tickets: u64,
+) -> Ground
+    ensures { λ r. ⌜ r ≡ rowGround event row m count f last finishes tickets ⌝ }
+{
+    let put = grounds::put(m, f, last);
+    let fack = grounds::fack(count, f);
+    let clash = by_event(event, put, Ground::Pass, fack);
+    let ticket = grounds::tickets(arms(event, finishes), tickets);
+    let rest = grounds::first_of(clash, ticket);
+    grounds::first_of(grounds::refuse_if(!row, Answer::NoRow), rest)
+}
+
+// The length of a body as the record keeps it.
+pub fn body_length(length: usize) -> u16
+    ensures { λ r. ⌜ r ≡ length % 65536 ⌝ }
+{
+    (length % 65536) as u16
+}
+
+// 15 to 20, of a PDU that is the event.
+fn table_ground(event: Event, c: Client, flags1: u8, f: u16, length: u16) -> Ground
+    ensures { λ r. ⌜ r ≡ tableGround event c flags1 f length ⌝ }
+{
+    let state = c.state;
+    let m = c.incoming;
+    let call = c.call;
+    let o = c.outgoing;
+    let active = client_record::is_active(state);
+    let dispatched = client_record::is_dispatched(state);
+    let row = has_row(event, active, dispatched);
+    let last = grounds::is_last(flags1);
+    let finishes = words::both(completes(m, f, length, last), call.idempotent);
+    row_ground(event, row, m, o.count, f, last, finishes, c.tickets)
+}
+
+// The ground of an arriving datagram.
+pub fn arrival(c: Client, lent: Ground, reading: Reading, body: &[u8]) -> Ground
+    ensures { λ r. ⌜ r ≡ arrivalGround c lent reading (now (body .entry)) ⌝ }
+{
+    let h = reading.header;
+    let answer = reading.answer;
+    let mine = c.activity;
+    let theirs = h.activity;
+    let state = c.state;
+    let sound = client_record::is_sound(c);
+    let entry = grounds::entry(lent, sound, answer, mine, theirs);
+    let event = event_of(h.kind);
+    let old = number(state, c.number, h.number);
+    let pdu = pdu_ground(event, old, h.flags1, h.fragment, body, reading.little);
+    let table = table_ground(event, c, h.flags1, h.fragment, body_length(body.len()));
+    grounds::first_of(entry, grounds::first_of(pdu, table))
+}
+
+// The ground of a start.
+pub fn start(c: Client, length: u32) -> Ground
+    ensures { λ r. ⌜ r ≡ startGround c length ⌝ }
+{
+    let state = c.state;
+    let long = grounds::refuse_if(MESSAGE_SIZE < length, Answer::WrongLength);
+    let sound = client_record::is_sound(c);
+    let rules = grounds::refuse_if(!sound, Answer::BrokenRecord);
+    let may = client_record::may_start(state);
+    let row = grounds::refuse_if(!may, Answer::NoRow);
+    let queued = client_record::is_queued(state);
+    let up = words::both(!queued, c.number == LAST_NUMBER);
+    let numbers = grounds::refuse_if(up, Answer::NumbersUsedUp);
+    grounds::first_of(
+        long,
+        grounds::first_of(rules, grounds::first_of(row, numbers)),
+    )
+}
+
+// Whether the message lent at a transmit is that of the call, where transmit has a row.
+fn is_same_message(state: State, message: usize, length: u32) -> bool
+    ensures { λ r. ⌜ r ≡ sameMessage state message length ⌝ }
+{
+    let sending = client_record::is_sending(state);
+    words::either(!sending, message == length as usize)
+}
+
+// 1, of a transmit.
+fn transmit_lent(state: State, message: usize, length: u32, out: usize) -> Ground
+    ensures { λ r. ⌜ r ≡ transmitLent state message length out ⌝ }
+{
+    let same = is_same_message(state, message, length);
+    let fits = words::both(message <= MESSAGE_SIZE as usize, same);
+    let whole = words::both(out == pdu::PDU_SIZE, fits);
+    grounds::refuse_if(!whole, Answer::WrongLength)
+}
+
+// The ground of a transmit.
+pub fn transmit(c: Client, message: usize, out: usize) -> Ground
+    ensures { λ r. ⌜ r ≡ transmitGround c message out ⌝ }
+{
+    let state = c.state;
+    let o = c.outgoing;
+    let lent = transmit_lent(state, message, o.length, out);
+    let sound = client_record::is_sound(c);
+    let rules = grounds::refuse_if(!sound, Answer::BrokenRecord);
+    let sending = client_record::is_sending(state);
+    let row = grounds::refuse_if(!sending, Answer::NoRow);
+    let ticket = grounds::tickets(outgoing::sends_last(o), c.tickets);
+    grounds::first_of(
+        lent,
+        grounds::first_of(rules, grounds::first_of(row, ticket)),
+    )
+}
+
+// The timer of a kind.
+fn timer_of(kind: Kind, wait: Timer, ack: Timer) -> Timer
+    ensures { λ r. ⌜ r ≡ namedTimer kind wait ack ⌝ }
+{
+    match kind {
+        Kind::Wait => wait,
+        Kind::Ack => ack,
+    }
+}
+
+// Whether the state has the row of a timer.
+fn is_named(kind: Kind, state: State) -> bool
+    ensures { λ r. ⌜ r ≡ namedBy kind state ⌝ }
+{
+    match kind {
+        Kind::Wait => client_record::is_waiting(state),
+        Kind::Ack => client_record::is_confirming(state),
+    }
+}
+
+// Whether the timer's row arms it afresh.
+fn arms_afresh(kind: Kind, waits: u8) -> bool
+    ensures { λ r. ⌜ r ≡ pings kind waits ⌝ }
+{
+    match kind {
+        Kind::Wait => waits < 5,
+        Kind::Ack => false,
+    }
+}
+
+// The ground of a timer event.
+pub fn timer(c: Client, kind: Kind, ticket: u64, out: usize) -> Ground
+    ensures { λ r. ⌜ r ≡ timerGround c kind ticket out ⌝ }
+{
+    let state = c.state;
+    let wait = c.wait;
+    let ack = c.ack;
+    let lent = grounds::refuse_if(out != pdu::PDU_SIZE, Answer::WrongLength);
+    let sound = client_record::is_sound(c);
+    let rules = grounds::refuse_if(!sound, Answer::BrokenRecord);
+    let named = is_named(kind, state);
+    let row = grounds::refuse_if(!named, Answer::NoRow);
+    let late = grounds::late(timer_of(kind, wait, ack), ticket);
+    let fresh = grounds::tickets(arms_afresh(kind, c.waits), c.tickets);
+    let rest = grounds::first_of(row, grounds::first_of(late, fresh));
+    grounds::first_of(lent, grounds::first_of(rules, rest))
+}

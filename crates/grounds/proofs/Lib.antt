@@ -1,0 +1,2 @@
+-- What passing a chain of grounds tells.
+pub mod EntryLaws

@@ -1,0 +1,10 @@
+-- `grounds::acknowledged_by` meets its contract.
+use Rattle.words.proofs.Tests.{tests}
+use Rattle.grounds.specs.Fack.{acknowledgedBy}
+use borrow.Author.Needs.{needs}
+use Rattle.grounds.proofs.acknowledged_by.Statement.{statement}
+use Rattle.grounds.proofs.acknowledged_by.Tie as tie
+
+pub acknowledged-by-spec : {M : Type 1} → statement M
+unfolding acknowledgedBy
+acknowledged-by-spec = tie.close (tie.spec (λ c κs. search needs) (λ c. search tests))

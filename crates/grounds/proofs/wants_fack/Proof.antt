@@ -1,0 +1,9 @@
+-- `grounds::wants_fack` meets its contract.
+use Rattle.grounds.specs.Fragment.{wantsFack}
+use borrow.Author.Needs.{needs}
+use Rattle.grounds.proofs.wants_fack.Statement.{statement}
+use Rattle.grounds.proofs.wants_fack.Tie as tie
+
+pub wants-fack-spec : {M : Type 1} → statement M
+unfolding wantsFack
+wants-fack-spec = tie.close (tie.spec (λ c κs. search needs) (λ c κs. search needs) (λ c κs. search needs) (λ c. cc))

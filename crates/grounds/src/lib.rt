@@ -1,0 +1,159 @@
+// What both call machines judge alike: the grounds of document 01's "Numbers answered" that do not
+// depend on the side, and the order in which they decide.
+use answers::Answer;
+use answers::Ground;
+use incoming::Incoming;
+use timers::Timer;
+ghost use mathlib.Core.Path.{_≡_};
+ghost use Rattle.grounds.specs.Order.{first, refuseIf, groundOf};
+ghost use Rattle.grounds.specs.Fragment.{isLast, wantsFack, fragmentGround, putGround};
+ghost use Rattle.grounds.specs.Fack.{acknowledgedBy, fackGround, fackBodyGround, statusBodyGround};
+ghost use Rattle.grounds.specs.Entry.{same, lentGround, entryGround};
+ghost use Rattle.grounds.specs.Timing.{lateGround, ticketGround};
+
+// The first of two grounds that refuses.
+pub fn first_of(a: Ground, b: Ground) -> Ground
+    ensures { λ r. ⌜ r ≡ first a b ⌝ }
+{
+    match a {
+        Ground::Pass => b,
+        Ground::Refuse(answer) => Ground::Refuse(answer),
+    }
+}
+
+// The refusal, where the test holds.
+pub fn refuse_if(test: bool, answer: Answer) -> Ground
+    ensures { λ r. ⌜ r ≡ refuseIf test answer ⌝ }
+{
+    if test {
+        return Ground::Refuse(answer);
+    }
+    Ground::Pass
+}
+
+// The ground that an answer stands for: 0 passes.
+pub fn of_answer(answer: Answer) -> Ground
+    ensures { λ r. ⌜ r ≡ groundOf answer ⌝ }
+{
+    let number = answers::number(answer);
+    refuse_if(number != 0, answer)
+}
+
+// Whether two UUIDs are the same.
+pub fn same_uuid(a: [u8; 16], b: [u8; 16]) -> bool
+    ensures { λ r. ⌜ r ≡ same a b ⌝ }
+{
+    let mut i = 0;
+    while i < 16 {
+        if a[i] != b[i] {
+            return false;
+        }
+        i += 1;
+    }
+    true
+}
+
+// 1, of a slot buffer and a PDU buffer.
+pub fn lent(slots: usize, out: usize) -> Ground
+    ensures { λ r. ⌜ r ≡ lentGround slots out ⌝ }
+{
+    let whole = words::both(slots == fragments::SLOTS_SIZE, out == pdu::PDU_SIZE);
+    refuse_if(!whole, Answer::WrongLength)
+}
+
+// 1 to 9, of an arriving datagram: lent lengths, record rules, the reader, the activity.
+pub fn entry(lent: Ground, sound: bool, read: Answer, mine: [u8; 16], theirs: [u8; 16]) -> Ground
+    ensures { λ r. ⌜ r ≡ entryGround lent sound read mine theirs ⌝ }
+{
+    let rules = refuse_if(!sound, Answer::BrokenRecord);
+    let reading = of_answer(read);
+    let equal = same_uuid(mine, theirs);
+    let activity = refuse_if(!equal, Answer::OtherActivity);
+    first_of(lent, first_of(rules, first_of(reading, activity)))
+}
+
+// Whether a fragment is the last: last set, or fragment clear.
+pub fn is_last(flags1: u8) -> bool
+    ensures { λ r. ⌜ r ≡ isLast flags1 ⌝ }
+{
+    let last = flags::is_last(flags1);
+    let part = flags::is_fragment(flags1);
+    words::either(last, !part)
+}
+
+// Whether a put fragment is answered by a fack.
+pub fn wants_fack(flags1: u8) -> bool
+    ensures { λ r. ⌜ r ≡ wantsFack flags1 ⌝ }
+{
+    let unwanted = flags::has_no_fack(flags1);
+    let part = flags::is_fragment(flags1);
+    words::both(!unwanted, !part)
+}
+
+// 12, of a request or response.
+pub fn fragment(flags1: u8, number: u16) -> Ground
+    ensures { λ r. ⌜ r ≡ fragmentGround flags1 number ⌝ }
+{
+    let part = flags::is_fragment(flags1);
+    let alone = words::both(!part, number != 0);
+    refuse_if(words::either(31 < number, alone), Answer::WrongFragment)
+}
+
+// 16 and 17, of a fragment that is to be put.
+pub fn put(m: Incoming, f: u16, is_last: bool) -> Ground
+    ensures { λ r. ⌜ r ≡ putGround m f «is_last» ⌝ }
+{
+    let held = fragments::is_held(m, f);
+    let contradiction = fragments::contradicts_held(m, f, is_last);
+    let repeated = refuse_if(held, Answer::Repeated);
+    first_of(repeated, refuse_if(contradiction, Answer::Contradiction))
+}
+
+// How many fragments a fack acknowledges by its number; 65535 counts as none.
+pub fn acknowledged_by(g: u16) -> u16
+    ensures { λ r. ⌜ r ≡ acknowledgedBy g ⌝ }
+{
+    std::num::wrapping_add_u16(g, 1)
+}
+
+// 17, of a fack for a message of `count` fragments.
+pub fn fack(count: u8, g: u16) -> Ground
+    ensures { λ r. ⌜ r ≡ fackGround count g ⌝ }
+{
+    let acknowledged = acknowledged_by(g);
+    refuse_if((count as u16) < acknowledged, Answer::Contradiction)
+}
+
+// 14, of a fack.
+pub fn fack_body(body: &[u8], little: bool) -> Ground
+    ensures { λ r. ⌜ r ≡ fackBodyGround little (now (body .entry)) ⌝ }
+{
+    let reading = bodies::read_fack(body, little);
+    let answer = reading.answer;
+    of_answer(answer)
+}
+
+// 14, of a fault or reject.
+pub fn status_body(body: &[u8], little: bool) -> Ground
+    ensures { λ r. ⌜ r ≡ statusBodyGround little (now (body .entry)) ⌝ }
+{
+    let reading = bodies::read_status(body, little);
+    let answer = reading.answer;
+    of_answer(answer)
+}
+
+// 18, of a timer event.
+pub fn late(timer: Timer, ticket: u64) -> Ground
+    ensures { λ r. ⌜ r ≡ lateGround timer ticket ⌝ }
+{
+    let armed = timers::is_armed_with(timer, ticket);
+    refuse_if(!armed, Answer::LateTimer)
+}
+
+// 20, where a timer must be armed.
+pub fn tickets(arms: bool, counter: u64) -> Ground
+    ensures { λ r. ⌜ r ≡ ticketGround arms counter ⌝ }
+{
+    let up = timers::used_up(counter);
+    refuse_if(words::both(arms, up), Answer::TicketsUsedUp)
+}

@@ -1,0 +1,180 @@
+//! The script of kind `client`: scenes, each a few events on one record.
+//!
+//! What must not be missed goes round by the turns of a scene; the rest is random.
+
+use crate::client_author::Author;
+use crate::client_record::{Client, State, TimerKind, STATES};
+use crate::codec::pdu_type;
+use crate::random::Random;
+use crate::script_client_calls::whole_call;
+use crate::script_client_cases::{
+    arrival_row, broken_record, fragment_case, impossible_number, malformed_body, no_ticket_left,
+    whole_reply,
+};
+use crate::script_client_defects::{
+    damaged_arrival, defects_at_arrival, defects_at_start, defects_at_timer, defects_at_transmit,
+    refused_arrival,
+};
+use crate::script_client_pdu::{Arriving, OTHER_TYPES};
+use crate::script_client_record::{message_length, sound_record};
+use std::io::{self, Write};
+
+/// Writes the events of its turn.
+type Scene = fn(usize, &mut Author);
+
+/// The scenes of one round, each with how often it comes.
+const ROUND: [(Scene, usize); 16] = [
+    (broken_record, 3),
+    (any_record, 6),
+    (defects_at_arrival, 12),
+    (refused_arrival, 2),
+    (damaged_arrival, 4),
+    (impossible_number, 2),
+    (malformed_body, 2),
+    (arrival_row, 2),
+    (fragment_case, 1),
+    (whole_reply, 1),
+    (no_ticket_left, 1),
+    (defects_at_start, 2),
+    (defects_at_transmit, 4),
+    (defects_at_timer, 4),
+    (wrong_lend, 1),
+    (whole_call, 1),
+];
+
+pub fn write_script(seed: u64, count: u64, output: &mut impl Write) -> io::Result<()> {
+    let mut author = Author::new(seed, count);
+    let mut round = 0;
+    while !author.has_finished() {
+        for (scene, times) in ROUND {
+            for time in 0..times {
+                scene(round * times + time, &mut author);
+            }
+        }
+        output.write_all(&author.take_script())?;
+        round += 1;
+    }
+    Ok(())
+}
+
+fn any_record(turn: usize, author: &mut Author) {
+    let state = STATES[turn % STATES.len()];
+    let client = sound_record(state, &mut author.random);
+    author.set_record(client);
+    for _ in 0..author.random.between(2, 5) {
+        any_event(author);
+    }
+}
+
+fn wrong_lend(turn: usize, author: &mut Author) {
+    let mut client = sound_record(STATES[turn % STATES.len()], &mut author.random);
+    client.incoming.slots[0] = Some(4);
+    author.set_record(client);
+    author.lend_wrong();
+    for _ in 0..3 {
+        any_event(author);
+    }
+    author.write();
+    author.write();
+    author.hand_up(0);
+    author.lend_wrong();
+    author.hand_up(0);
+    author.lend_right();
+}
+
+pub fn state_timer(state: State) -> Option<TimerKind> {
+    [TimerKind::Wait, TimerKind::Ack]
+        .into_iter()
+        .find(|kind| state.names(*kind))
+}
+
+#[derive(Clone, Copy)]
+enum Happening {
+    Start,
+    Transmit,
+    Response,
+    RepeatedResponse,
+    Fack,
+    Failure,
+    Working,
+    Nocall,
+    Timer,
+    LateTimer,
+    HandUp,
+    Other,
+}
+
+const HAPPENINGS: [Happening; 12] = [
+    Happening::Start,
+    Happening::Transmit,
+    Happening::Response,
+    Happening::RepeatedResponse,
+    Happening::Fack,
+    Happening::Failure,
+    Happening::Working,
+    Happening::Nocall,
+    Happening::Timer,
+    Happening::LateTimer,
+    Happening::HandUp,
+    Happening::Other,
+];
+
+/// In how many of a hundred cases each of them happens in a state.
+fn shares(state: State) -> [usize; 12] {
+    match state {
+        State::Queued => [50, 8, 6, 0, 4, 4, 2, 2, 6, 2, 12, 4],
+        State::SendFrags => [4, 38, 16, 4, 13, 6, 5, 5, 3, 0, 3, 3],
+        State::Dispatched => [2, 2, 24, 4, 12, 6, 12, 14, 14, 4, 3, 3],
+        State::ReceiveFrags => [3, 3, 38, 9, 8, 6, 4, 4, 14, 4, 4, 3],
+        State::AckPending => [20, 4, 6, 6, 4, 4, 4, 4, 28, 8, 8, 4],
+        State::Complete | State::Fault => [42, 6, 8, 8, 6, 6, 3, 3, 5, 0, 9, 4],
+    }
+}
+
+fn any_happening(author: &mut Author) -> Happening {
+    let mut drawn = author.random.between(0, 99);
+    for (happening, share) in HAPPENINGS.into_iter().zip(shares(author.client().state)) {
+        if drawn < share {
+            return happening;
+        }
+        drawn -= share;
+    }
+    Happening::Other
+}
+
+/// An event that mostly fits the state.
+pub fn any_event(author: &mut Author) {
+    let happening = any_happening(author);
+    let kind = match state_timer(author.client().state) {
+        Some(kind) if author.random.percent(85) => kind,
+        _ => author.random.pick(&[TimerKind::Wait, TimerKind::Ack]),
+    };
+    match happening {
+        Happening::Start => {
+            let length = message_length(&mut author.random);
+            author.start(length);
+        }
+        Happening::Transmit => author.transmit(),
+        Happening::Timer => author.timer(kind),
+        Happening::LateTimer => author.late_timer(kind),
+        Happening::HandUp => {
+            let number = author.random.pick(&[0, 1, 2, 31, 32, 255]);
+            author.hand_up(number);
+        }
+        _ => author.arrive(|client, random| any_arriving(happening, client, random)),
+    }
+}
+
+fn any_arriving(happening: Happening, client: &Client, random: &mut Random) -> Arriving {
+    let failure = random.pick(&[pdu_type::FAULT, pdu_type::REJECT]);
+    let pdu_type = match happening {
+        Happening::Response => return Arriving::response(client, random),
+        Happening::RepeatedResponse => return Arriving::repeated_response(client, random),
+        Happening::Fack => return Arriving::fack(client, random),
+        Happening::Failure => failure,
+        Happening::Working => pdu_type::WORKING,
+        Happening::Nocall => pdu_type::NOCALL,
+        _ => random.pick(&OTHER_TYPES),
+    };
+    Arriving::of_type(pdu_type, client, random)
+}

@@ -1,0 +1,180 @@
+//! Scenes of a client script that go round the cases of one point: a rule, a row, a refusal.
+
+use crate::client_author::Author;
+use crate::client_record::{can_break_alone, Client, State, TimerKind, ACTIVE_STATES, STATES};
+use crate::codec::{flags1, pdu_type, ByteOrder, BODY_LIMIT};
+use crate::incoming::Incoming;
+use crate::outgoing::Outgoing;
+use crate::random::Random;
+use crate::rule::{Rule, CLIENT_RULES};
+use crate::script_client::state_timer;
+use crate::script_client_pdu::{Arriving, IMPOSSIBLE_WAYS, LAST_OF_SEVERAL, MALFORMED_WAYS};
+use crate::script_client_pdu::{ONE_OF_SEVERAL, WHOLE};
+use crate::script_client_record::{break_rule, set_counter, sound_record};
+use crate::timer::RETRY_LIMIT;
+use crate::turn::Choices;
+
+/// Every event meets a record that breaks one rule; there is something that would be handed up.
+pub fn broken_record(turn: usize, author: &mut Author) {
+    let breaks: Vec<(Rule, State)> = STATES
+        .iter()
+        .flat_map(|state| CLIENT_RULES.map(|rule| (rule, *state)))
+        .filter(|(rule, state)| can_break_alone(*rule, *state))
+        .collect();
+    let (rule, state) = breaks[turn % breaks.len()];
+    let mut client = sound_record(state, &mut author.random);
+    client.incoming.slots[0] = Some(4);
+    break_rule(&mut client, rule, &mut author.random);
+    author.set_record(client);
+    author.start(8);
+    author.transmit();
+    author.arrive(Arriving::response);
+    author.timer(state_timer(state).unwrap_or(TimerKind::Wait));
+    author.hand_up(0);
+}
+
+/// A record in which a timer can still be armed.
+fn record_with_tickets(state: State, random: &mut Random) -> Client {
+    let mut client = sound_record(state, random);
+    let counter = client.tickets.counter.min(u64::MAX - 1);
+    set_counter(&mut client, counter);
+    client
+}
+
+/// A reply that is not one of several fragments, with its four sets of flags and of any length.
+pub fn whole_reply(turn: usize, author: &mut Author) {
+    let mut choices = Choices::of(turn);
+    let state = choices.pick(&ACTIVE_STATES);
+    let mut client = record_with_tickets(state, &mut author.random);
+    client.call.idempotent = choices.bool();
+    client.incoming = Incoming::empty();
+    author.set_record(client);
+    let fragment_bits = choices.pick(&[WHOLE, flags1::LAST_FRAGMENT]);
+    let no_fack = choices.pick(&[0, flags1::NO_FACK]);
+    let length = [0, 1, 100, BODY_LIMIT - 1, BODY_LIMIT][turn % 5];
+    author.arrive(|client, random| {
+        let mut reply = Arriving::response_of(0, fragment_bits, client, random);
+        reply.header.flags1 = reply.header.flags1 & !flags1::NO_FACK | no_fack;
+        reply.body = random.bytes(length);
+        reply
+    });
+    author.hand_up(0);
+}
+
+/// Fragments of a reply of several, at the edges of what is put and what contradicts.
+pub fn fragment_case(turn: usize, author: &mut Author) {
+    let mut choices = Choices::of(turn);
+    let mut client = record_with_tickets(choices.pick(&ACTIVE_STATES), &mut author.random);
+    let bits = author.random.pick(&[ONE_OF_SEVERAL, LAST_OF_SEVERAL]);
+    let middle = author.random.between(1, 30);
+    let known_last = Some(middle as u8);
+    let (last, held, number, bits) = match choices.below(7) {
+        // Above the known last.
+        0 => (known_last, 0..0, middle + 1, bits),
+        // Another known last.
+        1 => (known_last, 0..0, middle - 1, LAST_OF_SEVERAL),
+        // A last one below one held.
+        2 => (None, middle..middle + 1, middle - 1, LAST_OF_SEVERAL),
+        // At the known last, not marked last.
+        3 => (known_last, 0..0, middle, ONE_OF_SEVERAL),
+        // All below the known last are held then, but not itself.
+        4 => (known_last, 0..middle - 1, middle - 1, ONE_OF_SEVERAL),
+        // The highest number, which is not marked last.
+        5 => (None, 0..0, 31, ONE_OF_SEVERAL),
+        _ => (None, 0..0, 31, LAST_OF_SEVERAL),
+    };
+    client.incoming = Incoming::empty();
+    client.incoming.last = last;
+    client.incoming.slots[held].fill(Some(3));
+    author.set_record(client);
+    author.arrive(|client, random| Arriving::response_of(number as u16, bits, client, random));
+}
+
+/// Rows that arm nothing are done also where no ticket is left.
+pub fn no_ticket_left(turn: usize, author: &mut Author) {
+    let mut choices = Choices::of(turn);
+    let case = choices.below(9);
+    let state = match case {
+        0 => State::SendFrags,
+        1 => State::AckPending,
+        2 => choices.pick(&[State::Dispatched, State::ReceiveFrags]),
+        3 => choices.pick(&[State::AckPending, State::Complete, State::Fault]),
+        4 => State::Dispatched,
+        _ => choices.pick(&ACTIVE_STATES),
+    };
+    let client = record_without_tickets(state, &mut author.random);
+    author.set_record(client);
+    match case {
+        0 => author.transmit(),
+        1 => author.timer(TimerKind::Ack),
+        2 => author.timer(TimerKind::Wait),
+        3 => author.start(0),
+        4 => author.arrive(|client, random| Arriving::of_type(pdu_type::NOCALL, client, random)),
+        5 => author.arrive(|client, random| Arriving::of_type(pdu_type::FAULT, client, random)),
+        6 => author.arrive(|client, random| Arriving::of_type(pdu_type::REJECT, client, random)),
+        7 => author.arrive(|client, random| Arriving::fack_of(0, client, random)),
+        _ => author.arrive(|client, random| Arriving::response_of(0, WHOLE, client, random)),
+    }
+}
+
+/// A record of an idempotent call of three fragments with nothing received. All of its tickets are
+/// used up, and it is at its limits.
+fn record_without_tickets(state: State, random: &mut Random) -> Client {
+    let mut client = sound_record(state, random);
+    client.number = 0;
+    client.call.idempotent = true;
+    client.outgoing = Outgoing::of_length(2_785);
+    client.incoming = Incoming::empty();
+    client.waits = RETRY_LIMIT;
+    client.tickets.counter = u64::MAX;
+    client.wait = state.names(TimerKind::Wait).then_some(u64::MAX);
+    client.ack = state.names(TimerKind::Ack).then_some(u64::MAX);
+    client
+}
+
+/// A row of each type in both byte orders.
+pub fn arrival_row(turn: usize, author: &mut Author) {
+    let types = [
+        pdu_type::FAULT,
+        pdu_type::WORKING,
+        pdu_type::NOCALL,
+        pdu_type::REJECT,
+        pdu_type::FACK,
+        pdu_type::RESPONSE,
+    ];
+    let mut choices = Choices::of(turn);
+    let state = choices.pick(&[State::Dispatched, State::ReceiveFrags, State::SendFrags]);
+    let order = choices.pick(&[ByteOrder::Little, ByteOrder::Big]);
+    let pdu_type = choices.pick(&types);
+    let mut client = record_with_tickets(state, &mut author.random);
+    client.outgoing.acknowledged = 0;
+    let all = u16::from(client.outgoing.fragments) - 1;
+    author.set_record(client);
+    author.arrive(|client, random| {
+        let arriving = match pdu_type {
+            pdu_type::RESPONSE => Arriving::response(client, random),
+            pdu_type::FACK => Arriving::fack_of(all, client, random),
+            _ => Arriving::of_type(pdu_type, client, random),
+        };
+        arriving.in_order(order)
+    });
+}
+
+pub fn malformed_body(turn: usize, author: &mut Author) {
+    let mut choices = Choices::of(turn);
+    let way = choices.below(MALFORMED_WAYS);
+    // Every state but QUEUED, which shifts from one round of the ways to the next.
+    let state = STATES[1 + (way + choices.below(6)) % 6];
+    let client = sound_record(state, &mut author.random);
+    author.set_record(client);
+    author.arrive(|client, random| Arriving::malformed(way, client, random));
+}
+
+pub fn impossible_number(turn: usize, author: &mut Author) {
+    let mut choices = Choices::of(turn);
+    let state = choices.pick(&STATES);
+    let way = choices.below(IMPOSSIBLE_WAYS);
+    let client = sound_record(state, &mut author.random);
+    author.set_record(client);
+    author.arrive(|client, random| Arriving::impossible_response(way, client, random));
+}
