@@ -1,7 +1,7 @@
 -- What arrives, by its type number, and what the client's table has for it.
 use Prim.Native.Nat.{ℕ}
 use mathlib.Core.Bool.{Bool, true, false, not}
-use lib.Dec.{eqb}
+use lib.Dec.{ltb, leb, eqb}
 use Rattle.words.specs.Choice.{choose}
 use Rattle.answers.specs.declared.Answer.the-variants.{WrongSide}
 use Rattle.answers.specs.declared.Ground.{Ground}
@@ -9,16 +9,13 @@ use Rattle.answers.specs.declared.Ground.the-variants.{Pass, Refuse}
 use Rattle.client_table.specs.declared.Event.{Event}
 use Rattle.client_table.specs.declared.Event.the-variants.{Response, Fault, Reject, Working, Nocall, Fack, Foreign}
 
--- Types: response 2, fault 3, working 4, nocall 5, reject 6, fack 9; the client takes no other.
+-- What the server answers a call with: response 2, fault 3, working 4, nocall 5, reject 6.
+unfoldable pub answerOf : ℕ → Event
+answerOf kind = choose (eqb kind 2) Response (choose (eqb kind 3) Fault (choose (eqb kind 4) Working (choose (eqb kind 5) Nocall Reject)))
+
+-- The client takes types 2 to 6 and 9, the fack.
 unfoldable pub eventOf : ℕ → Event
-eventOf kind =
-    choose (eqb kind 2) Response
-    (choose (eqb kind 3) Fault
-    (choose (eqb kind 4) Working
-    (choose (eqb kind 5) Nocall
-    (choose (eqb kind 6) Reject
-    (choose (eqb kind 9) Fack
-    Foreign)))))
+eventOf kind = choose (ltb kind 2) Foreign (choose (leb kind 6) (answerOf kind) (choose (eqb kind 9) Fack Foreign))
 
 -- What is judged of a response, of a fault or reject, and of a fack; nothing of the others.
 unfoldable pub byEvent : Event → Ground → Ground → Ground → Ground

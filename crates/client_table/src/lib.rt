@@ -10,7 +10,7 @@ use reader::Reading;
 use timers::Timer;
 ghost use mathlib.Core.Path.{_≡_};
 ghost use Prim.Native.Nat.{_%_};
-ghost use Rattle.client_table.specs.Events.{eventOf, byEvent, sideGround, hasRow, arms as armsTimer};
+ghost use Rattle.client_table.specs.Events.{answerOf, eventOf, byEvent, sideGround, hasRow, arms as armsTimer};
 ghost use Rattle.client_table.specs.Arrival.{numberGround, pduGround, completes as completesMessage, rowGround, bodyLength, tableGround, arrivalGround};
 ghost use Rattle.client_table.specs.Local.{startGround, sameMessage, transmitLent, transmitGround, namedTimer, namedBy, pings, timerGround};
 
@@ -35,16 +35,25 @@ pub enum Kind {
 // The last call number.
 const LAST_NUMBER: u32 = 4294967295;
 
-// The client takes types 2 to 6 and 9.
-pub fn event_of(kind: u8) -> Event
-    ensures { λ r. ⌜ r ≡ eventOf kind ⌝ }
+// What the server answers a call with: types 2 to 6.
+fn answer_of(kind: u8) -> Event
+    ensures { λ r. ⌜ r ≡ answerOf kind ⌝ }
 {
     match kind {
         2 => Event::Response,
         3 => Event::Fault,
         4 => Event::Working,
         5 => Event::Nocall,
-        6 => Event::Reject,
+        _ => Event::Reject,
+    }
+}
+
+// The client takes types 2 to 6 and 9.
+pub fn event_of(kind: u8) -> Event
+    ensures { λ r. ⌜ r ≡ eventOf kind ⌝ }
+{
+    match kind {
+        2..=6 => answer_of(kind),
         9 => Event::Fack,
         0..=1 => Event::Foreign,
         7..=8 => Event::Foreign,

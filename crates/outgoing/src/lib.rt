@@ -100,9 +100,9 @@ pub fn sends_last(o: Outgoing) -> bool
 pub fn after_ping(o: Outgoing) -> Outgoing
     ensures { λ r. ⌜ r ≡ afterPing o ⌝ }
 {
-    let serial = next_serial(o.serial);
+    let raised = next_serial(o.serial);
     let mut next = o;
-    next.serial = serial;
+    next.serial = raised;
     next
 }
 

@@ -6,4 +6,4 @@ use Rattle.client_arrivals.proofs.fack.Tie as tie
 
 pub fack-spec : {M : Type 1} → statement M
 unfolding fackPlan
-fack-spec = tie.close (tie.spec (λ c κs. search needs) (λ c κs. search needs) (λ c. cc))
+fack-spec = tie.close (tie.spec (λ c κs. search needs) (λ c κs. search needs) (λ c. rw (c .accepted .ensures, c .before .acknowledged .ensures)))

@@ -6,4 +6,4 @@ use Rattle.client_arrivals.proofs.response.Tie as tie
 
 pub response-spec : {M : Type 1} → statement M
 unfolding responsePlan
-response-spec = tie.close (tie.spec (λ c κs. search needs) (λ c κs. search needs) (λ c κs. search needs) (λ c. cc))
+response-spec = tie.close (tie.spec (λ c κs. search needs) (λ c κs. search needs) (λ c κs. search needs) (λ c. rw (c .put .ensures, c .before .with .ensures, c .before .before .is-last .ensures)))

@@ -16,4 +16,4 @@ is-sound-spec =
     (λ c κs. search needs)
     (λ c κs. search needs)
     (λ c κs. search needs)
-    (λ c. cc))
+    (λ c. rw (c .both3 .ensures, c .before .both2 .ensures, c .before .before .both .ensures, c .before .before .before .timers-are-sound .ensures, c .before .before .before .before .is-sound .ensures, c .before .before .before .before .before .outgoing-is-sound .ensures, c .before .before .before .before .before .before .counts-are-sound .ensures)))

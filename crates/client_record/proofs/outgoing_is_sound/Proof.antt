@@ -15,4 +15,4 @@ outgoing-is-sound-spec =
     (λ c κs. search needs)
     (λ c κs. search needs)
     (λ c κs. search needs)
-    (λ c. cc))
+    (λ c. rw (c .both2 .ensures, c .before .message-rule .ensures, c .before .before .both .ensures, c .before .before .before .before .has-nothing .ensures, c .before .before .before .before .before .has-message .ensures, c .before .before .before .before .before .before .is-bounded .ensures)))

@@ -6,4 +6,4 @@ use Rattle.client_record.proofs.timer_is_sound.Tie as tie
 
 pub timer-is-sound-spec : {M : Type 1} → statement M
 unfolding timerSound
-timer-is-sound-spec = tie.close (tie.spec (λ c κs. search needs) (λ c κs. search needs) (λ c κs. search needs) (λ c κs. search needs) (λ c. cc))
+timer-is-sound-spec = tie.close (tie.spec (λ c κs. search needs) (λ c κs. search needs) (λ c κs. search needs) (λ c κs. search needs) (λ c. rw (c .both .ensures, c .before .either .ensures, c .before .before .is-sound .ensures, c .before .before .before .is-off .ensures)))

@@ -6,4 +6,4 @@ use Rattle.client_record.proofs.to_waiting.Tie as tie
 
 pub to-waiting-spec : {M : Type 1} → statement M
 unfolding waiting
-to-waiting-spec = tie.close (tie.spec (λ c κs. search needs) (λ c κs. search needs) (λ c κs. search needs) (λ c. cc))
+to-waiting-spec = tie.close (tie.spec (λ c κs. search needs) (λ c κs. search needs) (λ c κs. search needs) (λ c. rw (c .with-timers .ensures, c .before .armed-afresh .ensures, c .before .before .next-ticket .ensures)))

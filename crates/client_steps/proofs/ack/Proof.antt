@@ -6,4 +6,4 @@ use Rattle.client_steps.proofs.ack.Tie as tie
 
 pub ack-spec : {M : Type 1} → statement M
 unfolding ackPlan
-ack-spec = tie.close (tie.spec (λ c κs. search needs) (λ c κs. search needs) (λ c. cc))
+ack-spec = tie.close (tie.spec (λ c κs. search needs) (λ c κs. search needs) (λ c. rw (c .accepted .ensures, c .before .to-unarmed .ensures)))

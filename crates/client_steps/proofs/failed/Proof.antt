@@ -6,4 +6,4 @@ use Rattle.client_steps.proofs.failed.Tie as tie
 
 pub failed-spec : {M : Type 1} → statement M
 unfolding failed
-failed-spec = tie.close (tie.spec (λ c κs. search needs) (λ c κs. search needs) (λ c. cc))
+failed-spec = tie.close (tie.spec (λ c κs. search needs) (λ c κs. search needs) (λ c. rw (c .accepted .ensures, c .before .to-unarmed .ensures)))

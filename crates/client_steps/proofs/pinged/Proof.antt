@@ -14,4 +14,4 @@ pinged-spec =
     (λ c κs. search needs)
     (λ c κs. search needs)
     (λ c κs. search needs)
-    (λ c. cc))
+    (λ c. rw (c .with-waits .ensures, c .before .to-waiting .ensures, c .before .before .with-outgoing .ensures, c .before .before .before .after-ping .ensures)))

@@ -18,4 +18,4 @@ arrival-spec =
     (λ c κs. search needs)
     (λ c κs. search needs)
     (λ c κs. search needs)
-    (λ c. cc))
+    (λ c. rw (c .first-of2 .ensures, c .before .first-of .ensures, c .before .before .table-ground .ensures, c .before .before .before .body-length .ensures, c .before .before .before .before .pdu-ground .ensures, c .before .before .before .before .before .number .ensures, c .before .before .before .before .before .before .event-of .ensures, c .before .before .before .before .before .before .before .entry .ensures, c .before .before .before .before .before .before .before .before .is-sound .ensures)))

@@ -6,4 +6,4 @@ use Rattle.client_table.proofs.completes.Tie as tie
 
 pub completes-spec : {M : Type 1} → statement M
 unfolding completes
-completes-spec = tie.close (tie.spec (λ c κs. search needs) (λ c κs. search needs) (λ c. cc))
+completes-spec = tie.close (tie.spec (λ c κs. search needs) (λ c κs. search needs) (λ c. rw (c .is-complete .ensures, c .before .with .ensures)))

@@ -1,21 +1,27 @@
--- `client_table::event_of` meets its contract.
+-- `client_table::event_of` meets its contract: each arm knows the range of its numbers.
+use Prim.Native.Nat.{ℕ, _≤_}
+use mathlib.Core.Path.{_≡_, sym, _∙_}
+use native.Mathlib.Omega.{arith}
+use borrow.Author.Needs.{needs}
 use Rattle.words.specs.Choice.{choose}
 use Rattle.words.proofs.Tests.{tests}
-use Rattle.client_table.specs.Events.{eventOf}
+use Rattle.client_table.specs.Events.{answerOf, eventOf}
 use Rattle.client_table.proofs.event_of.Statement.{statement}
 use Rattle.client_table.proofs.event_of.Tie as tie
 
-pub event-of-spec : {M : Type 1} → statement M
+-- Types 2 to 6 are answers.
+answers : (kind : ℕ) → 2 ≤ kind → kind ≤ 6 → eventOf kind ≡ answerOf kind
+unfolding eventOf
+answers kind low high = search tests
+
+returns : tie.Need-returns
 unfolding eventOf choose
+returns c = rw (c .match .keys1)
+
+returns-3 : tie.Need-returns-3
+returns-3 c = c .answer-of .ensures ∙ sym (answers (c .before .before .before .before .args .kind) (omega arith) (omega arith))
+
+pub event-of-spec : {M : Type 1} → statement M
+unfolding eventOf
 event-of-spec =
-    tie.close
-    (tie.spec
-    (λ c. search tests)
-    (λ c. rw (c .match .keys2))
-    (λ c. rw (c .match .keys3))
-    (λ c. rw (c .match .keys4))
-    (λ c. rw (c .match .keys5))
-    (λ c. rw (c .match .keys6))
-    (λ c. search tests)
-    (λ c. search tests)
-    (λ c. search tests))
+    tie.close (tie.spec (λ c κs. search needs) returns (λ c. search tests) returns-3 (λ c. search tests) (λ c. search tests))

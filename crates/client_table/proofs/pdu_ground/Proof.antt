@@ -18,4 +18,4 @@ pdu-ground-spec =
     (λ c κs. search needs)
     (λ c κs. search needs)
     (λ c κs. search needs)
-    (λ c. cc))
+    (λ c. rw (c .first-of3 .ensures, c .before .side .ensures, c .before .before .first-of2 .ensures, c .before .before .before .first-of .ensures, c .before .before .before .before .by-event2 .ensures, c .before .before .before .before .before .fack-body .ensures, c .before .before .before .before .before .before .status-body .ensures, c .before .before .before .before .before .before .before .by-event .ensures, c .before .before .before .before .before .before .before .before .fragment .ensures)))

@@ -20,4 +20,4 @@ start-spec =
     (λ c κs. search needs)
     (λ c κs. search needs)
     (λ c κs. search needs)
-    (λ c. cc))
+    (λ c. rw (c .first-of3 .ensures, c .before .first-of2 .ensures, c .before .before .first-of .ensures, c .before .before .before .refuse-if4 .ensures, c .before .before .before .before .both .ensures, c .before .before .before .before .before .before .is-queued .ensures, c .before .before .before .before .before .before .before .refuse-if3 .ensures, c .before .before .before .before .before .before .before .before .may-start .ensures, c .before .before .before .before .before .before .before .before .before .refuse-if2 .ensures, c .before .before .before .before .before .before .before .before .before .before .is-sound .ensures, c .before .before .before .before .before .before .before .before .before .before .before .refuse-if .ensures)))

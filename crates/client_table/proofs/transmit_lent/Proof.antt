@@ -14,4 +14,4 @@ transmit-lent-spec =
     (λ c κs. search needs)
     (λ c κs. search needs)
     (λ c κs. search needs)
-    (λ c. cc))
+    (λ c. rw (c .refuse-if .ensures, c .before .both2 .ensures, c .before .before .both .ensures, c .before .before .before .is-same-message .ensures)))

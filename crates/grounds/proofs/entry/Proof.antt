@@ -16,4 +16,4 @@ entry-spec =
     (λ c κs. search needs)
     (λ c κs. search needs)
     (λ c κs. search needs)
-    (λ c. cc))
+    (λ c. rw (c .first-of3 .ensures, c .before .first-of2 .ensures, c .before .before .first-of .ensures, c .before .before .before .refuse-if2 .ensures, c .before .before .before .before .same-uuid .ensures, c .before .before .before .before .before .of-answer .ensures, c .before .before .before .before .before .before .refuse-if .ensures)))

@@ -6,4 +6,4 @@ use Rattle.grounds.proofs.fack.Tie as tie
 
 pub fack-spec : {M : Type 1} → statement M
 unfolding fackGround
-fack-spec = tie.close (tie.spec (λ c κs. search needs) (λ c κs. search needs) (λ c. cc))
+fack-spec = tie.close (tie.spec (λ c κs. search needs) (λ c κs. search needs) (λ c. rw (c .refuse-if .ensures, c .before .acknowledged-by .ensures)))

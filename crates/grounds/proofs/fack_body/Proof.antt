@@ -6,4 +6,4 @@ use Rattle.grounds.proofs.fack_body.Tie as tie
 
 pub fack-body-spec : {M : Type 1} → statement M
 unfolding fackBodyGround
-fack-body-spec = tie.close (tie.spec (λ c κs. search needs) (λ c κs. search needs) (λ c. cc))
+fack-body-spec = tie.close (tie.spec (λ c κs. search needs) (λ c κs. search needs) (λ c. rw (c .of-answer .ensures, c .before .read-fack .ensures)))

@@ -6,4 +6,4 @@ use Rattle.grounds.proofs.fragment.Tie as tie
 
 pub fragment-spec : {M : Type 1} → statement M
 unfolding fragmentGround
-fragment-spec = tie.close (tie.spec (λ c κs. search needs) (λ c κs. search needs) (λ c κs. search needs) (λ c κs. search needs) (λ c. cc))
+fragment-spec = tie.close (tie.spec (λ c κs. search needs) (λ c κs. search needs) (λ c κs. search needs) (λ c κs. search needs) (λ c. rw (c .refuse-if .ensures, c .before .either .ensures, c .before .before .both .ensures, c .before .before .before .is-fragment .ensures)))

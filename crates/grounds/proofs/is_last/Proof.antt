@@ -6,4 +6,4 @@ use Rattle.grounds.proofs.is_last.Tie as tie
 
 pub is-last-spec : {M : Type 1} → statement M
 unfolding isLast
-is-last-spec = tie.close (tie.spec (λ c κs. search needs) (λ c κs. search needs) (λ c κs. search needs) (λ c. cc))
+is-last-spec = tie.close (tie.spec (λ c κs. search needs) (λ c κs. search needs) (λ c κs. search needs) (λ c. rw (c .either .ensures, c .before .is-fragment .ensures, c .before .before .is-last .ensures)))

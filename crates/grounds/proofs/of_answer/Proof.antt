@@ -6,4 +6,4 @@ use Rattle.grounds.proofs.of_answer.Tie as tie
 
 pub of-answer-spec : {M : Type 1} → statement M
 unfolding groundOf
-of-answer-spec = tie.close (tie.spec (λ c κs. search needs) (λ c κs. search needs) (λ c. cc))
+of-answer-spec = tie.close (tie.spec (λ c κs. search needs) (λ c κs. search needs) (λ c. rw (c .refuse-if .ensures, c .before .number .ensures)))

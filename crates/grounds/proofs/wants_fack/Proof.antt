@@ -6,4 +6,4 @@ use Rattle.grounds.proofs.wants_fack.Tie as tie
 
 pub wants-fack-spec : {M : Type 1} → statement M
 unfolding wantsFack
-wants-fack-spec = tie.close (tie.spec (λ c κs. search needs) (λ c κs. search needs) (λ c κs. search needs) (λ c. cc))
+wants-fack-spec = tie.close (tie.spec (λ c κs. search needs) (λ c κs. search needs) (λ c κs. search needs) (λ c. rw (c .both .ensures, c .before .is-fragment .ensures, c .before .before .has-no-fack .ensures)))
