@@ -1,2 +1,7 @@
--- What the client's events owe.
+-- What the client's events leave and keep.
 pub mod Returns
+pub mod Judging
+pub mod Accepting
+pub mod Refusals
+pub mod Keeping
+pub mod Growing

@@ -143,7 +143,7 @@ fn pdu_ground(event: Event, number: Ground, flags1: u8, f: u16, body: &[u8], lit
 }
 
 // Whether all to the last are held once fragment f is put.
-pub fn completes(m: Incoming, f: u16, length: u16, last: bool) -> bool
+fn completes(m: Incoming, f: u16, length: u16, last: bool) -> bool
     ensures { λ r. ⌜ r ≡ completesMessage m f length last ⌝ }
 {
     incoming::is_complete(incoming::with(m, f, length, last))

@@ -32,7 +32,7 @@ pub fn refuse_if(test: bool, answer: Answer) -> Ground
 }
 
 // The ground that an answer stands for: 0 passes.
-pub fn of_answer(answer: Answer) -> Ground
+fn of_answer(answer: Answer) -> Ground
     ensures { λ r. ⌜ r ≡ groundOf answer ⌝ }
 {
     let number = answers::number(answer);

@@ -1,0 +1,138 @@
+-- What a record that keeps its rules is known to be.
+use Prim.Native.Nat.{ℕ, _≤_, _<_}
+use mathlib.Core.Bool.{Bool, true, false, false≢true}
+use mathlib.Core.Path.{_≡_, refl, sym, ap, subst}
+use lib.Dec.{ltb, leb}
+use borrow.Author.Tests.{ltb-true, leb-true, lt-ltb, le-leb}
+use Rattle.words.specs.Choice.{choose, both, either}
+use Rattle.words.proofs.Tests.{both-true, both-hold}
+use Rattle.incoming.specs.Slots.{sound as incomingSound}
+use Rattle.outgoing.specs.declared.Outgoing.{Outgoing}
+use Rattle.outgoing.specs.Sending.{bounded, hasMessage, hasNothing}
+use Rattle.timers.specs.declared.Timer.{Timer}
+use Rattle.timers.specs.declared.Timer.the-variants.{Off, Armed}
+use Rattle.timers.specs.Tickets.{off, sound as ticketSound}
+use Rattle.client_record.specs.declared.State.{State}
+use Rattle.client_record.specs.declared.State.the-variants.{Queued, SendFrags, Dispatched, ReceiveFrags, AckPending, Complete, Fault}
+use Rattle.client_record.specs.declared.Client.{Client}
+use Rattle.client_record.specs.States.{isQueued, isSending, isWaiting, isConfirming}
+use Rattle.client_record.specs.Rules.{countsSound, messageRule, outgoingSound, timerSound, timersSound, sound}
+
+-- The four rules of a record, one by one,
+pub record Rules (c : Client) : Type 0 where
+  pub counts : countsSound (c .waits) (c .resends) ≡ true
+  pub outgoing : outgoingSound (c .state) (c .outgoing) ≡ true
+  pub incoming : incomingSound (c .incoming) ≡ true
+  pub timers : timersSound (c .state) (c .wait) (c .ack) (c .tickets) ≡ true
+
+-- are what a sound record keeps,
+pub rules-told : (c : Client) → sound c ≡ true → Rules c
+unfolding sound
+rules-told c e0 =
+    let e1 = both-true (countsSound (c .waits) (c .resends)) _ e0 in
+    let e2 = both-true (outgoingSound (c .state) (c .outgoing)) _ (e1 .1) in
+    let e3 = both-true (incomingSound (c .incoming)) (timersSound (c .state) (c .wait) (c .ack) (c .tickets)) (e2 .1) in
+    record { counts = e1 .0; outgoing = e2 .0; incoming = e3 .0; timers = e3 .1 }
+
+-- and a record that keeps them is sound.
+pub rules-hold : (c : Client) → Rules c → sound c ≡ true
+unfolding sound
+rules-hold c r = both-hold _ _ (r .counts) (both-hold _ _ (r .outgoing) (both-hold _ _ (r .incoming) (r .timers)))
+
+-- Both counts are at most 5.
+module _ (waits resends : ℕ) where
+  -- The rule tells it,
+  pub counts-told : countsSound waits resends ≡ true → (waits ≤ 5) × (resends ≤ 5)
+  unfolding countsSound
+  counts-told e =
+      let told = both-true (leb waits 5) (leb resends 5) e in
+      (leb-true waits 5 (told .0), leb-true resends 5 (told .1))
+
+  -- and it is enough for the rule.
+  pub counts-hold : waits ≤ 5 → resends ≤ 5 → countsSound waits resends ≡ true
+  unfolding countsSound
+  counts-hold p q = both-hold (leb waits 5) (leb resends 5) (le-leb waits 5 p) (le-leb resends 5 q)
+
+-- A message is out but in QUEUED.
+module _ (o : Outgoing) where
+  rule-message : (state : State) → isQueued state ≡ false
+      → messageRule state (hasNothing o) (both (hasMessage o) (ltb (o .sent) (o .count))) (hasMessage o) ≡ true → hasMessage o ≡ true
+  unfolding isQueued messageRule
+  rule-message Queued q e = absurd (false≢true (sym q))
+  rule-message SendFrags q e = both-true (hasMessage o) (ltb (o .sent) (o .count)) e .0
+  rule-message Dispatched q e = e
+  rule-message ReceiveFrags q e = e
+  rule-message AckPending q e = e
+  rule-message Complete q e = e
+  rule-message Fault q e = e
+
+  -- It is within its bounds and its count is its length's,
+  pub message-told : (state : State) → isQueued state ≡ false → outgoingSound state o ≡ true → (bounded o ≡ true) × (hasMessage o ≡ true)
+  unfolding outgoingSound
+  message-told state q e = let told = both-true (bounded o) _ e in (told .0, rule-message state q (told .1))
+
+  -- and this is enough but in SEND_FRAGS,
+  pub message-holds : (state : State) → isQueued state ≡ false → isSending state ≡ false → bounded o ≡ true → hasMessage o ≡ true
+      → outgoingSound state o ≡ true
+  unfolding isQueued isSending outgoingSound messageRule
+  message-holds Queued q s b m = absurd (false≢true (sym q))
+  message-holds SendFrags q s b m = absurd (false≢true (sym s))
+  message-holds Dispatched q s b m = both-hold (bounded o) (hasMessage o) b m
+  message-holds ReceiveFrags q s b m = both-hold (bounded o) (hasMessage o) b m
+  message-holds AckPending q s b m = both-hold (bounded o) (hasMessage o) b m
+  message-holds Complete q s b m = both-hold (bounded o) (hasMessage o) b m
+  message-holds Fault q s b m = both-hold (bounded o) (hasMessage o) b m
+
+  -- where a fragment is left to send too.
+  pub unsent-told : outgoingSound SendFrags o ≡ true → o .sent < o .count
+  unfolding outgoingSound messageRule
+  unsent-told e = ltb-true (o .sent) (o .count) (both-true (hasMessage o) _ (both-true (bounded o) _ e .1) .1)
+
+  -- This and the rest is enough there.
+  pub unsent-holds : bounded o ≡ true → hasMessage o ≡ true → o .sent < o .count → outgoingSound SendFrags o ≡ true
+  unfolding outgoingSound messageRule
+  unsent-holds b m h =
+      both-hold (bounded o) _ b (both-hold (hasMessage o) (ltb (o .sent) (o .count)) m (lt-ltb (o .sent) (o .count) h))
+
+-- A timer that the state does not name is off,
+unnamed-off : (timer : Timer) (tickets : ℕ) → timerSound false timer tickets ≡ true → timer ≡ Off
+unfolding timerSound off either choose
+unnamed-off Off tickets e = refl
+unnamed-off (Armed held) tickets e = absurd (false≢true (both-true false _ e .0))
+
+-- one that it names is right where its ticket is,
+pub named-sound : (timer : Timer) (tickets : ℕ) → ticketSound timer tickets ≡ true → timerSound true timer tickets ≡ true
+unfolding timerSound either choose
+named-sound timer tickets e = both-hold true _ refl e
+
+-- and one that is off is right in every state.
+pub off-sound : (named : Bool) (tickets : ℕ) → timerSound named Off tickets ≡ true
+unfolding timerSound off ticketSound either choose both
+off-sound true tickets = refl
+off-sound false tickets = refl
+
+-- So in a sound record a timer is off that the state does not name.
+module _ (c : Client) (kept : sound c ≡ true) where
+  -- WAIT, in a state other than DISPATCHED and RECEIVE_FRAGS,
+  pub wait-off : isWaiting (c .state) ≡ false → c .wait ≡ Off
+  unfolding timersSound
+  wait-off e =
+      unnamed-off (c .wait) (c .tickets)
+      (subst (λ (named : Bool). timerSound named (c .wait) (c .tickets) ≡ true) e (both-true _ _ (rules-told c kept .timers) .0))
+
+  -- and ACK, in one other than ACK_PENDING.
+  pub ack-off : isConfirming (c .state) ≡ false → c .ack ≡ Off
+  unfolding timersSound
+  ack-off e =
+      unnamed-off (c .ack) (c .tickets)
+      (subst (λ (named : Bool). timerSound named (c .ack) (c .tickets) ≡ true) e (both-true _ _ (rules-told c kept .timers) .1))
+
+  -- In COMPLETE nothing is armed,
+  pub complete-unarmed : c .state ≡ Complete → (c .wait ≡ Off) × (c .ack ≡ Off)
+  unfolding isWaiting isConfirming
+  complete-unarmed e = (wait-off (ap isWaiting e), ack-off (ap isConfirming e))
+
+  -- nor in FAULT.
+  pub fault-unarmed : c .state ≡ Fault → (c .wait ≡ Off) × (c .ack ≡ Off)
+  unfolding isWaiting isConfirming
+  fault-unarmed e = (wait-off (ap isWaiting e), ack-off (ap isConfirming e))
