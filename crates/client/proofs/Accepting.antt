@@ -12,7 +12,7 @@ use Rattle.reader.specs.Reading.{reading}
 use Rattle.grounds.specs.Entry.{lentGround}
 use Rattle.grounds.proofs.GroundLaws.{lent-definite}
 use Rattle.client_record.specs.declared.Client.{Client}
-use Rattle.client_table.specs.declared.Kind.{Kind}
+use Rattle.client_table.specs.declared.TimerKind.{TimerKind}
 use Rattle.client_table.specs.Arrival.{bodyLength, arrivalGround}
 use Rattle.client_table.specs.Local.{startGround, transmitGround, timerGround}
 use Rattle.client_steps.proofs.PlanLaws.{start-answers, transmit-answers, timer-answers}
@@ -34,7 +34,7 @@ module _ (c : Client) where
       transmit-definite c (length message) (length out) .passes (sym (transmit-answers c (transmitGround c (length message) (length out))) ∙ done)
 
   -- a timer event,
-  pub timer-accepted : (kind : Kind) (ticket : ℕ) (out : List ℕ) → timing c kind ticket out .outcome .answer ≡ Done
+  pub timer-accepted : (kind : TimerKind) (ticket : ℕ) (out : List ℕ) → timing c kind ticket out .outcome .answer ≡ Done
       → timerGround c kind ticket (length out) ≡ Pass
   unfolding timing sending outcomeOf
   timer-accepted kind ticket out done =

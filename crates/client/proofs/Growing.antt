@@ -30,7 +30,7 @@ use Rattle.client_record.specs.Rules.{sound}
 use Rattle.client_record.proofs.RuleLaws.{rules-told}
 use Rattle.client_table.specs.declared.Event.{Event}
 use Rattle.client_table.specs.declared.Event.the-variants.{Response, Fault, Reject, Working, Nocall, Fack, Foreign}
-use Rattle.client_table.specs.declared.Kind.{Kind}
+use Rattle.client_table.specs.declared.TimerKind.{TimerKind}
 use Rattle.client_table.specs.Events.{eventOf, byEvent, hasRow}
 use Rattle.client_table.specs.Arrival.{bodyLength, arrivalGround}
 use Rattle.client_table.specs.Local.{transmitGround, timerGround}
@@ -92,7 +92,7 @@ transmit-grows c message out slots = by-ground (transmitGround c (length message
         (transmitted-held (sendsLast (c .outgoing)) c)
 
 -- So it is after a timer event,
-pub timer-grows : (c : Client) (kind : Kind) (ticket : ℕ) (out slots : List ℕ)
+pub timer-grows : (c : Client) (kind : TimerKind) (ticket : ℕ) (out slots : List ℕ)
     → Leads (handsUp c slots) (handsUp (timing c kind ticket out .outcome .client) slots)
 unfolding timing sending outcomeOf timerPlan refused
 timer-grows c kind ticket out slots = by-ground (timerGround c kind ticket (length out)) refl

@@ -17,7 +17,7 @@ use Rattle.timers.specs.Tickets.{usedUp, armedWith}
 use Rattle.grounds.specs.Order.{refuseIf}
 use Rattle.grounds.specs.Entry.{entryGround}
 use Rattle.grounds.specs.Fragment.{isLast, fragmentGround, putGround}
-use Rattle.grounds.specs.Fack.{fackGround}
+use Rattle.grounds.specs.Fack.{fackCountGround}
 use Rattle.grounds.specs.Timing.{lateGround, ticketGround}
 use Rattle.grounds.proofs.PassLaws.{Definite, first-passes, refuse-passes, must-hold, pass-definite, first-definite, refuse-definite}
 use Rattle.grounds.proofs.GroundLaws.{Entered, entry-passes, late-passes, ticket-passes, entry-definite, fragment-definite, put-definite, fack-definite, fack-body-definite, status-body-definite, late-definite, ticket-definite}
@@ -26,7 +26,7 @@ use Rattle.client_record.specs.States.{mayStart, isQueued, isActive, isDispatch
 use Rattle.client_record.specs.Rules.{sound}
 use Rattle.client_table.specs.declared.Event.{Event}
 use Rattle.client_table.specs.declared.Event.the-variants.{Response, Fault, Reject, Working, Nocall, Fack, Foreign}
-use Rattle.client_table.specs.declared.Kind.{Kind}
+use Rattle.client_table.specs.declared.TimerKind.{TimerKind}
 use Rattle.client_table.specs.Events.{eventOf, byEvent, sideGround, hasRow, arms}
 use Rattle.client_table.specs.Arrival.{numberGround, pduGround, completes, rowGround, tableGround, bodyLength, arrivalGround}
 use Rattle.client_table.specs.Local.{startGround, sameMessage, transmitLent, transmitGround, namedTimer, namedBy, pings, timerGround}
@@ -104,14 +104,14 @@ module _ (c : Client) (message out : ℕ) where
       (ticket-definite (sendsLast (c .outgoing)) (c .tickets))))
 
 -- What a timer event that passed is known to be.
-pub record CanAct (c : Client) (kind : Kind) (ticket out : ℕ) : Type 0 where
+pub record CanAct (c : Client) (kind : TimerKind) (ticket out : ℕ) : Type 0 where
   pub buffer : out ≡ 1472
   pub kept : sound c ≡ true
   pub row : namedBy kind (c .state) ≡ true
   pub armed : armedWith (namedTimer kind (c .wait) (c .ack)) ticket ≡ true
   pub free : pings kind (c .waits) ≡ true → usedUp (c .tickets) ≡ false
 
-module _ (c : Client) (kind : Kind) (ticket out : ℕ) where
+module _ (c : Client) (kind : TimerKind) (ticket out : ℕ) where
   -- A timer event whose ground passes is so.
   pub timer-passes : timerGround c kind ticket out ≡ Pass → CanAct c kind ticket out
   unfolding timerGround
@@ -143,7 +143,7 @@ pub record CanArrive (event : Event) (c : Client) (h : Header) (n : ℕ) : Type 
   pub mine : c .number ≡ h .number
   pub number : byEvent event (fragmentGround (h .flags1) (h .fragment)) Pass Pass ≡ Pass
   pub row : hasRow event (isActive (c .state)) (isDispatched (c .state)) ≡ true
-  pub fits : byEvent event (putGround (c .incoming) (h .fragment) (isLast (h .flags1))) Pass (fackGround (c .outgoing .count) (h .fragment)) ≡ Pass
+  pub fits : byEvent event (putGround (c .incoming) (h .fragment) (isLast (h .flags1))) Pass (fackCountGround (c .outgoing .count) (h .fragment)) ≡ Pass
   pub free : arms event (both (completes (c .incoming) (h .fragment) n (isLast (h .flags1))) (c .call .idempotent)) ≡ true → usedUp (c .tickets) ≡ false
 
 module _ (event : Event) (c : Client) (h : Header) (n : ℕ) (body : List ℕ) (little : Bool) where
@@ -157,7 +157,7 @@ module _ (event : Event) (c : Client) (h : Header) (n : ℕ) (body : List ℕ) (
       let e3 = first-passes (numberGround (c .state) (c .number) (h .number)) _ (e2 .1) in
       let t1 = first-passes (refuseIf (not (hasRow event (isActive (c .state)) (isDispatched (c .state)))) NoRow) _ t0 in
       let t2 =
-      first-passes (byEvent event (putGround (c .incoming) (h .fragment) (isLast (h .flags1))) Pass (fackGround (c .outgoing .count) (h .fragment))) _
+      first-passes (byEvent event (putGround (c .incoming) (h .fragment) (isLast (h .flags1))) Pass (fackCountGround (c .outgoing .count) (h .fragment))) _
       (t1 .1) in
       record {
         mine = eqb-true (c .number) (h .number) (not-false _ (either-false (isQueued (c .state)) _ (refuse-passes _ OldCall (e3 .0)) .1));

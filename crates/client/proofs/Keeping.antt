@@ -27,7 +27,7 @@ use Rattle.client_record.proofs.StateLaws.{active-state}
 use Rattle.client_record.proofs.RuleLaws.{rules-told, complete-unarmed, fault-unarmed}
 use Rattle.client_table.specs.declared.Event.{Event}
 use Rattle.client_table.specs.declared.Event.the-variants.{Response, Fault, Reject, Working, Nocall, Fack, Foreign}
-use Rattle.client_table.specs.declared.Kind.{Kind}
+use Rattle.client_table.specs.declared.TimerKind.{TimerKind}
 use Rattle.client_table.specs.Events.{eventOf, byEvent, hasRow, arms}
 use Rattle.client_table.specs.Arrival.{completes, bodyLength}
 use Rattle.client_steps.specs.Plan.{accepted}
@@ -91,7 +91,7 @@ module _ (c : Client) where
       subst (λ (g : Ground). sound (transmitPlan g c .client) ≡ true) (sym pass) (transmitted-sound c (j .kept) (j .row) (j .free))
 
   -- a timer event
-  pub timer-keeps : (kind : Kind) (ticket : ℕ) (out : List ℕ) → timing c kind ticket out .outcome .answer ≡ Done
+  pub timer-keeps : (kind : TimerKind) (ticket : ℕ) (out : List ℕ) → timing c kind ticket out .outcome .answer ≡ Done
       → sound (timing c kind ticket out .outcome .client) ≡ true
   unfolding timing sending outcomeOf timerPlan
   timer-keeps kind ticket out done =
@@ -132,7 +132,7 @@ module _ (c : Client) where
   transmit-quiet message out done = quiet (transmitting c message out .outcome .client) (transmit-keeps c message out done)
 
   -- a timer event
-  pub timer-quiet : (kind : Kind) (ticket : ℕ) (out : List ℕ) → timing c kind ticket out .outcome .answer ≡ Done
+  pub timer-quiet : (kind : TimerKind) (ticket : ℕ) (out : List ℕ) → timing c kind ticket out .outcome .answer ≡ Done
       → Quiet (timing c kind ticket out .outcome .client)
   timer-quiet kind ticket out done = quiet (timing c kind ticket out .outcome .client) (timer-keeps c kind ticket out done)
 

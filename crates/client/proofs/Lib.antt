@@ -1,5 +1,6 @@
 -- What the client's events leave and keep.
 pub mod Returns
+pub mod Sends
 pub mod Judging
 pub mod Accepting
 pub mod Refusals

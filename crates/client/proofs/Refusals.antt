@@ -16,7 +16,7 @@ use Rattle.reader.specs.Reading.{reading}
 use Rattle.timers.specs.Tickets.{armedWith}
 use Rattle.grounds.specs.Entry.{lentGround}
 use Rattle.client_record.specs.declared.Client.{Client}
-use Rattle.client_table.specs.declared.Kind.{Kind}
+use Rattle.client_table.specs.declared.TimerKind.{TimerKind}
 use Rattle.client_table.specs.Arrival.{bodyLength, arrivalGround}
 use Rattle.client_table.specs.Local.{startGround, transmitGround, timerGround, namedTimer}
 use Rattle.client_steps.specs.declared.Plan.{Plan}
@@ -79,7 +79,7 @@ module _ (c : Client) where
       (step-untouched c (transmitPlan (transmitGround c (length message) (length out)) c .answer) message out)
 
   -- such a timer event,
-  pub timer-refused : (kind : Kind) (ticket : ℕ) (out : List ℕ) → (timing c kind ticket out .outcome .answer ≡ Done → ⊥)
+  pub timer-refused : (kind : TimerKind) (ticket : ℕ) (out : List ℕ) → (timing c kind ticket out .outcome .answer ≡ Done → ⊥)
       → StepUntouched c out (timing c kind ticket out)
   unfolding timing sending outcomeOf
   timer-refused kind ticket out undone =
@@ -100,7 +100,7 @@ module _ (c : Client) where
       (reading datagram .header .fragment) (bodyOf datagram) slots out)
 
   -- A late timer never acts: one whose ticket is not the armed one changes, sends and tells nothing.
-  pub timer-late : (kind : Kind) (ticket : ℕ) (out : List ℕ) → armedWith (namedTimer kind (c .wait) (c .ack)) ticket ≡ false
+  pub timer-late : (kind : TimerKind) (ticket : ℕ) (out : List ℕ) → armedWith (namedTimer kind (c .wait) (c .ack)) ticket ≡ false
       → StepUntouched c out (timing c kind ticket out)
   timer-late kind ticket out late =
       timer-refused kind ticket out

@@ -17,7 +17,7 @@ use Rattle.reader.specs.declared.Reading.{Reading}
 use Rattle.reader.specs.Reading.{reading}
 use Rattle.client_record.specs.declared.Client.{Client}
 use Rattle.client_record.specs.Rules.{sound}
-use Rattle.client_table.specs.declared.Kind.{Kind}
+use Rattle.client_table.specs.declared.TimerKind.{TimerKind}
 use Rattle.client_table.specs.Arrival.{bodyLength, arrivalGround}
 use Rattle.client_table.specs.Local.{startGround, transmitGround, timerGround}
 use Rattle.client_steps.specs.declared.Plan.{Plan}
@@ -56,7 +56,7 @@ unfoldable pub transmitting : Client → List ℕ → List ℕ → Step
 transmitting c message out = sending (transmitPlan (transmitGround c (length message) (length out)) c) message out
 
 -- A timer event.
-unfoldable pub timing : Client → Kind → ℕ → List ℕ → Step
+unfoldable pub timing : Client → TimerKind → ℕ → List ℕ → Step
 timing c kind ticket out = sending (timerPlan (timerGround c kind ticket (length out)) kind c) [] out
 
 -- What an arriving datagram gives and leaves.

@@ -8,7 +8,7 @@ use calls::Sent;
 use client_record::Client;
 use client_steps::Plan;
 use client_steps::Send;
-use client_table::Kind;
+use client_table::TimerKind;
 use pdu::Header;
 use reader::Reading;
 ghost use mathlib.Core.Path.{_≡_};
@@ -130,7 +130,7 @@ pub fn transmit(c: Client, message: &[u8], out: &mut [u8]) -> Outcome
 }
 
 // A timer of that kind and ticket.
-pub fn timer(c: Client, kind: Kind, ticket: u64, out: &mut [u8]) -> Outcome
+pub fn timer(c: Client, kind: TimerKind, ticket: u64, out: &mut [u8]) -> Outcome
     ensures { λ r. ⌜ Stepped (timing c kind ticket (now (out .entry))) r (now (out .exit)) ⌝ }
 {
     let ground = client_table::timer(c, kind, ticket, out.len());

@@ -5,7 +5,7 @@ use lib.Dec.{ltb}
 use Rattle.words.specs.Choice.{choose}
 use Rattle.answers.specs.declared.Answer.the-variants.{Done}
 use Rattle.calls.specs.declared.Notice.{Notice}
-use Rattle.calls.specs.declared.Notice.the-variants.{Nothing as Untold, Last, Count, Cause}
+use Rattle.calls.specs.declared.Notice.the-variants.{Nothing as Untold, Last, Count, Fault, Reject, Cause}
 use Rattle.incoming.specs.declared.Incoming.{Incoming}
 use Rattle.incoming.specs.Slots.{contiguous, complete, stored}
 use Rattle.outgoing.specs.Sending.{acknowledgedTo, rewound}
@@ -13,7 +13,7 @@ use Rattle.grounds.specs.Fragment.{isLast, wantsFack}
 use Rattle.grounds.specs.Fack.{acknowledgedBy}
 use Rattle.client_record.specs.declared.State.the-variants.{SendFrags, Dispatched, ReceiveFrags, Complete}
 use Rattle.client_record.specs.declared.Client.{Client}
-use Rattle.client_record.specs.Record.{waiting, confirming, unarmed}
+use Rattle.client_record.specs.Record.{waiting, ackPending, unarmed}
 use Rattle.client_steps.specs.declared.Send.{Send}
 use Rattle.client_steps.specs.declared.Send.the-variants.{Nothing, Fack}
 use Rattle.client_steps.specs.declared.Plan.{Plan}
@@ -29,7 +29,7 @@ fackPlan c g = accepted (acknowledged c g) Nothing Untold
 -- Response. If all to the last are held: idempotent to COMPLETE, else ACK_PENDING with only ACK armed; otherwise to RECEIVE_FRAGS, WAIT armed afresh.
 unfoldable pub putRecord : Bool → Bool → Client → Client
 putRecord complete idempotent c =
-    choose complete (choose idempotent (unarmed c Complete) (confirming c)) (waiting c ReceiveFrags)
+    choose complete (choose idempotent (unarmed c Complete) (ackPending c)) (waiting c ReceiveFrags)
 
 -- Put in its slot, WAIT count 0.
 unfoldable pub withIncoming : Client → Incoming → Client
@@ -83,6 +83,13 @@ putPlan c m flags1 serial = record {
 
 unfoldable pub responsePlan : Client → ℕ → ℕ → ℕ → ℕ → Plan
 responsePlan c flags1 serial f n = putPlan c (stored (c .incoming) f n (isLast flags1)) flags1 serial
+
+-- Fault and reject: to FAULT, notice kind and status.
+abbrev pub faultPlan : Client → ℕ → Plan
+faultPlan c status = failed c (Fault status)
+
+abbrev pub rejectPlan : Client → ℕ → Plan
+rejectPlan c status = failed c (Reject status)
 
 -- Working: WAIT count 0, armed afresh.
 unfoldable pub workingPlan : Client → Plan

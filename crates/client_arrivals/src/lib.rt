@@ -38,7 +38,7 @@ fn put_record(complete: bool, idempotent: bool, c: Client) -> Client
         if idempotent {
             return client_record::to_unarmed(c, State::Complete);
         }
-        return client_record::to_confirming(c);
+        return client_record::to_ack_pending(c);
     }
     client_record::to_waiting(c, State::ReceiveFrags)
 }

@@ -1,21 +1,24 @@
--- The three ways in which a row leaves its timers keep the record rules.
+-- A fresh record keeps the record rules, and so do the three ways in which a row leaves its timers.
 use Prim.Native.Nat.{ℕ, _<_}
 use mathlib.Core.Bool.{true, false}
+use mathlib.Core.List.{List}
 use mathlib.Core.Path.{_≡_, refl}
+use Rattle.words.specs.Choice.{choose, both}
 use Rattle.words.proofs.Tests.{both-hold}
 use Rattle.incoming.specs.declared.Incoming.{Incoming}
 use Rattle.incoming.specs.Slots.{sound as incomingSound}
 use Rattle.outgoing.specs.declared.Outgoing.{Outgoing}
-use Rattle.outgoing.specs.Sending.{bounded, hasMessage}
+use Rattle.incoming.proofs.SlotLaws.{cleared-sound}
+use Rattle.outgoing.specs.Sending.{noMessage, bounded, hasMessage, hasNothing}
 use Rattle.timers.specs.declared.Timer.the-variants.{Off}
 use Rattle.timers.specs.Tickets.{usedUp, nextTicket, armedAfresh}
 use Rattle.timers.proofs.TimerLaws.{armed-sound}
 use Rattle.client_record.specs.declared.State.{State}
-use Rattle.client_record.specs.declared.State.the-variants.{SendFrags, AckPending}
+use Rattle.client_record.specs.declared.State.the-variants.{Queued, SendFrags, AckPending}
 use Rattle.client_record.specs.declared.Client.{Client}
-use Rattle.client_record.specs.States.{isQueued, isSending, isWaiting, isConfirming}
-use Rattle.client_record.specs.Rules.{countsSound, timersSound, sound}
-use Rattle.client_record.specs.Record.{waiting, confirming, unarmed}
+use Rattle.client_record.specs.States.{isQueued, isSending, isWaiting, isAckPending}
+use Rattle.client_record.specs.Rules.{countsSound, messageRule, outgoingSound, timersSound, sound}
+use Rattle.client_record.specs.Record.{fresh, waiting, ackPending, unarmed}
 use Rattle.client_record.proofs.StateLaws.{waiting-state}
 use Rattle.client_record.proofs.RuleLaws.{rules-told, rules-hold, message-told, message-holds, unsent-holds, named-sound, off-sound}
 
@@ -36,7 +39,14 @@ untimed-told c kept e =
 -- With nothing armed the timers are right in every state.
 pub unarmed-timers : (state : State) (tickets : ℕ) → timersSound state Off Off tickets ≡ true
 unfolding timersSound
-unarmed-timers state tickets = both-hold _ _ (off-sound (isWaiting state) tickets) (off-sound (isConfirming state) tickets)
+unarmed-timers state tickets = both-hold _ _ (off-sound (isWaiting state) tickets) (off-sound (isAckPending state) tickets)
+
+-- A fresh record is sound, whatever its ticket counter.
+pub fresh-sound : (activity : List ℕ) (tickets : ℕ) → sound (fresh activity tickets) ≡ true
+unfolding fresh outgoingSound messageRule bounded hasNothing noMessage countsSound both choose
+fresh-sound activity tickets =
+    rules-hold (fresh activity tickets)
+    (record { counts = refl; outgoing = refl; incoming = cleared-sound; timers = unarmed-timers Queued tickets })
 
 module _ (c : Client) (b : Untimed (c .waits) (c .resends) (c .outgoing) (c .incoming)) where
   -- To DISPATCHED or RECEIVE_FRAGS with WAIT armed, where a ticket is left.
@@ -50,14 +60,14 @@ module _ (c : Client) (b : Untimed (c .waits) (c .resends) (c .outgoing) (c .inc
         incoming = b .held;
         timers =
             both-hold _ _ (rw e (named-sound (armedAfresh (c .tickets)) (nextTicket (c .tickets)) (armed-sound (c .tickets) free)))
-            (off-sound (isConfirming state) (nextTicket (c .tickets)));
+            (off-sound (isAckPending state) (nextTicket (c .tickets)));
       })
 
   -- To ACK_PENDING with ACK armed.
-  pub confirming-sound : usedUp (c .tickets) ≡ false → sound (confirming c) ≡ true
-  unfolding confirming timersSound isQueued isSending isWaiting isConfirming
-  confirming-sound free =
-      rules-hold (confirming c)
+  pub ack-pending-sound : usedUp (c .tickets) ≡ false → sound (ackPending c) ≡ true
+  unfolding ackPending timersSound isQueued isSending isWaiting isAckPending
+  ack-pending-sound free =
+      rules-hold (ackPending c)
       (record {
         counts = b .counts;
         outgoing = message-holds (c .outgoing) AckPending refl refl (b .bound) (b .message);

@@ -15,7 +15,7 @@ use Rattle.timers.specs.Tickets.{off, sound as ticketSound}
 use Rattle.client_record.specs.declared.State.{State}
 use Rattle.client_record.specs.declared.State.the-variants.{Queued, SendFrags, Dispatched, ReceiveFrags, AckPending, Complete, Fault}
 use Rattle.client_record.specs.declared.Client.{Client}
-use Rattle.client_record.specs.States.{isQueued, isSending, isWaiting, isConfirming}
+use Rattle.client_record.specs.States.{isQueued, isSending, isWaiting, isAckPending}
 use Rattle.client_record.specs.Rules.{countsSound, messageRule, outgoingSound, timerSound, timersSound, sound}
 
 -- The four rules of a record, one by one,
@@ -121,7 +121,7 @@ module _ (c : Client) (kept : sound c ≡ true) where
       (subst (λ (named : Bool). timerSound named (c .wait) (c .tickets) ≡ true) e (both-true _ _ (rules-told c kept .timers) .0))
 
   -- and ACK, in one other than ACK_PENDING.
-  pub ack-off : isConfirming (c .state) ≡ false → c .ack ≡ Off
+  pub ack-off : isAckPending (c .state) ≡ false → c .ack ≡ Off
   unfolding timersSound
   ack-off e =
       unnamed-off (c .ack) (c .tickets)
@@ -129,10 +129,10 @@ module _ (c : Client) (kept : sound c ≡ true) where
 
   -- In COMPLETE nothing is armed,
   pub complete-unarmed : c .state ≡ Complete → (c .wait ≡ Off) × (c .ack ≡ Off)
-  unfolding isWaiting isConfirming
-  complete-unarmed e = (wait-off (ap isWaiting e), ack-off (ap isConfirming e))
+  unfolding isWaiting isAckPending
+  complete-unarmed e = (wait-off (ap isWaiting e), ack-off (ap isAckPending e))
 
   -- nor in FAULT.
   pub fault-unarmed : c .state ≡ Fault → (c .wait ≡ Off) × (c .ack ≡ Off)
-  unfolding isWaiting isConfirming
-  fault-unarmed e = (wait-off (ap isWaiting e), ack-off (ap isConfirming e))
+  unfolding isWaiting isAckPending
+  fault-unarmed e = (wait-off (ap isWaiting e), ack-off (ap isAckPending e))

@@ -11,7 +11,7 @@ use Rattle.timers.specs.Tickets.{off, sound as ticketSound}
 use Rattle.client_record.specs.declared.State.{State}
 use Rattle.client_record.specs.declared.State.the-variants.{Queued, SendFrags, Dispatched, ReceiveFrags, AckPending, Complete, Fault}
 use Rattle.client_record.specs.declared.Client.{Client}
-use Rattle.client_record.specs.States.{isWaiting, isConfirming}
+use Rattle.client_record.specs.States.{isWaiting, isAckPending}
 
 -- Counts at most 5.
 unfoldable pub countsSound : ℕ → ℕ → Bool
@@ -37,7 +37,7 @@ unfoldable pub timerSound : Bool → Timer → ℕ → Bool
 timerSound named timer tickets = both (either named (off timer)) (ticketSound timer tickets)
 
 unfoldable pub timersSound : State → Timer → Timer → ℕ → Bool
-timersSound state wait ack tickets = both (timerSound (isWaiting state) wait tickets) (timerSound (isConfirming state) ack tickets)
+timersSound state wait ack tickets = both (timerSound (isWaiting state) wait tickets) (timerSound (isAckPending state) ack tickets)
 
 -- The record keeps its rules; those of the fragments held are the crate incoming's.
 unfoldable pub sound : Client → Bool

@@ -5,9 +5,9 @@ use incoming::Incoming;
 use outgoing::Outgoing;
 use timers::Timer;
 ghost use mathlib.Core.Path.{_≡_};
-ghost use Rattle.client_record.specs.States.{mayStart, isQueued, isSending, isActive, isDispatched, isWaiting, isConfirming};
+ghost use Rattle.client_record.specs.States.{mayStart, isQueued, isSending, isActive, isDispatched, isWaiting, isAckPending};
 ghost use Rattle.client_record.specs.Rules.{countsSound, messageRule, outgoingSound, timerSound, timersSound, sound};
-ghost use Rattle.client_record.specs.Record.{fresh as freshRecord, timed, waiting, confirming, unarmed};
+ghost use Rattle.client_record.specs.Record.{fresh as freshRecord, timed, waiting, ackPending, unarmed};
 
 pub enum State {
     Queued,
@@ -125,8 +125,8 @@ pub fn is_waiting(state: State) -> bool
 }
 
 // Whether the state names the timer ACK.
-pub fn is_confirming(state: State) -> bool
-    ensures { λ r. ⌜ r ≡ isConfirming state ⌝ }
+pub fn is_ack_pending(state: State) -> bool
+    ensures { λ r. ⌜ r ≡ isAckPending state ⌝ }
 {
     match state {
         State::Queued => false,
@@ -185,10 +185,10 @@ fn timers_are_sound(state: State, wait: Timer, ack: Timer, tickets: u64) -> bool
     ensures { λ r. ⌜ r ≡ timersSound state wait ack tickets ⌝ }
 {
     let waiting = is_waiting(state);
-    let confirming = is_confirming(state);
+    let pending = is_ack_pending(state);
     words::both(
         timer_is_sound(waiting, wait, tickets),
-        timer_is_sound(confirming, ack, tickets),
+        timer_is_sound(pending, ack, tickets),
     )
 }
 
@@ -260,8 +260,8 @@ pub fn to_waiting(c: Client, state: State) -> Client
 }
 
 // To ACK_PENDING with only ACK armed.
-pub fn to_confirming(c: Client) -> Client
-    ensures { λ r. ⌜ r ≡ confirming c ⌝ }
+pub fn to_ack_pending(c: Client) -> Client
+    ensures { λ r. ⌜ r ≡ ackPending c ⌝ }
 {
     let tickets = timers::next_ticket(c.tickets);
     let ack = timers::armed_afresh(c.tickets);

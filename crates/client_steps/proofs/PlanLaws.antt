@@ -10,8 +10,8 @@ use Rattle.answers.specs.declared.Ground.the-variants.{Pass, Refuse}
 use Rattle.answers.specs.Number.{answerOf}
 use Rattle.calls.specs.declared.Call.{Call}
 use Rattle.client_record.specs.declared.Client.{Client}
-use Rattle.client_table.specs.declared.Kind.{Kind}
-use Rattle.client_table.specs.declared.Kind.the-variants.{Wait, Ack}
+use Rattle.client_table.specs.declared.TimerKind.{TimerKind}
+use Rattle.client_table.specs.declared.TimerKind.the-variants.{Wait, Ack}
 use Rattle.client_steps.specs.declared.Plan.{Plan}
 use Rattle.client_steps.specs.Plan.{refused, accepted, failed}
 use Rattle.client_steps.specs.Rows.{startPlan, transmitPlan, waitPlan, ackPlan, timerRow, timerPlan}
@@ -56,19 +56,19 @@ module _ (c : Client) where
   transmit-settled (Refuse a) = record { refusal = λ e. refl }
 
   -- Every row of a timer answers Done.
-  row-done : (kind : Kind) → timerRow kind c .answer ≡ Done
+  row-done : (kind : TimerKind) → timerRow kind c .answer ≡ Done
   unfolding timerRow waitPlan ackPlan accepted failed
   row-done Wait = choice-done (ltb (c .waits) 5) _ _ refl refl
   row-done Ack = refl
 
   -- So does a timer event,
-  pub timer-answers : (g : Ground) (kind : Kind) → timerPlan g kind c .answer ≡ answerOf g
+  pub timer-answers : (g : Ground) (kind : TimerKind) → timerPlan g kind c .answer ≡ answerOf g
   unfolding timerPlan refused
   timer-answers Pass kind = row-done kind
   timer-answers (Refuse a) kind = refl
 
   -- and a refused one changes nothing.
-  pub timer-settled : (g : Ground) (kind : Kind) → Settled c (timerPlan g kind c)
+  pub timer-settled : (g : Ground) (kind : TimerKind) → Settled c (timerPlan g kind c)
   unfolding timerPlan refused
   timer-settled Pass kind = done-settled c (timerRow kind c) (row-done kind)
   timer-settled (Refuse a) kind = record { refusal = λ e. refl }

@@ -16,14 +16,14 @@ use Rattle.timers.specs.Tickets.{usedUp}
 use Rattle.client_record.specs.declared.State.{State}
 use Rattle.client_record.specs.declared.State.the-variants.{SendFrags, Dispatched, Complete, Fault}
 use Rattle.client_record.specs.declared.Client.{Client}
-use Rattle.client_record.specs.States.{isQueued, isSending, isWaiting, isConfirming}
+use Rattle.client_record.specs.States.{isQueued, isSending, isWaiting, isAckPending}
 use Rattle.client_record.specs.Rules.{outgoingSound, sound}
 use Rattle.client_record.specs.Record.{waiting, unarmed}
-use Rattle.client_record.proofs.StateLaws.{sending-state, confirming-state, waiting-state}
+use Rattle.client_record.proofs.StateLaws.{sending-state, ack-pending-state, waiting-state}
 use Rattle.client_record.proofs.RuleLaws.{rules-told, rules-hold, counts-told, counts-hold, unsent-told, unsent-holds}
 use Rattle.client_record.proofs.RecordLaws.{Untimed, untimed-told, unarmed-timers, waiting-sound, unarmed-sound}
-use Rattle.client_table.specs.declared.Kind.{Kind}
-use Rattle.client_table.specs.declared.Kind.the-variants.{Wait, Ack}
+use Rattle.client_table.specs.declared.TimerKind.{TimerKind}
+use Rattle.client_table.specs.declared.TimerKind.the-variants.{Wait, Ack}
 use Rattle.client_table.specs.Local.{namedBy, pings}
 use Rattle.client_steps.specs.declared.Send.the-variants.{Ping}
 use Rattle.client_steps.specs.Plan.{accepted, withOutgoing, withWaits, failed}
@@ -117,12 +117,12 @@ module _ (c : Client) (kept : sound c ≡ true) where
       by-count false e = failed-sound (Cause 1) (waiting-state (c .state) waits .0)
 
   -- ACK acts,
-  ack-sound : isConfirming (c .state) ≡ true → sound (ackPlan c .client) ≡ true
+  ack-sound : isAckPending (c .state) ≡ true → sound (ackPlan c .client) ≡ true
   unfolding ackPlan accepted isQueued isSending
-  ack-sound confirms = unarmed-sound c (untimed-told c kept (ap isQueued (confirming-state (c .state) confirms))) Complete refl refl
+  ack-sound confirms = unarmed-sound c (untimed-told c kept (ap isQueued (ack-pending-state (c .state) confirms))) Complete refl refl
 
   -- and so either timer keeps the rules in the states that name it.
-  pub timer-sound : (kind : Kind) → namedBy kind (c .state) ≡ true → (pings kind (c .waits) ≡ true → usedUp (c .tickets) ≡ false)
+  pub timer-sound : (kind : TimerKind) → namedBy kind (c .state) ≡ true → (pings kind (c .waits) ≡ true → usedUp (c .tickets) ≡ false)
       → sound (timerRow kind c .client) ≡ true
   unfolding timerRow namedBy pings
   timer-sound Wait named free = wait-sound named free
@@ -140,7 +140,7 @@ unfolding failed accepted unarmed
 failed-held c notice = refl
 
 -- and after a timer.
-pub timer-held : (kind : Kind) (c : Client) → timerRow kind c .client .incoming ≡ c .incoming
+pub timer-held : (kind : TimerKind) (c : Client) → timerRow kind c .client .incoming ≡ c .incoming
 unfolding timerRow waitPlan ackPlan pinged withWaits withOutgoing waiting unarmed accepted failed choose
 timer-held Wait c = by-count (ltb (c .waits) 5)
   where

@@ -14,8 +14,8 @@ use Rattle.client_record.specs.declared.State.the-variants.{SendFrags, Dispatch
 use Rattle.client_record.specs.declared.Client.{Client}
 use Rattle.client_record.specs.States.{isQueued}
 use Rattle.client_record.specs.Record.{waiting, unarmed}
-use Rattle.client_table.specs.declared.Kind.{Kind}
-use Rattle.client_table.specs.declared.Kind.the-variants.{Wait, Ack}
+use Rattle.client_table.specs.declared.TimerKind.{TimerKind}
+use Rattle.client_table.specs.declared.TimerKind.the-variants.{Wait, Ack}
 use Rattle.client_steps.specs.declared.Send.the-variants.{Nothing, Request, Ping, Ack as SendAck}
 use Rattle.client_steps.specs.declared.Plan.{Plan}
 use Rattle.client_steps.specs.Plan.{refused, accepted, withOutgoing, withWaits, failed}
@@ -65,10 +65,10 @@ waitPlan c = choose (ltb (c .waits) 5) (accepted (pinged c) Ping Untold) (failed
 unfoldable pub ackPlan : Client → Plan
 ackPlan c = accepted (unarmed c Complete) SendAck Untold
 
-unfoldable pub timerRow : Kind → Client → Plan
+unfoldable pub timerRow : TimerKind → Client → Plan
 timerRow Wait c = waitPlan c
 timerRow Ack c = ackPlan c
 
-unfoldable pub timerPlan : Ground → Kind → Client → Plan
+unfoldable pub timerPlan : Ground → TimerKind → Client → Plan
 timerPlan (Refuse a) kind c = refused c a
 timerPlan Pass kind c = timerRow kind c

@@ -6,7 +6,7 @@ use calls::Call;
 use calls::Notice;
 use client_record::Client;
 use client_record::State;
-use client_table::Kind;
+use client_table::TimerKind;
 use outgoing::Outgoing;
 use timers::Timer;
 ghost use mathlib.Core.Path.{_≡_};
@@ -189,17 +189,17 @@ fn ack(c: Client) -> Plan
     )
 }
 
-fn timer_row(kind: Kind, c: Client) -> Plan
+fn timer_row(kind: TimerKind, c: Client) -> Plan
     ensures { λ r. ⌜ r ≡ timerRow kind c ⌝ }
 {
     match kind {
-        Kind::Wait => wait(c),
-        Kind::Ack => ack(c),
+        TimerKind::Wait => wait(c),
+        TimerKind::Ack => ack(c),
     }
 }
 
 // A timer event, judged.
-pub fn timer(ground: Ground, kind: Kind, c: Client) -> Plan
+pub fn timer(ground: Ground, kind: TimerKind, c: Client) -> Plan
     ensures { λ r. ⌜ r ≡ timerPlan ground kind c ⌝ }
 {
     match ground {

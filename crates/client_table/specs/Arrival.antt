@@ -14,7 +14,7 @@ use Rattle.reader.specs.declared.Reading.{Reading}
 use Rattle.grounds.specs.Order.{first, refuseIf}
 use Rattle.grounds.specs.Entry.{entryGround}
 use Rattle.grounds.specs.Fragment.{isLast, fragmentGround, putGround}
-use Rattle.grounds.specs.Fack.{fackGround, fackBodyGround, statusBodyGround}
+use Rattle.grounds.specs.Fack.{fackCountGround, fackBodyGround, statusBodyGround}
 use Rattle.grounds.specs.Timing.{ticketGround}
 use Rattle.client_record.specs.declared.State.{State}
 use Rattle.client_record.specs.declared.Client.{Client}
@@ -43,7 +43,7 @@ completes m f n last = complete (stored m f n last)
 unfoldable pub rowGround : Event → Bool → Incoming → ℕ → ℕ → Bool → Bool → ℕ → Ground
 rowGround event row m count f last finishes tickets =
     first (refuseIf (not row) NoRow)
-    (first (byEvent event (putGround m f last) Pass (fackGround count f))
+    (first (byEvent event (putGround m f last) Pass (fackCountGround count f))
     (ticketGround (arms event finishes) tickets))
 
 -- 15 to 20, by the client's record and the PDU's flags, fragment number and body length.

@@ -11,10 +11,10 @@ use Rattle.grounds.specs.Order.{first, refuseIf}
 use Rattle.grounds.specs.Timing.{lateGround, ticketGround}
 use Rattle.client_record.specs.declared.State.{State}
 use Rattle.client_record.specs.declared.Client.{Client}
-use Rattle.client_record.specs.States.{mayStart, isQueued, isSending, isWaiting, isConfirming}
+use Rattle.client_record.specs.States.{mayStart, isQueued, isSending, isWaiting, isAckPending}
 use Rattle.client_record.specs.Rules.{sound}
-use Rattle.client_table.specs.declared.Kind.{Kind}
-use Rattle.client_table.specs.declared.Kind.the-variants.{Wait, Ack}
+use Rattle.client_table.specs.declared.TimerKind.{TimerKind}
+use Rattle.client_table.specs.declared.TimerKind.the-variants.{Wait, Ack}
 
 -- Start: 1 of a message over 44,544; 2; 15 but in QUEUED, ACK_PENDING, COMPLETE and FAULT; 19 after the last number.
 unfoldable pub startGround : Client → ℕ → Ground
@@ -42,21 +42,21 @@ transmitGround c message out =
     (ticketGround (sendsLast (c .outgoing)) (c .tickets))))
 
 -- The timer of a kind, and the states that have its row.
-unfoldable pub namedTimer : Kind → Timer → Timer → Timer
+unfoldable pub namedTimer : TimerKind → Timer → Timer → Timer
 namedTimer Wait wait ack = wait
 namedTimer Ack wait ack = ack
 
-unfoldable pub namedBy : Kind → State → Bool
+unfoldable pub namedBy : TimerKind → State → Bool
 namedBy Wait state = isWaiting state
-namedBy Ack state = isConfirming state
+namedBy Ack state = isAckPending state
 
 -- WAIT arms afresh while its count is below 5.
-unfoldable pub pings : Kind → ℕ → Bool
+unfoldable pub pings : TimerKind → ℕ → Bool
 pings Wait waits = ltb waits 5
 pings Ack waits = false
 
 -- A timer event: 1 of the PDU buffer; 2; 15 in a state without the timer's row; 18 of a late ticket; 20 where WAIT arms afresh.
-unfoldable pub timerGround : Client → Kind → ℕ → ℕ → Ground
+unfoldable pub timerGround : Client → TimerKind → ℕ → ℕ → Ground
 timerGround c kind ticket out =
     first (refuseIf (not (eqb out 1472)) WrongLength)
     (first (refuseIf (not (sound c)) BrokenRecord)

@@ -10,7 +10,7 @@ use reader::Reading;
 use timers::Timer;
 ghost use mathlib.Core.Path.{_≡_};
 ghost use Prim.Native.Nat.{_%_};
-ghost use Rattle.client_table.specs.Events.{answerOf, eventOf, byEvent, sideGround, hasRow, arms as armsTimer};
+ghost use Rattle.client_table.specs.Events.{serverEvent, eventOf, byEvent, sideGround, hasRow, arms as armsTimer};
 ghost use Rattle.client_table.specs.Arrival.{numberGround, pduGround, completes as completesMessage, rowGround, bodyLength, tableGround, arrivalGround};
 ghost use Rattle.client_table.specs.Local.{startGround, sameMessage, transmitLent, transmitGround, namedTimer, namedBy, pings, timerGround};
 
@@ -27,7 +27,7 @@ pub enum Event {
 }
 
 // The client's timers.
-pub enum Kind {
+pub enum TimerKind {
     Wait,
     Ack,
 }
@@ -36,8 +36,8 @@ pub enum Kind {
 const LAST_NUMBER: u32 = 4294967295;
 
 // What the server answers a call with: types 2 to 6.
-fn answer_of(kind: u8) -> Event
-    ensures { λ r. ⌜ r ≡ answerOf kind ⌝ }
+fn server_event(kind: u8) -> Event
+    ensures { λ r. ⌜ r ≡ serverEvent kind ⌝ }
 {
     match kind {
         2 => Event::Response,
@@ -53,7 +53,7 @@ pub fn event_of(kind: u8) -> Event
     ensures { λ r. ⌜ r ≡ eventOf kind ⌝ }
 {
     match kind {
-        2..=6 => answer_of(kind),
+        2..=6 => server_event(kind),
         9 => Event::Fack,
         0..=1 => Event::Foreign,
         7..=8 => Event::Foreign,
@@ -267,37 +267,37 @@ pub fn transmit(c: Client, message: usize, out: usize) -> Ground
 }
 
 // The timer of a kind.
-fn timer_of(kind: Kind, wait: Timer, ack: Timer) -> Timer
+fn timer_of(kind: TimerKind, wait: Timer, ack: Timer) -> Timer
     ensures { λ r. ⌜ r ≡ namedTimer kind wait ack ⌝ }
 {
     match kind {
-        Kind::Wait => wait,
-        Kind::Ack => ack,
+        TimerKind::Wait => wait,
+        TimerKind::Ack => ack,
     }
 }
 
 // Whether the state has the row of a timer.
-fn is_named(kind: Kind, state: State) -> bool
+fn is_named(kind: TimerKind, state: State) -> bool
     ensures { λ r. ⌜ r ≡ namedBy kind state ⌝ }
 {
     match kind {
-        Kind::Wait => client_record::is_waiting(state),
-        Kind::Ack => client_record::is_confirming(state),
+        TimerKind::Wait => client_record::is_waiting(state),
+        TimerKind::Ack => client_record::is_ack_pending(state),
     }
 }
 
 // Whether the timer's row arms it afresh.
-fn arms_afresh(kind: Kind, waits: u8) -> bool
+fn arms_afresh(kind: TimerKind, waits: u8) -> bool
     ensures { λ r. ⌜ r ≡ pings kind waits ⌝ }
 {
     match kind {
-        Kind::Wait => waits < 5,
-        Kind::Ack => false,
+        TimerKind::Wait => waits < 5,
+        TimerKind::Ack => false,
     }
 }
 
 // The ground of a timer event.
-pub fn timer(c: Client, kind: Kind, ticket: u64, out: usize) -> Ground
+pub fn timer(c: Client, kind: TimerKind, ticket: u64, out: usize) -> Ground
     ensures { λ r. ⌜ r ≡ timerGround c kind ticket out ⌝ }
 {
     let state = c.state;

@@ -25,19 +25,6 @@ use Rattle.fragments.specs.Slots.{stretch, bytesOf, filled, isHandedUp, 
 use Rattle.fragments.specs.Joined.{handedBelow, joined, Leads}
 use Rattle.fragments.proofs.BufferLaws.{filled-other}
 
--- A cleared record keeps the rules and holds nothing.
-pub cleared-sound : sound cleared ≡ true
-unfolding sound cleared slotSound both choose
-cleared-sound = refl
-
-pub cleared-empty : contiguous cleared ≡ 0
-unfolding contiguous cleared choose
-cleared-empty = refl
-
-pub cleared-length : length (cleared .slots) ≡ 32
-unfolding cleared
-cleared-length = refl
-
 -- A put changes its own slot,
 module _ (m : Incoming) (f n : ℕ) (isLast : Bool) where
   pub stored-length : length (stored m f n isLast .slots) ≡ length (m .slots)

@@ -21,7 +21,7 @@ use Rattle.timers.specs.Tickets.{usedUp, armedWith}
 use Rattle.grounds.specs.Order.{refuseIf, groundOf}
 use Rattle.grounds.specs.Entry.{same, lentGround, entryGround}
 use Rattle.grounds.specs.Fragment.{fragmentGround, putGround}
-use Rattle.grounds.specs.Fack.{acknowledgedBy, fackGround, fackBodyGround, statusBodyGround}
+use Rattle.grounds.specs.Fack.{acknowledgedBy, fackCountGround, fackBodyGround, statusBodyGround}
 use Rattle.grounds.specs.Timing.{lateGround, ticketGround}
 use Rattle.grounds.proofs.EntryLaws.{same-equal}
 use Rattle.grounds.proofs.PassLaws.{Definite, first-passes, refuse-passes, must-hold, answer-passes, first-definite, refuse-definite, answer-definite}
@@ -99,13 +99,13 @@ module _ (m : Incoming) (f : ℕ) (last : Bool) where
 -- 17 of a fack.
 module _ (count g : ℕ) where
   -- A fack that passes acknowledges at most the fragment count.
-  pub fack-passes : fackGround count g ≡ Pass → acknowledgedBy g ≤ count
-  unfolding fackGround
+  pub fack-passes : fackCountGround count g ≡ Pass → acknowledgedBy g ≤ count
+  unfolding fackCountGround
   fack-passes e = ltb-false count (acknowledgedBy g) (refuse-passes _ Contradiction e)
 
   -- Its judgement is definite.
-  pub fack-definite : Definite (fackGround count g)
-  unfolding fackGround
+  pub fack-definite : Definite (fackCountGround count g)
+  unfolding fackCountGround
   fack-definite = refuse-definite (ltb count (acknowledgedBy g)) Contradiction tt
 
 -- 14, of a body.

@@ -7,7 +7,7 @@ use timers::Timer;
 ghost use mathlib.Core.Path.{_≡_};
 ghost use Rattle.grounds.specs.Order.{first, refuseIf, groundOf};
 ghost use Rattle.grounds.specs.Fragment.{isLast, wantsFack, fragmentGround, putGround};
-ghost use Rattle.grounds.specs.Fack.{acknowledgedBy, fackGround, fackBodyGround, statusBodyGround};
+ghost use Rattle.grounds.specs.Fack.{acknowledgedBy, fackCountGround, fackBodyGround, statusBodyGround};
 ghost use Rattle.grounds.specs.Entry.{same, lentGround, entryGround};
 ghost use Rattle.grounds.specs.Timing.{lateGround, ticketGround};
 
@@ -118,7 +118,7 @@ pub fn acknowledged_by(g: u16) -> u16
 
 // 17, of a fack for a message of `count` fragments.
 pub fn fack(count: u8, g: u16) -> Ground
-    ensures { λ r. ⌜ r ≡ fackGround count g ⌝ }
+    ensures { λ r. ⌜ r ≡ fackCountGround count g ⌝ }
 {
     let acknowledged = acknowledged_by(g);
     refuse_if((count as u16) < acknowledged, Answer::Contradiction)

@@ -14,7 +14,7 @@ use Rattle.words.specs.Choice.{choose, both}
 use Rattle.words.proofs.Tests.{choose-true, choose-false, both-hold, both-true}
 use Rattle.incoming.specs.declared.Slot.{Slot}
 use Rattle.incoming.specs.declared.Last.{Last}
-use Rattle.incoming.specs.Slots.{within, slotSound, soundFrom, contiguousFrom}
+use Rattle.incoming.specs.Slots.{within, slotSound, soundFrom, contiguousFrom, sound, contiguous, cleared}
 
 -- What is left of a list at i is its i-th and what is left behind that.
 pub at-head : {A : Type 0} (l : List A) (i : ℕ) (d : A) → i < length l → drop i l ≡ getD l i d ∷ drop (i + 1) l
@@ -118,3 +118,16 @@ sound-all last i (s ∷ ss) d h =
     later g below k =
         let index : i + 1 + g ≡ i + suc g = omega arith in
         rw index (h (suc g) (omega arith) k)
+
+-- Where nothing is held the rules are kept, and nothing is contiguous.
+pub cleared-sound : sound cleared ≡ true
+unfolding sound cleared slotSound both choose
+cleared-sound = refl
+
+pub cleared-empty : contiguous cleared ≡ 0
+unfolding contiguous cleared choose
+cleared-empty = refl
+
+pub cleared-length : length (cleared .slots) ≡ 32
+unfolding cleared
+cleared-length = refl

@@ -5,12 +5,12 @@ use native.Mathlib.Omega.{arith}
 use borrow.Author.Needs.{needs}
 use Rattle.words.specs.Choice.{choose}
 use Rattle.words.proofs.Tests.{tests}
-use Rattle.client_table.specs.Events.{answerOf, eventOf}
+use Rattle.client_table.specs.Events.{serverEvent, eventOf}
 use Rattle.client_table.proofs.event_of.Statement.{statement}
 use Rattle.client_table.proofs.event_of.Tie as tie
 
 -- Types 2 to 6 are answers.
-answers : (kind : ℕ) → 2 ≤ kind → kind ≤ 6 → eventOf kind ≡ answerOf kind
+answers : (kind : ℕ) → 2 ≤ kind → kind ≤ 6 → eventOf kind ≡ serverEvent kind
 unfolding eventOf
 answers kind low high = search tests
 
@@ -19,7 +19,7 @@ unfolding eventOf choose
 returns c = rw (c .match .keys1)
 
 returns-3 : tie.Need-returns-3
-returns-3 c = c .answer-of .ensures ∙ sym (answers (c .before .before .before .before .args .kind) (omega arith) (omega arith))
+returns-3 c = c .server-event .ensures ∙ sym (answers (c .before .before .before .before .args .kind) (omega arith) (omega arith))
 
 pub event-of-spec : {M : Type 1} → statement M
 unfolding eventOf

@@ -1,13 +1,13 @@
--- `client_record::is_confirming` meets its contract.
+-- `client_record::is_ack_pending` meets its contract.
 use Rattle.words.proofs.Tests.{tests}
-use Rattle.client_record.specs.States.{isConfirming}
+use Rattle.client_record.specs.States.{isAckPending}
 use borrow.Author.Needs.{needs}
-use Rattle.client_record.proofs.is_confirming.Statement.{statement}
-use Rattle.client_record.proofs.is_confirming.Tie as tie
+use Rattle.client_record.proofs.is_ack_pending.Statement.{statement}
+use Rattle.client_record.proofs.is_ack_pending.Tie as tie
 
-pub is-confirming-spec : {M : Type 1} → statement M
-unfolding isConfirming
-is-confirming-spec =
+pub is-ack-pending-spec : {M : Type 1} → statement M
+unfolding isAckPending
+is-ack-pending-spec =
     tie.close
     (tie.spec
     (λ c. search needs)

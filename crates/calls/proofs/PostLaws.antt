@@ -1,0 +1,24 @@
+-- What was sent is the whole PDU.
+use Prim.Native.Nat.{ℕ, _+_, _≤_}
+use mathlib.Core.List.{List}
+use mathlib.Core.Path.{_≡_}
+use lib.ListN.{length}
+use Rattle.words.specs.Place.{placed}
+use Rattle.pdu.specs.declared.Header.{Header}
+use Rattle.pdu.specs.Header.{datagram}
+use Rattle.writer.specs.Writing.{writeBy, writing}
+use Rattle.writer.proofs.Returns.{writable-passes}
+use Rattle.calls.specs.declared.Sent.the-variants.{Pdu}
+use Rattle.calls.specs.Sent.{Posting, posting}
+
+-- The bytes of a PDU at the front of the buffer, all else as it was, and its length told.
+abbrev pub whole : Header → List ℕ → List ℕ → Posting
+whole h body out = record { sent = Pdu (80 + length body); out = placed 0 (datagram h body) out }
+
+-- In a buffer of 1,472 bytes a PDU of a known type, without authentication and with a body of at most 1,392 bytes is so sent.
+pub posted-whole : (h : Header) (body out : List ℕ) → length out ≡ 1472 → h .kind ≤ 10 → h .authentication ≡ 0 → length body ≤ 1392
+    → posting h body out ≡ whole h body out
+unfolding posting writing writeBy
+posted-whole h body out room known plain short =
+    rw (writable-passes (length out) (h .kind) (h .authentication) (length body)
+    (record { room = room; known-type = known; unauthenticated = plain; short = short }))
