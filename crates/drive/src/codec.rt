@@ -1,68 +1,36 @@
-// The commands of the reader and the writer.
-use crate::command;
-use crate::command::State;
+// The commands of the reader and the writer. Each answers how much of the output is used after it.
 
-// The longest datagram and the longest body.
-const LENGTH_LIMIT: usize = 2048;
-
-// The bytes of a write command behind its first.
-const WRITE_SIZE: usize = 77;
-
-// Where a datagram behind its length u16 ends, or 0 where it is too long or cut off.
-fn datagram_end(fields: &[u8]) -> usize {
-    let length = words::number16(fields, 0, true) as usize;
-    if length > LENGTH_LIMIT {
-        return 0;
-    }
-    let end = 2 + length;
-    if fields.len() < end {
-        return 0;
-    }
-    end
-}
-
-// The line of a read.
-fn put_read(out: &mut [u8], used: usize, datagram: &[u8]) -> usize {
+// A length u16, and a datagram of it.
+fn read(fields: &[u8], used: usize, out: &mut [u8]) -> usize {
+    let end = fields::datagram_end(fields);
     read_lines::put_read(
         out,
         used,
         b"read 0 type=# flags1=# flags2=# serial=# object=$ interface=$ activity=$ boot=# version=# number=# operation=# ihint=# ahint=# fragment=# body=*\n",
         b"read #\n",
-        datagram,
+        lines::behind(lines::first(fields, end), 2),
     )
 }
 
-// A length u16, and a datagram of it.
-pub(crate) fn read(fields: &[u8], state: State, out: &mut [u8]) -> State {
-    let end = datagram_end(fields);
-    if end == 0 {
-        return command::bad(state, out);
-    }
-    let datagram = lines::behind(lines::first(fields, end), 2);
-    command::done(state, end, put_read(out, state.used, datagram))
-}
-
-// Whether a write command is whole, and its body no longer than it may be.
-fn is_write(size: usize, body: usize) -> bool {
-    if size < WRITE_SIZE {
-        return false;
-    }
-    body <= LENGTH_LIMIT
-}
-
 // The header's fields, the length of the body u16 and its seed u8.
-pub(crate) fn write(fields: &[u8], state: State, out: &mut [u8]) -> State {
+fn write(fields: &[u8], used: usize, lent: usize, out: &mut [u8]) -> usize {
     let length = words::number16(fields, 74, true) as usize;
-    if !is_write(fields.len(), length) {
-        return command::bad(state, out);
+    write_lines::put_write(out, used, b"write # * out=#\n", fields, length, lent)
+}
+
+// The serial answered u16 and the held word u32.
+fn fack(fields: &[u8], used: usize, out: &mut [u8]) -> usize {
+    let serial = words::number16(fields, 0, true);
+    let word = words::number32(fields, 2, true);
+    fack_lines::put_fack(out, used, b"fack # # *\n", serial, word)
+}
+
+// The command, where it is a read, a write or a fack.
+pub(crate) fn step(command: u8, fields: &[u8], used: usize, lent: usize, out: &mut [u8]) -> usize {
+    match command {
+        0x21 => read(fields, used, out),
+        0x22 => write(fields, used, lent, out),
+        0x23 => fack(fields, used, out),
+        _ => used,
     }
-    let used = write_lines::put_write(
-        out,
-        state.used,
-        b"write # * out=#\n",
-        fields,
-        length,
-        state.lent,
-    );
-    command::done(state, WRITE_SIZE, used)
 }

@@ -1,61 +1,77 @@
-// The commands: one arm and one function for each.
+// What lasts from one command to the next, and a command's step.
+use crate::client_commands;
+use crate::client_commands::Lent;
+use crate::client_commands::Turn;
 use crate::codec;
-use crate::fack;
-use script::Window;
 
-// What lasts from one command to the next.
 pub(crate) struct State {
-    pub(crate) more: bool,
-    // The part of the script that is read and not yet taken.
-    pub(crate) window: Window,
-    // How much of the output is used.
-    pub(crate) used: usize,
-    // How many bytes of the PDU buffer are lent.
-    pub(crate) lent: usize,
+    // How many bytes the command took behind its first; 0 where there was none.
+    pub(crate) taken: usize,
+    pub(crate) lent: Lent,
+    pub(crate) turn: Turn,
 }
 
 // Before the first command.
 pub(crate) fn fresh() -> State {
     State {
-        more: true,
-        window: script::empty(),
-        used: 0,
-        lent: pdu::PDU_SIZE,
+        taken: 0,
+        lent: Lent {
+            out: pdu::PDU_SIZE,
+            slots: 44544,
+        },
+        turn: Turn {
+            client: client_record::fresh([0; 16], 0),
+            used: 0,
+        },
     }
 }
 
-// Behind a command that took so many bytes behind its first.
-pub(crate) fn done(state: State, taken: usize, used: usize) -> State {
-    let mut next = state;
-    let window = state.window;
-    next.window = script::advanced(window, taken);
+// With so much of the output used.
+pub(crate) fn with_used(turn: Turn, used: usize) -> Turn {
+    let mut next = turn;
     next.used = used;
     next
 }
 
-// At the end.
-fn ended(state: State, used: usize) -> State {
-    let mut next = state;
-    next.more = false;
-    next.used = used;
-    next
+// What is lent after a command: a lend gives the lengths u16 and u32 of both buffers.
+fn lent_after(command: u8, fields: &[u8], lent: Lent) -> Lent {
+    if command == b'L' {
+        return Lent {
+            out: words::number16(fields, 0, true) as usize,
+            slots: words::number32(fields, 2, true) as usize,
+        };
+    }
+    lent
 }
 
-// Behind a command that is none, or that is cut off.
-pub(crate) fn bad(state: State, out: &mut [u8]) -> State {
-    ended(state, lines::put_text(out, state.used, b"bad\n"))
+// A lend, or a command of the reader or the writer, that takes so many bytes; 0 stands for none.
+fn step_other(command: u8, fields: &[u8], turn: Turn, lent: Lent, out: &mut [u8]) -> State {
+    let taken = fields::size(command, fields);
+    if taken == 0 {
+        let end = lines::put_text(out, turn.used, b"bad\n");
+        let turn = with_used(turn, end);
+        return State { taken, lent, turn };
+    }
+    let used = codec::step(command, fields, turn.used, lent.out, out);
+    let turn = with_used(turn, used);
+    let lent = lent_after(command, fields, lent);
+    State { taken, lent, turn }
 }
 
-// The command that `rest` begins with, if there is one.
-pub(crate) fn step(rest: &[u8], state: State, out: &mut [u8]) -> State {
-    if rest.len() == 0 {
-        return ended(state, state.used);
+// The command with these fields; one that is none or cut off ends the run.
+pub(crate) fn step(
+    command: u8,
+    fields: &[u8],
+    turn: Turn,
+    lent: Lent,
+    slots: &mut [u8],
+    out: &mut [u8],
+) -> State {
+    let taken = client_script::size(command, fields);
+    if taken == 0 {
+        return step_other(command, fields, turn, lent, out);
     }
-    let fields = lines::behind(rest, 1);
-    match rest[0] {
-        0x21 => codec::read(fields, state, out),
-        0x22 => codec::write(fields, state, out),
-        0x23 => fack::fack(fields, state, out),
-        _ => bad(state, out),
-    }
+    let c = turn.client;
+    let turn = client_commands::step(command, fields, c, turn.used, lent, slots, out);
+    State { taken, lent, turn }
 }

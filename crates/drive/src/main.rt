@@ -1,8 +1,8 @@
 // Steps through a script on standard input and prints a line for each event: how the machines are
 // tested from outside.
+mod client_commands;
 mod codec;
 mod command;
-mod fack;
 
 use command::State;
 use libc::STDOUT_FILENO;
@@ -27,38 +27,50 @@ fn with_room(out: &[u8], used: usize) -> usize {
     0
 }
 
-// One turn: a command, or the end of the input.
-fn turn(buffer: &mut [u8], out: &mut [u8], state: State) -> State {
-    let mut next = state;
-    next.used = with_room(out, state.used);
-    next.window = script::filled(buffer, state.window);
-    command::step(script::rest(buffer, next.window), next, out)
+// One turn: the command that `rest` begins with, or the end of the input.
+fn step(rest: &[u8], state: State, slots: &mut [u8], out: &mut [u8]) -> State {
+    let lent = state.lent;
+    let before = state.turn;
+    if rest.len() == 0 {
+        return State {
+            taken: 0,
+            lent,
+            turn: before,
+        };
+    }
+    let turn = command::with_used(before, with_room(out, before.used));
+    command::step(rest[0], lines::behind(rest, 1), turn, lent, slots, out)
 }
 
-// The turns that are left: none at the end.
-fn left(turns: u64, more: bool) -> u64
+// The turns that are left: none where nothing was taken.
+fn left(turns: u64, taken: usize) -> u64
     ensures { λ r. ⌜ r ≤ turns ⌝ }
 {
-    if more {
-        return turns;
+    if taken == 0 {
+        return 0;
     }
-    0
+    turns
 }
 
 // All turns. Nothing says that the input ends, so they are counted down from a number that no run
 // uses up.
-fn run(buffer: &mut [u8], out: &mut [u8]) {
+fn run(buffer: &mut [u8], slots: &mut [u8], out: &mut [u8]) {
+    let mut window = script::empty();
     let mut state = command::fresh();
     let mut turns = u64::MAX;
     while turns > 0 {
-        state = turn(buffer, out, state);
-        turns = left(turns - 1, state.more);
+        window = script::filled(buffer, window);
+        state = step(script::rest(buffer, window), state, slots, out);
+        window = script::advanced(window, state.taken);
+        turns = left(turns - 1, state.taken);
     }
-    flush(out, state.used);
+    let turn = state.turn;
+    flush(out, turn.used);
 }
 
 fn main() {
     let mut buffer = io::large_buffer();
+    let mut slots = io::large_buffer();
     let mut out = io::large_buffer();
-    run(&mut buffer, &mut out);
+    run(&mut buffer, &mut slots, &mut out);
 }

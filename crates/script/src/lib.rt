@@ -46,7 +46,8 @@ pub fn advanced(window: Window, taken: usize) -> Window
     }
 }
 
-fn least(a: usize, b: usize) -> usize
+// The smaller of two numbers.
+pub fn least(a: usize, b: usize) -> usize
     ensures { λ r. ⌜ r ≡ min a b ⌝ }
 {
     if a < b {

@@ -4,17 +4,13 @@ use mathlib.Core.Bool.{true}
 use mathlib.Core.List.{List, [], _∷_, _++_}
 use lib.ListN.{getD, take, drop, replicate}
 use Rattle.words.specs.Number.{number}
-use Rattle.words.specs.Place.{placed}
 use Rattle.answers.specs.Number.{numberOf}
 use Rattle.pdu.specs.declared.Header.{Header}
 use Rattle.writer.specs.Writing.{Writing, writing}
+use Rattle.fields.specs.Fields.{uuidIn}
 use Rattle.lines.specs.Adler.{adler}
 use Rattle.lines.specs.Message.{message}
 use Rattle.lines.specs.Row.{row}
-
--- The UUID that stands in s at `at`; bytes past the end count as 0.
-unfoldable pub uuidIn : List ℕ → ℕ → List ℕ
-uuidIn s at = placed 0 (take 16 (drop at s)) (replicate 16 0)
 
 -- The header in 74 bytes of a script.
 unfoldable pub headerIn : List ℕ → Header

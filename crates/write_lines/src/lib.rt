@@ -8,22 +8,13 @@ ghost use Rattle.writer.specs.Writing.{Wrote};
 ghost use Rattle.lines.specs.Adler.{adler};
 ghost use Rattle.lines.specs.Line.{line, written};
 ghost use Rattle.lines.specs.Row.{row};
-ghost use Rattle.write_lines.specs.Line.{uuidIn, headerIn, lentWriting, writeRow, askedRow};
+ghost use Rattle.write_lines.specs.Line.{headerIn, lentWriting, writeRow, askedRow};
 
 // The PDU buffer, and the longest body.
 const BUFFER_SIZE: usize = 2048;
 
 // Each byte of the PDU buffer before a write.
 const FILL: u8 = 0xa5;
-
-// The UUID that stands in s at `at`; bytes past the end count as 0.
-pub fn uuid(s: &[u8], at: usize) -> [u8; 16]
-    ensures { λ r. ⌜ r ≡ uuidIn (now (s .entry)) at ⌝ }
-{
-    let mut bytes = [0u8; 16];
-    words::put(&mut bytes, 0, lines::first(lines::behind(s, at), 16));
-    bytes
-}
 
 // The header that a script gives; bytes past the end count as 0.
 fn header(s: &[u8]) -> Header
@@ -34,9 +25,9 @@ fn header(s: &[u8]) -> Header
         flags1: words::byte_at(s, 1),
         flags2: words::byte_at(s, 2),
         serial: words::number16(s, 3, true),
-        object: uuid(s, 5),
-        interface: uuid(s, 21),
-        activity: uuid(s, 37),
+        object: fields::uuid(s, 5),
+        interface: fields::uuid(s, 21),
+        activity: fields::uuid(s, 37),
         boot: words::number32(s, 53, true),
         version: words::number32(s, 57, true),
         number: words::number32(s, 61, true),

@@ -1,7 +1,7 @@
 use borrow.Author.Needs.{needs}
-use Rattle.write_lines.specs.Line.{uuidIn}
-use Rattle.write_lines.proofs.uuid.Statement.{statement}
-use Rattle.write_lines.proofs.uuid.Tie as tie
+use Rattle.fields.specs.Fields.{uuidIn}
+use Rattle.fields.proofs.uuid.Statement.{statement}
+use Rattle.fields.proofs.uuid.Tie as tie
 
 returns : tie.Need-returns
 unfolding uuidIn

@@ -1,0 +1,73 @@
+-- `client_lines::put_state` meets its contract.
+use borrow.Author.Needs.{needs}
+use Rattle.client_lines.specs.Record.{stateText}
+use Rattle.client_lines.proofs.record.put_state.Statement.{statement}
+use Rattle.client_lines.proofs.record.put_state.Tie as tie
+
+returns : tie.Need-returns
+unfolding stateText
+returns c = rw (c .before .before .before .before .before .enum-told .given .1) (c .before .before .put-text .ensures)
+
+returns-2 : tie.Need-returns-2
+unfolding stateText
+returns-2 c = rw (c .before .before .before .before .before .enum-told2 .given .1) (c .before .before .put-text2 .ensures)
+
+returns-3 : tie.Need-returns-3
+unfolding stateText
+returns-3 c = rw (c .before .before .before .before .before .enum-told3 .given .1) (c .before .before .put-text3 .ensures)
+
+returns-4 : tie.Need-returns-4
+unfolding stateText
+returns-4 c = rw (c .before .before .before .before .before .enum-told4 .given .1) (c .before .before .put-text4 .ensures)
+
+returns-5 : tie.Need-returns-5
+unfolding stateText
+returns-5 c = rw (c .before .before .before .before .before .enum-told5 .given .1) (c .before .before .put-text5 .ensures)
+
+returns-6 : tie.Need-returns-6
+unfolding stateText
+returns-6 c = rw (c .before .before .before .before .before .enum-told6 .given .1) (c .before .before .put-text6 .ensures)
+
+returns-7 : tie.Need-returns-7
+unfolding stateText
+returns-7 c = rw (c .before .before .before .before .before .enum-told7 .given .1) (c .before .before .put-text7 .ensures)
+
+pub put-state-spec : {M : Type 1} → statement M
+put-state-spec =
+    tie.close
+    (tie.spec
+    (λ c. search needs)
+    (λ c. search needs)
+    (λ c κs. search needs)
+    (λ c. search needs)
+    (λ c. search needs)
+    (λ c κs. search needs)
+    (λ c. search needs)
+    (λ c. search needs)
+    (λ c κs. search needs)
+    (λ c. search needs)
+    (λ c. search needs)
+    (λ c κs. search needs)
+    (λ c. search needs)
+    (λ c. search needs)
+    (λ c κs. search needs)
+    (λ c. search needs)
+    (λ c. search needs)
+    (λ c κs. search needs)
+    (λ c. search needs)
+    (λ c. search needs)
+    (λ c κs. search needs)
+    (λ c. search needs)
+    returns
+    (λ c. search needs)
+    returns-2
+    (λ c. search needs)
+    returns-3
+    (λ c. search needs)
+    returns-4
+    (λ c. search needs)
+    returns-5
+    (λ c. search needs)
+    returns-6
+    (λ c. search needs)
+    returns-7)

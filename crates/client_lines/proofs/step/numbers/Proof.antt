@@ -1,0 +1,31 @@
+-- `client_lines::numbers` meets its contract.
+use borrow.Author.Needs.{needs}
+use Rattle.client_lines.specs.Step.{timerNumbers}
+use Rattle.client_lines.proofs.step.numbers.Statement.{statement}
+use Rattle.client_lines.proofs.step.numbers.Tie as tie
+
+returns : tie.Need-returns
+unfolding timerNumbers
+returns c =
+    rw (
+      c .adler2 .ensures,
+      c .before .adler .ensures,
+      c .before .before .first .ensures,
+      c .before .before .before .ticket2 .ensures,
+      c .before .before .before .before .armed2 .ensures,
+      c .before .before .before .before .before .ticket .ensures,
+      c .before .before .before .before .before .before .armed .ensures,
+    )
+
+pub numbers-spec : {M : Type 1} → statement M
+numbers-spec =
+    tie.close
+    (tie.spec
+    (λ c κs. search needs)
+    (λ c κs. search needs)
+    (λ c κs. search needs)
+    (λ c κs. search needs)
+    (λ c κs. search needs)
+    (λ c κs. search needs)
+    (λ c κs. search needs)
+    returns)

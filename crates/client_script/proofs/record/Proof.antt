@@ -1,0 +1,55 @@
+-- `client_script::record` meets its contract.
+use borrow.Author.Needs.{needs}
+use Rattle.client_script.specs.Client.{clientIn}
+use Rattle.client_script.proofs.record.Statement.{statement}
+use Rattle.client_script.proofs.record.Tie as tie
+
+returns : tie.Need-returns
+unfolding clientIn
+returns c =
+    rw (
+      c .number64 .ensures,
+      c .before .byte-at5 .ensures,
+      c .before .before .byte-at4 .ensures,
+      c .before .before .before .number32 .ensures,
+      c .before .before .before .before .incoming .ensures,
+      c .before .before .before .before .before .behind5 .ensures,
+      c .before .before .before .before .before .before .byte-at3 .ensures,
+      c .before .before .before .before .before .before .before .uuid .ensures,
+      c .before .before .before .before .before .before .before .before .timer2 .ensures,
+      c .before .before .before .before .before .before .before .before .before .behind4 .ensures,
+      c .before .before .before .before .before .before .before .before .before .before .timer .ensures,
+      c .before .before .before .before .before .before .before .before .before .before .before .behind3 .ensures,
+      c .before .before .before .before .before .before .before .before .before .before .before .before .outgoing .ensures,
+      c .before .before .before .before .before .before .before .before .before .before .before .before .before .behind2 .ensures,
+      c .before .before .before .before .before .before .before .before .before .before .before .before .before .before .call .ensures,
+      c .before .before .before .before .before .before .before .before .before .before .before .before .before .before .before .behind .ensures,
+      c .before .before .before .before .before .before .before .before .before .before .before .before .before .before .before .before .byte-at2 .ensures,
+      c .before .before .before .before .before .before .before .before .before .before .before .before .before .before .before .before .before .state .ensures,
+      c .before .before .before .before .before .before .before .before .before .before .before .before .before .before .before .before .before .before .byte-at .ensures,
+    )
+
+pub record-spec : {M : Type 1} → statement M
+record-spec =
+    tie.close
+    (tie.spec
+    (λ c κs. search needs)
+    (λ c κs. search needs)
+    (λ c κs. search needs)
+    (λ c κs. search needs)
+    (λ c κs. search needs)
+    (λ c κs. search needs)
+    (λ c κs. search needs)
+    (λ c κs. search needs)
+    (λ c κs. search needs)
+    (λ c κs. search needs)
+    (λ c κs. search needs)
+    (λ c κs. search needs)
+    (λ c κs. search needs)
+    (λ c κs. search needs)
+    (λ c κs. search needs)
+    (λ c κs. search needs)
+    (λ c κs. search needs)
+    (λ c κs. search needs)
+    (λ c κs. search needs)
+    returns)

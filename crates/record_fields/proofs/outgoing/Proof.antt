@@ -1,0 +1,21 @@
+-- `record_fields::outgoing` meets its contract.
+use borrow.Author.Needs.{needs}
+use Rattle.record_fields.specs.Fields.{outgoingIn}
+use Rattle.record_fields.proofs.outgoing.Statement.{statement}
+use Rattle.record_fields.proofs.outgoing.Tie as tie
+
+returns : tie.Need-returns
+unfolding outgoingIn
+returns c =
+    rw (c .before .before .before .before .number32 .ensures, c .before .before .before .byte-at .ensures, c .before .before .byte-at2 .ensures, c .before .byte-at3 .ensures, c .number16 .ensures)
+
+pub outgoing-spec : {M : Type 1} → statement M
+outgoing-spec =
+    tie.close
+    (tie.spec
+    (λ c κs. search needs)
+    (λ c κs. search needs)
+    (λ c κs. search needs)
+    (λ c κs. search needs)
+    (λ c κs. search needs)
+    returns)

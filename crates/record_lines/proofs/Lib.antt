@@ -1,0 +1,4 @@
+pub mod ChoiceLaws
+pub mod HeldLaws
+pub mod PairLaws
+pub mod TextLaws

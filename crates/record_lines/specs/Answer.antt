@@ -1,0 +1,25 @@
+-- What an event gave: its answer, its PDU and what the stub is told.
+use Prim.Native.Nat.{ℕ}
+use mathlib.Core.List.{List, [], _∷_, _++_}
+use lib.ListN.{take}
+use Rattle.answers.specs.declared.Answer.{Answer}
+use Rattle.answers.specs.Number.{numberOf}
+use Rattle.calls.specs.declared.Notice.{Notice}
+use Rattle.calls.specs.declared.Sent.{Sent}
+use Rattle.calls.specs.declared.Sent.the-variants.{Nothing, Pdu}
+use Rattle.lines.specs.Row.{row}
+use Rattle.record_lines.specs.Notice.{noticeText}
+
+-- How many bytes at the front of the PDU buffer were sent.
+unfoldable pub lengthOf : Sent → ℕ
+lengthOf Nothing = 0
+lengthOf (Pdu length) = length
+
+-- The answer's number and the PDU, by a pattern.
+unfoldable pub answerRow : List ℕ → Answer → Sent → List ℕ → List ℕ
+answerRow pattern answer sent buffer =
+    row pattern (numberOf answer ∷ []) (take (lengthOf sent) buffer) (take (lengthOf sent) buffer)
+
+-- The same, and behind it what the stub is told.
+unfoldable pub answerText : List ℕ → Answer → Sent → Notice → List ℕ → List ℕ
+answerText pattern answer sent notice buffer = answerRow pattern answer sent buffer ++ noticeText notice

@@ -1,0 +1,4 @@
+pub mod Answer
+pub mod Held
+pub mod Notice
+pub mod Numbers
