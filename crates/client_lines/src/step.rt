@@ -1,4 +1,4 @@
-// The whole line of an event.
+// The whole line that an event prints.
 use crate::record;
 use client::Outcome;
 use client_record::Client;

@@ -1,4 +1,4 @@
-// The commands of the reader and the writer. Each answers how much of the output is used after it.
+// The commands that are no machine's. Each answers how much of the output is used after it.
 
 // A length u16, and a datagram of it.
 fn read(fields: &[u8], used: usize, out: &mut [u8]) -> usize {
@@ -25,8 +25,18 @@ fn fack(fields: &[u8], used: usize, out: &mut [u8]) -> usize {
     fack_lines::put_fack(out, used, b"fack # # *\n", serial, word)
 }
 
-// The command, where it is a read, a write or a fack.
-pub(crate) fn step(command: u8, fields: &[u8], used: usize, lent: usize, out: &mut [u8]) -> usize {
+// The command that takes so many bytes: a lend prints nothing, and one that is none `bad`.
+pub(crate) fn step(
+    command: u8,
+    fields: &[u8],
+    size: usize,
+    used: usize,
+    lent: usize,
+    out: &mut [u8],
+) -> usize {
+    if size == 0 {
+        return lines::put_text(out, used, b"bad\n");
+    }
     match command {
         0x21 => read(fields, used, out),
         0x22 => write(fields, used, lent, out),

@@ -1,36 +1,29 @@
 // What lasts from one command to the next, and a command's step.
 use crate::client_commands;
 use crate::client_commands::Lent;
-use crate::client_commands::Turn;
 use crate::codec;
+use client_record::Client;
 
 pub(crate) struct State {
-    // How many bytes the command took behind its first; 0 where there was none.
+    // How many bytes the last command took behind its first; 0 where there was none.
     pub(crate) taken: usize,
+    // How much of the output is used.
+    pub(crate) used: usize,
     pub(crate) lent: Lent,
-    pub(crate) turn: Turn,
+    pub(crate) client: Client,
 }
 
 // Before the first command.
 pub(crate) fn fresh() -> State {
     State {
         taken: 0,
+        used: 0,
         lent: Lent {
             out: pdu::PDU_SIZE,
             slots: 44544,
         },
-        turn: Turn {
-            client: client_record::fresh([0; 16], 0),
-            used: 0,
-        },
+        client: client_record::fresh([0; 16], 0),
     }
-}
-
-// With so much of the output used.
-pub(crate) fn with_used(turn: Turn, used: usize) -> Turn {
-    let mut next = turn;
-    next.used = used;
-    next
 }
 
 // What is lent after a command: a lend gives the lengths u16 and u32 of both buffers.
@@ -44,34 +37,53 @@ fn lent_after(command: u8, fields: &[u8], lent: Lent) -> Lent {
     lent
 }
 
-// A lend, or a command of the reader or the writer, that takes so many bytes; 0 stands for none.
-fn step_other(command: u8, fields: &[u8], turn: Turn, lent: Lent, out: &mut [u8]) -> State {
-    let taken = fields::size(command, fields);
-    if taken == 0 {
-        let end = lines::put_text(out, turn.used, b"bad\n");
-        let turn = with_used(turn, end);
-        return State { taken, lent, turn };
+// A command of the client that takes so many bytes.
+fn step_client(
+    command: u8,
+    fields: &[u8],
+    taken: usize,
+    state: State,
+    slots: &mut [u8],
+    out: &mut [u8],
+) -> State {
+    let c = state.client;
+    let lent = state.lent;
+    let turn = client_commands::step(command, fields, c, state.used, lent, slots, out);
+    let client = turn.client;
+    State {
+        taken,
+        used: turn.used,
+        lent,
+        client,
     }
-    let used = codec::step(command, fields, turn.used, lent.out, out);
-    let turn = with_used(turn, used);
-    let lent = lent_after(command, fields, lent);
-    State { taken, lent, turn }
 }
 
-// The command with these fields; one that is none or cut off ends the run.
+// A command that is no machine's, or none.
+fn step_other(command: u8, fields: &[u8], state: State, out: &mut [u8]) -> State {
+    let before = state.lent;
+    let client = state.client;
+    let taken = fields::size(command, fields);
+    let used = codec::step(command, fields, taken, state.used, before.out, out);
+    let lent = lent_after(command, fields, before);
+    State {
+        taken,
+        used,
+        lent,
+        client,
+    }
+}
+
+// The command with these fields.
 pub(crate) fn step(
     command: u8,
     fields: &[u8],
-    turn: Turn,
-    lent: Lent,
+    state: State,
     slots: &mut [u8],
     out: &mut [u8],
 ) -> State {
     let taken = client_script::size(command, fields);
     if taken == 0 {
-        return step_other(command, fields, turn, lent, out);
+        return step_other(command, fields, state, out);
     }
-    let c = turn.client;
-    let turn = client_commands::step(command, fields, c, turn.used, lent, slots, out);
-    State { taken, lent, turn }
+    step_client(command, fields, taken, state, slots, out)
 }

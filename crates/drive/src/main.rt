@@ -8,7 +8,7 @@ use command::State;
 use libc::STDOUT_FILENO;
 ghost use Prim.Native.Nat.{_≤_};
 
-// No line is longer.
+// No line is longer than this.
 const LINE_LIMIT: usize = 16384;
 
 // Writes out what is used.
@@ -28,18 +28,14 @@ fn with_room(out: &[u8], used: usize) -> usize {
 }
 
 // One turn: the command that `rest` begins with, or the end of the input.
-fn step(rest: &[u8], state: State, slots: &mut [u8], out: &mut [u8]) -> State {
-    let lent = state.lent;
-    let before = state.turn;
+fn turn(rest: &[u8], state: State, slots: &mut [u8], out: &mut [u8]) -> State {
+    let mut next = state;
     if rest.len() == 0 {
-        return State {
-            taken: 0,
-            lent,
-            turn: before,
-        };
+        next.taken = 0;
+        return next;
     }
-    let turn = command::with_used(before, with_room(out, before.used));
-    command::step(rest[0], lines::behind(rest, 1), turn, lent, slots, out)
+    next.used = with_room(out, state.used);
+    command::step(rest[0], lines::behind(rest, 1), next, slots, out)
 }
 
 // The turns that are left: none where nothing was taken.
@@ -60,12 +56,11 @@ fn run(buffer: &mut [u8], slots: &mut [u8], out: &mut [u8]) {
     let mut turns = u64::MAX;
     while turns > 0 {
         window = script::filled(buffer, window);
-        state = step(script::rest(buffer, window), state, slots, out);
+        state = turn(script::rest(buffer, window), state, slots, out);
         window = script::advanced(window, state.taken);
         turns = left(turns - 1, state.taken);
     }
-    let turn = state.turn;
-    flush(out, turn.used);
+    flush(out, state.used);
 }
 
 fn main() {

@@ -1,4 +1,4 @@
-// What the stub is told, as a word.
+// What the stub is told, as one word.
 use calls::Notice;
 ghost use mathlib.Core.Path.{_≡_};
 ghost use mathlib.Core.List.{[], _∷_};
