@@ -1,6 +1,6 @@
 -- What document 01's "Sent PDUs" says of every PDU, and what sending one leaves.
 use Prim.Native.Nat.{ℕ}
-use mathlib.Core.Bool.{Bool, false}
+use mathlib.Core.Bool.{false}
 use mathlib.Core.List.{List}
 use mathlib.Core.Path.{_≡_}
 use lib.ListN.{replicate}

@@ -1,7 +1,7 @@
 -- Each return of the client's events, over plain variables.
 use Prim.Native.Nat.{ℕ}
 use mathlib.Core.List.{List, []}
-use mathlib.Core.Path.{_≡_, refl, sym, ap, _∙_, subst}
+use mathlib.Core.Path.{_≡_, sym, ap, _∙_, subst}
 use Rattle.answers.specs.declared.Ground.{Ground}
 use Rattle.calls.specs.declared.Sent.{Sent}
 use Rattle.calls.specs.Sent.{posting, Posted}

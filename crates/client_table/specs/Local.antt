@@ -1,6 +1,6 @@
 -- The grounds of start, transmit and the timer events.
 use Prim.Native.Nat.{ℕ}
-use mathlib.Core.Bool.{Bool, true, false, not}
+use mathlib.Core.Bool.{Bool, false, not}
 use lib.Dec.{ltb, leb, eqb}
 use Rattle.words.specs.Choice.{both, either}
 use Rattle.answers.specs.declared.Answer.the-variants.{WrongLength, BrokenRecord, NoRow, NumbersUsedUp}

@@ -11,7 +11,7 @@ use timers::Timer;
 ghost use mathlib.Core.Path.{_≡_};
 ghost use Prim.Native.Nat.{_%_};
 ghost use Rattle.client_table.specs.Events.{serverEvent, eventOf, byEvent, sideGround, hasRow, arms as armsTimer};
-ghost use Rattle.client_table.specs.Arrival.{numberGround, pduGround, completes as completesMessage, rowGround, bodyLength, tableGround, arrivalGround};
+ghost use Rattle.client_table.specs.Arrival.{numberGround, pduGround, completes as completesMessage, rowGround, tableGround, arrivalGround};
 ghost use Rattle.client_table.specs.Local.{startGround, sameMessage, transmitLent, transmitGround, namedTimer, namedBy, pings, timerGround};
 
 // What an arriving PDU is to the client.

@@ -1,13 +1,12 @@
 -- Each return of what tells a fack, over plain variables.
 use Prim.Native.Nat.{ℕ, _+_}
-use mathlib.Core.Bool.{Bool, true, false}
+use mathlib.Core.Bool.{Bool}
 use mathlib.Core.List.{List, [], _∷_}
-use mathlib.Core.Path.{_≡_, refl, sym, ap, _∙_}
+use mathlib.Core.Path.{_≡_}
 use native.Mathlib.Numerals.{add-one}
-use Rattle.words.proofs.Tests.{choose-true, choose-false}
 use Rattle.bodies.specs.Fack.{fackBytes, fackSent}
 use Rattle.incoming.specs.declared.Incoming.{Incoming}
-use Rattle.incoming.specs.Slots.{stored, contiguous}
+use Rattle.incoming.specs.Slots.{contiguous}
 use Rattle.facks.specs.Mask.{lastContiguous, maskOf}
 use Rattle.lines.specs.Row.{row}
 use Rattle.fack_lines.specs.Held.{isSet, withBit, heldBelow, heldIn}

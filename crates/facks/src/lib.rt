@@ -5,7 +5,7 @@ ghost use mathlib.Core.Path.{_≡_};
 ghost use Prim.Native.Nat.{_≤_};
 ghost use lib.ListN.{drop};
 ghost use Rattle.incoming.specs.Slots.{contiguous};
-ghost use Rattle.facks.specs.Mask.{lastContiguous, heldBit, heldWord, maskOf, Describes};
+ghost use Rattle.facks.specs.Mask.{lastContiguous, heldBit, heldWord, Describes};
 
 // The contiguous count less 1, or 65535 for none.
 fn number_of(count: u16) -> u16

@@ -1,13 +1,13 @@
 -- Laws of the slot buffer: what a put changes, and what the joined parts of a message are.
-use Prim.Native.Nat.{ℕ, zero, suc, _+_, _*_, _<_, _≤_}
+use Prim.Native.Nat.{ℕ, zero, suc, _*_, _<_, _≤_}
 use mathlib.Core.Bool.{true}
-use mathlib.Core.List.{List, [], _++_}
-use mathlib.Core.Path.{_≡_, refl, sym, ap, _∙_}
+use mathlib.Core.List.{List, []}
+use mathlib.Core.Path.{_≡_, refl, ap, _∙_}
 use native.Mathlib.Omega.{arith}
 use native.Mathlib.Decide.{decLt}
 use native.Mathlib.Nat.{le-refl}
 use native.Mathlib.Numerals.{add-one}
-use lib.Dec.{eqb, leb, ltb}
+use lib.Dec.{eqb, leb}
 use lib.ListN.{length, take, drop, getD}
 use lib.Seq.{take-all}
 use borrow.Author.Tests.{eq-eqb, le-leb, lt-ltb}
@@ -43,6 +43,14 @@ module _ (f : ℕ) (body buffer : List ℕ) (whole : length buffer ≡ 44544) (s
       by-order (yes before) = stretch-before (1392 * f) body buffer (omega arith) n (1392 * g) (omega arith)
       by-order (no other) = stretch-behind (1392 * f) body buffer (omega arith) n (1392 * g) (omega arith)
 
+-- The part for a contiguous number is the fragment's bytes.
+pub handed-bytes : (m : Incoming) (f : ℕ) (buffer : List ℕ) → sound m ≡ true → length buffer ≡ 44544 → f < contiguous m
+    → handedUp m f buffer ≡ bytesOf (m .slots) f buffer
+unfolding handedUp isHandedUp
+handed-bytes m f buffer kept whole below =
+    choose-true (isHandedUp m f (length buffer)) (bytesOf (m .slots) f buffer) []
+    (both-hold (eqb (length buffer) 44544) _ (eq-eqb (length buffer) 44544 whole) (both-hold (sound m) _ kept (lt-ltb f (contiguous m) below)))
+
 -- Every held fragment has in the buffer the bytes of the message's fragment of that number.
 abbrev pub Carries : Incoming → List ℕ → List ℕ → Type 0
 Carries m buffer message = (f : ℕ) → getD (m .slots) f missing .held ≡ true → bytesOf (m .slots) f buffer ≡ fragmentOf message f
@@ -50,11 +58,8 @@ Carries m buffer message = (f : ℕ) → getD (m .slots) f missing .held ≡ tru
 module _ (m : Incoming) (buffer message : List ℕ) (kept : sound m ≡ true) (whole : length buffer ≡ 44544) (carries : Carries m buffer message) where
   -- The part handed back for a contiguous number is the message's fragment.
   handed-fragment : (f : ℕ) → f < contiguous m → handedUp m f buffer ≡ fragmentOf message f
-  unfolding handedUp isHandedUp contiguous
-  handed-fragment f below =
-      choose-true (isHandedUp m f (length buffer)) (bytesOf (m .slots) f buffer) []
-      (both-hold (eqb (length buffer) 44544) _ (eq-eqb (length buffer) 44544 whole) (both-hold (sound m) _ kept (lt-ltb f (contiguous m) below)))
-      ∙ carries f (count-held (m .slots) f missing below)
+  unfolding contiguous
+  handed-fragment f below = handed-bytes m f buffer kept whole below ∙ carries f (count-held (m .slots) f missing below)
 
   handed-front : (n : ℕ) → n ≤ contiguous m → handedBelow m buffer n ≡ take (1392 * n) message
   unfolding handedBelow

@@ -9,21 +9,21 @@ use native.Mathlib.Nat.{zero-add, le-refl}
 use lib.Dec.{eqb, leb}
 use lib.ListN.{length, drop, getD, length-set}
 use lib.Seq.{getD-drop, getD-set-same, getD-set-other}
-use borrow.Author.Tests.{eq-eqb, le-leb, lt-ltb, eqb-true, eqb-false, ltb-false}
+use borrow.Author.Tests.{le-leb, eqb-true, eqb-false, ltb-false}
 use Rattle.words.specs.Choice.{choose, both}
 use Rattle.words.specs.Place.{placed}
 use Rattle.words.proofs.Place.{placed-fits, placed-none, length-putAt}
-use Rattle.words.proofs.Tests.{choose-true, both-hold, both-true, either-false}
+use Rattle.words.proofs.Tests.{both-hold, both-true, either-false}
 use Rattle.incoming.specs.declared.Slot.{Slot}
 use Rattle.incoming.specs.declared.Last.{Last}
 use Rattle.incoming.specs.declared.Last.the-variants.{Unknown, At}
 use Rattle.incoming.specs.declared.Incoming.{Incoming}
-use Rattle.incoming.specs.Slots.{missing, within, slotSound, soundFrom, lastSound, sound, contiguous, cleared, slotsWith, lastWith, stored}
+use Rattle.incoming.specs.Slots.{missing, within, soundFrom, lastSound, sound, contiguous, slotsWith, lastWith, stored}
 use Rattle.incoming.proofs.SlotLaws.{count-most, count-held, set-grows, sound-told, sound-all}
 use Rattle.fragments.specs.Judgement.{held, anyHeld, heldAbove, aboveLast, otherLast, lastBelowHeld, contradicts}
-use Rattle.fragments.specs.Slots.{stretch, bytesOf, filled, isHandedUp, handedUp}
+use Rattle.fragments.specs.Slots.{stretch, filled, handedUp}
 use Rattle.fragments.specs.Joined.{handedBelow, joined, Leads}
-use Rattle.fragments.proofs.BufferLaws.{filled-other}
+use Rattle.fragments.proofs.BufferLaws.{filled-other, handed-bytes}
 
 -- A put changes its own slot,
 module _ (m : Incoming) (f n : ℕ) (isLast : Bool) where
@@ -151,14 +151,6 @@ below-grows m buffer k (suc n) h = by-end (decLe k n) (below-grows m buffer k n)
         → Leads (handedBelow m buffer k) (handedBelow m buffer (suc n))
     by-end (yes before) grows = leads-trans (grows before) (leads-append (handedBelow m buffer n) (handedUp m n buffer))
     by-end (no after) grows = let same : k ≡ suc n = omega arith in rw same (leads-refl (handedBelow m buffer (suc n)))
-
--- The part for a contiguous number is the fragment's bytes.
-handed-bytes : (m : Incoming) (f : ℕ) (buffer : List ℕ) → sound m ≡ true → length buffer ≡ 44544 → f < contiguous m
-    → handedUp m f buffer ≡ bytesOf (m .slots) f buffer
-unfolding handedUp isHandedUp
-handed-bytes m f buffer kept whole below =
-    choose-true (isHandedUp m f (length buffer)) (bytesOf (m .slots) f buffer) []
-    (both-hold (eqb (length buffer) 44544) _ (eq-eqb (length buffer) 44544 whole) (both-hold (sound m) _ kept (lt-ltb f (contiguous m) below)))
 
 -- The slot buffer keeps its length.
 pub filled-length : (f : ℕ) (body buffer : List ℕ) → length (filled f body buffer) ≡ length buffer

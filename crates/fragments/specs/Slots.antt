@@ -1,5 +1,5 @@
 -- The slot buffer: fragment f's bytes lie at 1,392 f.
-use Prim.Native.Nat.{ℕ, _+_, _*_}
+use Prim.Native.Nat.{ℕ, _*_}
 use mathlib.Core.Bool.{Bool}
 use mathlib.Core.List.{List, []}
 use lib.ListN.{length, take, drop, getD}

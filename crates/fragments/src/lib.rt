@@ -3,12 +3,11 @@ use incoming::Incoming;
 use incoming::Last;
 use incoming::Slot;
 ghost use mathlib.Core.Path.{_≡_};
-ghost use mathlib.Core.Bool.{not};
 ghost use lib.ListN.{getD, drop};
 ghost use lib.Dec.{eqb, leb};
 ghost use Rattle.words.specs.Choice.{both};
 ghost use Rattle.incoming.specs.Slots.{missing};
-ghost use Rattle.fragments.specs.Judgement.{held, anyHeld, heldAbove, aboveLast, otherLast, lastBelowHeld, contradicts};
+ghost use Rattle.fragments.specs.Judgement.{held, anyHeld, aboveLast, otherLast, contradicts};
 ghost use Rattle.fragments.specs.Slots.{filled, isHandedUp, handedUp};
 
 // A slot buffer has exactly as many bytes: 32 fragments of 1,392.

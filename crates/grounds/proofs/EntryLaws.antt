@@ -1,13 +1,12 @@
 -- Laws of equal runs of bytes.
 use Prim.Native.Nat.{ℕ, _+_, _<_}
-use mathlib.Core.Bool.{Bool, true, false, false≢true}
+use mathlib.Core.Bool.{true, false, false≢true}
 use mathlib.Core.List.{List, [], _∷_}
-use mathlib.Core.Path.{_≡_, refl, ap, _∙_, sym}
-use native.Mathlib.Omega.{arith}
+use mathlib.Core.Path.{_≡_, refl}
 use lib.Dec.{eqb}
 use lib.ListN.{length, drop, getD}
 use borrow.Author.Tests.{eqb-true, eq-eqb, ne-eqb}
-use Rattle.words.specs.Choice.{choose, both}
+use Rattle.words.specs.Choice.{both}
 use Rattle.words.proofs.Tests.{choose-true, choose-false, both-true, both-hold}
 use Rattle.incoming.proofs.SlotLaws.{at-head}
 use Rattle.grounds.specs.Entry.{same}

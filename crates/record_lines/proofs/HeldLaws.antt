@@ -1,7 +1,7 @@
 -- A turn over the slots, told by what is left of them, and its end.
 use Prim.Native.Nat.{ℕ, _+_, _≤_, _<_}
 use mathlib.Core.Bool.{Bool}
-use mathlib.Core.List.{List, [], _∷_}
+use mathlib.Core.List.{List}
 use mathlib.Core.Path.{_≡_, sym, _∙_}
 use lib.ListN.{length, getD, drop, drop-of-length-le}
 use Rattle.incoming.specs.declared.Slot.{Slot}

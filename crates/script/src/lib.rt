@@ -1,7 +1,6 @@
 // A script: a window over a buffer that standard input is read into.
 use libc::STDIN_FILENO;
 ghost use mathlib.Core.Path.{_≡_};
-ghost use mathlib.Core.List.{_++_};
 ghost use Prim.Native.Nat.{_+_, _≤_, min};
 ghost use lib.ListN.{length, take, drop};
 ghost use Rattle.script.specs.Window.{Moved, Kept, Filled, none, restOf, advancedBy};

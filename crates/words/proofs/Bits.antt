@@ -1,10 +1,10 @@
 -- Laws of single bits: what masks and shifts do to each.
-use Prim.Native.Nat.{ℕ, suc, _+_, _-_, _*_, _/_, _%_, _^_, _≤_, _<_, min, max}
-use mathlib.Core.Path.{_≡_, refl, sym, ap, _∙_}
+use Prim.Native.Nat.{ℕ, suc, _+_, _-_, _*_, _/_, _%_, _^_, _<_, min, max}
+use mathlib.Core.Path.{_≡_, sym, ap, _∙_}
 use native.Mathlib.Omega.{arith}
 use native.Mathlib.Nat.{pow-suc, mul-comm, one-mul, div-eq-of-lt}
 use lib.Bits.{bitAnd, bitOr, and-step, or-step, and-shr, or-shr, and-high}
-use lib.Pow.{pow-add, pow-lt, pow-pos, shl-shr}
+use lib.Pow.{pow-add, pow-lt, shl-shr}
 use Rattle.words.specs.Bit.{bit}
 
 pub bit-or : (k a b : ℕ) → bit k (bitOr a b) ≡ max (bit k a) (bit k b)

@@ -1,10 +1,10 @@
 // Tests joined, numbers as bytes, and bytes put into a place: what every crate above shares.
 ghost use mathlib.Core.Path.{_≡_};
-ghost use mathlib.Core.List.{List, [], _∷_};
-ghost use Prim.Native.Nat.{ℕ, _+_, _*_};
+ghost use mathlib.Core.List.{[], _∷_};
+ghost use Prim.Native.Nat.{_+_, _*_};
 ghost use lib.ListN.{getD};
 ghost use Rattle.words.specs.Choice.{both, either};
-ghost use Rattle.words.specs.Number.{le, digits, part, number};
+ghost use Rattle.words.specs.Number.{le, digits, number};
 ghost use Rattle.words.specs.Place.{placed};
 
 // Whether both hold.

@@ -3,7 +3,7 @@ use pdu::Header;
 use writer::Written;
 ghost use mathlib.Core.Path.{_≡_};
 ghost use mathlib.Core.List.{[], _∷_};
-ghost use lib.ListN.{take, getD};
+ghost use lib.ListN.{take};
 ghost use Rattle.writer.specs.Writing.{Wrote};
 ghost use Rattle.lines.specs.Adler.{adler};
 ghost use Rattle.lines.specs.Line.{line, written};

@@ -4,8 +4,8 @@ use mathlib.Core.Bool.{Bool, true, false, true≢false}
 use mathlib.Core.List.{List, _++_, [], _∷_}
 use mathlib.Core.Path.{_≡_, refl, sym, ap, _∙_, subst}
 use native.Mathlib.Omega.{arith}
-use lib.ListN.{length, getD, take, drop, length-append, length-drop, take-append-drop}
-use lib.Seq.{drop-at, take-at}
+use lib.ListN.{length, getD, take, drop, length-drop, take-append-drop}
+use lib.Seq.{drop-at}
 use lib.Dec.{eqb}
 use borrow.Author.Tests.{eqb-true}
 use Rattle.words.specs.Choice.{choose, both, either}
@@ -18,7 +18,7 @@ use Rattle.answers.specs.Number.{answerOf}
 use Rattle.pdu.specs.declared.Header.{Header}
 use Rattle.reader.specs.declared.Reading.{Reading}
 use Rattle.pdu.specs.Header.{uuidAt, headerOf, frontBytes, numberBytes, hintBytes, backBytes, headerBytes, datagram, bodyOf}
-use Rattle.reader.specs.Reading.{represents, orderIs, readGround, groundBy, readBy, reading}
+use Rattle.reader.specs.Reading.{represents, orderIs, groundBy, readBy, reading}
 use Rattle.words.proofs.Place.{placed-front}
 use Rattle.writer.specs.Writing.{writeGround, writeBy, writing}
 use Rattle.pdu.proofs.HeaderLaws.{same-header}

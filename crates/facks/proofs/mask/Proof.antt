@@ -1,5 +1,4 @@
 -- `facks::mask` meets its contract: the word of the slots behind the contiguous ones describes the message.
-use Prim.Native.Nat.{_≤_}
 use mathlib.Core.Path.{_≡_}
 use native.Mathlib.Omega.{arith}
 use borrow.Author.Needs.{needs}

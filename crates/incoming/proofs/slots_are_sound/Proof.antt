@@ -1,5 +1,5 @@
 -- `incoming::slots_are_sound` meets its contract. Before each turn the rules hold of all slots below i.
-use Prim.Native.Nat.{_+_, _≤_, _-_}
+use Prim.Native.Nat.{_≤_, _-_}
 use mathlib.Core.Path.{_≡_, refl, sym, ap, _∙_}
 use native.Mathlib.Omega.{arith}
 use borrow.Author.Needs.{needs}

@@ -1,6 +1,6 @@
 -- `lines::row::put_shown` meets its contract: each return is what its mark shows.
 use borrow.Author.Needs.{needs}
-use Rattle.lines.specs.Line.{line, putByte, written}
+use Rattle.lines.specs.Line.{written}
 use Rattle.lines.proofs.RowLaws.{shows-number, shows-optional, shows-uuid, shows-bytes, shows-itself}
 use Rattle.lines.proofs.row.put_shown.Statement.{statement}
 use Rattle.lines.proofs.row.put_shown.Tie as tie

@@ -1,5 +1,5 @@
 -- `lines::sum::adler` meets its contract: from the sums so far on, the bytes that are left give the whole sum.
-use Prim.Native.Nat.{_+_, _≤_, _<_, _-_, zero-le}
+use Prim.Native.Nat.{_≤_, _<_, _-_, zero-le}
 use mathlib.Core.Path.{_≡_, refl}
 use native.Mathlib.Omega.{arith}
 use native.Mathlib.Numerals.{add-one}
