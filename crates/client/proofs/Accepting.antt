@@ -10,10 +10,11 @@ use Rattle.calls.specs.declared.Call.{Call}
 use Rattle.pdu.specs.Header.{bodyOf}
 use Rattle.reader.specs.Reading.{reading}
 use Rattle.grounds.specs.Entry.{lentGround}
+use Rattle.grounds.specs.Fragment.{bodyLength}
 use Rattle.grounds.proofs.GroundLaws.{lent-definite}
 use Rattle.client_record.specs.declared.Client.{Client}
 use Rattle.client_table.specs.declared.TimerKind.{TimerKind}
-use Rattle.client_table.specs.Arrival.{bodyLength, arrivalGround}
+use Rattle.client_table.specs.Arrival.{arrivalGround}
 use Rattle.client_table.specs.Local.{startGround, transmitGround, timerGround}
 use Rattle.client_steps.proofs.PlanLaws.{start-answers, transmit-answers, timer-answers}
 use Rattle.client_arrivals.proofs.TableLaws.{arrival-answers}

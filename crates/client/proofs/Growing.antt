@@ -1,30 +1,31 @@
 -- What the client hands up is what its fragments joined give, and it only grows until the next start.
-use Prim.Native.Nat.{ℕ, zero, suc, _≤_}
+use Prim.Native.Nat.{ℕ, _≤_}
 use mathlib.Core.Bool.{Bool, true, false, false≢true}
 use mathlib.Core.List.{List, []}
 use mathlib.Core.Path.{_≡_, refl, sym, subst}
 use native.Mathlib.Omega.{arith}
 use lib.ListN.{length}
 use Rattle.words.specs.Choice.{choose}
-use Rattle.words.proofs.Tests.{choose-true, choose-false}
 use Rattle.answers.specs.declared.Answer.the-variants.{Done}
 use Rattle.answers.specs.declared.Ground.{Ground}
 use Rattle.answers.specs.declared.Ground.the-variants.{Pass, Refuse}
 use Rattle.bodies.specs.Status.{statusReading}
 use Rattle.calls.specs.declared.Call.{Call}
 use Rattle.calls.specs.declared.Notice.the-variants.{Fault as FaultNotice, Reject as RejectNotice}
-use Rattle.incoming.specs.Slots.{contiguous, stored}
-use Rattle.fragments.specs.Slots.{filled, handedUp}
-use Rattle.fragments.specs.Joined.{handedBelow as partsBelow, joined, Leads}
+use Rattle.incoming.specs.Slots.{stored}
+use Rattle.fragments.specs.Slots.{filled, storing}
+use Rattle.fragments.specs.Joined.{joined, Leads}
 use Rattle.fragments.proofs.PutLaws.{leads-refl, put-grows}
+use Rattle.fragments.proofs.PartLaws.{parts-joined, parts-none}
 use Rattle.outgoing.specs.Sending.{sendsLast}
 use Rattle.pdu.specs.declared.Header.{Header}
 use Rattle.pdu.specs.Header.{bodyOf}
 use Rattle.reader.specs.declared.Reading.{Reading}
 use Rattle.reader.specs.Reading.{reading}
+use Rattle.writer.proofs.RoundTrip.{body-short}
 use Rattle.grounds.specs.Entry.{lentGround}
-use Rattle.grounds.specs.Fragment.{isLast}
-use Rattle.grounds.proofs.GroundLaws.{lent-passes, fragment-passes, put-passes}
+use Rattle.grounds.specs.Fragment.{isLast, bodyLength}
+use Rattle.grounds.proofs.GroundLaws.{lent-passes, fragment-passes, body-length, put-passes}
 use Rattle.client_record.specs.declared.Client.{Client}
 use Rattle.client_record.specs.Rules.{sound}
 use Rattle.client_record.proofs.RuleLaws.{rules-told}
@@ -32,7 +33,7 @@ use Rattle.client_table.specs.declared.Event.{Event}
 use Rattle.client_table.specs.declared.Event.the-variants.{Response, Fault, Reject, Working, Nocall, Fack, Foreign}
 use Rattle.client_table.specs.declared.TimerKind.{TimerKind}
 use Rattle.client_table.specs.Events.{eventOf, byEvent, hasRow}
-use Rattle.client_table.specs.Arrival.{bodyLength, arrivalGround}
+use Rattle.client_table.specs.Arrival.{arrivalGround}
 use Rattle.client_table.specs.Local.{transmitGround, timerGround}
 use Rattle.client_steps.specs.declared.Plan.{Plan}
 use Rattle.client_steps.specs.Plan.{refused, accepted, failed}
@@ -41,34 +42,22 @@ use Rattle.client_steps.proofs.StepLaws.{transmitted-sound, timer-sound, transm
 use Rattle.client_arrivals.specs.Rows.{fackPlan, responsePlan, putPlan, workingPlan, nocallPlan, withIncoming}
 use Rattle.client_arrivals.specs.Table.{arrivalRow, arrivalPlan}
 use Rattle.client_arrivals.proofs.ArrivalLaws.{fack-held, working-held, nocall-held, nocall-puts-none}
-use Rattle.client.specs.Machine.{outcomeOf, sending, storing, planOf, acted, starting, transmitting, timing, arriving, handedUpOf}
-use Rattle.client.specs.HandUp.{handedBelow, handsUp}
+use Rattle.client.specs.Machine.{outcomeOf, sending, planOf, acted, starting, transmitting, timing, arriving}
+use Rattle.client.specs.HandUp.{handsUp}
 use Rattle.client.proofs.Judging.{CanArrive, transmit-passes, timer-passes, arrival-passes}
 use Rattle.client.proofs.Refusals.{start-refused}
-use Rattle.client.proofs.Keeping.{body-short, body-length, row-sound}
+use Rattle.client.proofs.Keeping.{row-sound}
 
 module _ (c : Client) (slots : List ℕ) where
-  -- The parts of a record that keeps its rules are those of its fragments,
-  below-joined : sound c ≡ true → (n : ℕ) → handedBelow c slots n ≡ partsBelow (c .incoming) slots n
-  unfolding handedBelow partsBelow handedUpOf
-  below-joined kept zero = refl
-  below-joined kept (suc n) = rw (below-joined kept n, choose-true (sound c) (handedUp (c .incoming) n slots) [] kept)
-
-  -- so it hands up its contiguous fragments, joined in order.
+  -- A record that keeps its rules hands up its contiguous fragments, joined in order,
   pub hands-joined : sound c ≡ true → handsUp c slots ≡ joined (c .incoming) slots
-  unfolding handsUp joined
-  hands-joined kept = below-joined kept (contiguous (c .incoming))
+  unfolding handsUp
+  hands-joined kept = parts-joined (sound c) (c .incoming) slots kept
 
-  -- Those of a broken one are empty,
-  below-none : sound c ≡ false → (n : ℕ) → handedBelow c slots n ≡ []
-  unfolding handedBelow handedUpOf
-  below-none broken zero = refl
-  below-none broken (suc n) = rw (below-none broken n, choose-false (sound c) (handedUp (c .incoming) n slots) [] broken)
-
-  -- so a broken record hands up nothing.
+  -- a broken one nothing.
   pub hands-none : sound c ≡ false → handsUp c slots ≡ []
   unfolding handsUp
-  hands-none broken = below-none broken (contiguous (c .incoming))
+  hands-none broken = parts-none (sound c) (c .incoming) slots broken
 
 -- What is handed up grows where the fragments joined do,
 hands-grow : (c d : Client) (slots later : List ℕ) → sound c ≡ true → sound d ≡ true

@@ -3,10 +3,10 @@ use Prim.Native.Nat.{ℕ, _≤_}
 use mathlib.Core.Bool.{Bool, true, false, not}
 use mathlib.Core.List.{List}
 use mathlib.Core.Path.{_≡_, sym, ap, _∙_}
-use lib.Dec.{ltb, leb, eqb}
-use borrow.Author.Tests.{ltb-false, leb-true, eqb-true, eqb-false, not-false}
-use Rattle.words.specs.Choice.{choose, both, either}
-use Rattle.words.proofs.Tests.{choose-true, choose-false, both-true, either-false}
+use lib.Dec.{ltb, eqb}
+use borrow.Author.Tests.{ltb-false, eqb-true, eqb-false, not-false}
+use Rattle.words.specs.Choice.{choose, both}
+use Rattle.words.proofs.Tests.{choose-true, either-false}
 use Rattle.answers.specs.declared.Answer.the-variants.{WrongLength, BrokenRecord, WrongSide, OldCall, NoRow, NumbersUsedUp}
 use Rattle.answers.specs.declared.Ground.{Ground}
 use Rattle.answers.specs.declared.Ground.the-variants.{Pass}
@@ -15,12 +15,12 @@ use Rattle.pdu.specs.declared.Header.{Header}
 use Rattle.reader.specs.declared.Reading.{Reading}
 use Rattle.timers.specs.Tickets.{usedUp, armedWith}
 use Rattle.grounds.specs.Order.{refuseIf}
-use Rattle.grounds.specs.Entry.{entryGround}
-use Rattle.grounds.specs.Fragment.{isLast, fragmentGround, putGround}
+use Rattle.grounds.specs.Entry.{transmitLent, entryGround}
+use Rattle.grounds.specs.Fragment.{isLast, fragmentGround, putGround, bodyLength}
 use Rattle.grounds.specs.Fack.{fackCountGround}
 use Rattle.grounds.specs.Timing.{lateGround, ticketGround}
 use Rattle.grounds.proofs.PassLaws.{Definite, first-passes, refuse-passes, must-hold, pass-definite, first-definite, refuse-definite}
-use Rattle.grounds.proofs.GroundLaws.{Entered, entry-passes, late-passes, ticket-passes, entry-definite, fragment-definite, put-definite, fack-definite, fack-body-definite, status-body-definite, late-definite, ticket-definite}
+use Rattle.grounds.proofs.GroundLaws.{Entered, transmit-lent-passes, entry-passes, late-passes, ticket-passes, transmit-lent-definite, entry-definite, fragment-definite, put-definite, fack-definite, fack-body-definite, status-body-definite, late-definite, ticket-definite}
 use Rattle.client_record.specs.declared.Client.{Client}
 use Rattle.client_record.specs.States.{mayStart, isQueued, isActive, isDispatched, isSending}
 use Rattle.client_record.specs.Rules.{sound}
@@ -28,8 +28,8 @@ use Rattle.client_table.specs.declared.Event.{Event}
 use Rattle.client_table.specs.declared.Event.the-variants.{Response, Fault, Reject, Working, Nocall, Fack, Foreign}
 use Rattle.client_table.specs.declared.TimerKind.{TimerKind}
 use Rattle.client_table.specs.Events.{eventOf, byEvent, sideGround, hasRow, arms}
-use Rattle.client_table.specs.Arrival.{numberGround, pduGround, completes, rowGround, tableGround, bodyLength, arrivalGround}
-use Rattle.client_table.specs.Local.{startGround, sameMessage, transmitLent, transmitGround, namedTimer, namedBy, pings, timerGround}
+use Rattle.client_table.specs.Arrival.{numberGround, pduGround, completes, rowGround, tableGround, arrivalGround}
+use Rattle.client_table.specs.Local.{startGround, transmitGround, namedTimer, namedBy, pings, timerGround}
 
 -- What a start that passed is known to be.
 pub record CanStart (c : Client) (n : ℕ) : Type 0 where
@@ -77,28 +77,27 @@ pub record CanTransmit (c : Client) (message out : ℕ) : Type 0 where
 module _ (c : Client) (message out : ℕ) where
   -- A transmit whose ground passes is so.
   pub transmit-passes : transmitGround c message out ≡ Pass → CanTransmit c message out
-  unfolding transmitGround transmitLent sameMessage either
+  unfolding transmitGround
   transmit-passes e0 =
-      let e1 = first-passes (transmitLent (c .state) message (c .outgoing .length) out) _ e0 in
+      let e1 = first-passes (transmitLent (isSending (c .state)) message (c .outgoing .length) out) _ e0 in
       let e2 = first-passes (refuseIf (not (sound c)) BrokenRecord) _ (e1 .1) in
       let e3 = first-passes (refuseIf (not (isSending (c .state))) NoRow) (ticketGround (sendsLast (c .outgoing)) (c .tickets)) (e2 .1) in
       let sends = must-hold (isSending (c .state)) NoRow (e3 .0) in
-      let l1 = both-true (eqb out 1472) _ (must-hold _ WrongLength (e1 .0)) in
-      let l2 = both-true (leb message 44544) (sameMessage (c .state) message (c .outgoing .length)) (l1 .1) in
+      let lent = transmit-lent-passes (isSending (c .state)) message (c .outgoing .length) out (e1 .0) in
       record {
-        buffer = eqb-true out 1472 (l1 .0);
-        short = leb-true message 44544 (l2 .0);
+        buffer = lent .0;
+        short = lent .1;
         kept = must-hold (sound c) BrokenRecord (e2 .0);
         row = sends;
-        same = eqb-true message (c .outgoing .length) (sym (choose-false (not (isSending (c .state))) true _ (ap not sends)) ∙ l2 .1);
+        same = lent .2 sends;
         free = ticket-passes (sendsLast (c .outgoing)) (c .tickets) (e3 .1);
       }
 
   -- A transmit's judgement is definite.
   pub transmit-definite : Definite (transmitGround c message out)
-  unfolding transmitGround transmitLent
+  unfolding transmitGround
   transmit-definite =
-      first-definite _ _ (refuse-definite _ WrongLength tt)
+      first-definite _ _ (transmit-lent-definite (isSending (c .state)) message (c .outgoing .length) out)
       (first-definite _ _ (refuse-definite _ BrokenRecord tt)
       (first-definite _ _ (refuse-definite _ NoRow tt)
       (ticket-definite (sendsLast (c .outgoing)) (c .tickets))))

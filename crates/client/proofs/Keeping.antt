@@ -4,7 +4,7 @@ use mathlib.Core.Bool.{true, false≢true}
 use mathlib.Core.List.{List}
 use mathlib.Core.Path.{_≡_, refl, sym, subst}
 use native.Mathlib.Omega.{arith}
-use lib.ListN.{length, length-drop}
+use lib.ListN.{length}
 use Rattle.answers.specs.declared.Answer.the-variants.{Done}
 use Rattle.answers.specs.declared.Ground.{Ground}
 use Rattle.bodies.specs.Status.{statusReading}
@@ -15,10 +15,10 @@ use Rattle.fragments.proofs.PutLaws.{stored-sound}
 use Rattle.pdu.specs.declared.Header.{Header}
 use Rattle.pdu.specs.Header.{bodyOf}
 use Rattle.reader.specs.Reading.{reading}
-use Rattle.writer.proofs.RoundTrip.{accepted-readable}
+use Rattle.writer.proofs.RoundTrip.{body-short}
 use Rattle.timers.specs.declared.Timer.the-variants.{Off}
 use Rattle.grounds.specs.Entry.{lentGround}
-use Rattle.grounds.specs.Fragment.{isLast}
+use Rattle.grounds.specs.Fragment.{isLast, bodyLength}
 use Rattle.grounds.proofs.GroundLaws.{fragment-passes, put-passes, fack-passes}
 use Rattle.client_record.specs.declared.State.the-variants.{Complete, Fault as FaultState}
 use Rattle.client_record.specs.declared.Client.{Client}
@@ -29,7 +29,7 @@ use Rattle.client_table.specs.declared.Event.{Event}
 use Rattle.client_table.specs.declared.Event.the-variants.{Response, Fault, Reject, Working, Nocall, Fack, Foreign}
 use Rattle.client_table.specs.declared.TimerKind.{TimerKind}
 use Rattle.client_table.specs.Events.{eventOf, byEvent, hasRow, arms}
-use Rattle.client_table.specs.Arrival.{completes, bodyLength}
+use Rattle.client_table.specs.Arrival.{completes}
 use Rattle.client_steps.specs.Plan.{accepted}
 use Rattle.client_steps.specs.Rows.{startPlan, transmitPlan, timerPlan}
 use Rattle.client_steps.proofs.StepLaws.{started-sound, transmitted-sound, timer-sound, failed-sound}
@@ -39,17 +39,6 @@ use Rattle.client_arrivals.proofs.ArrivalLaws.{fack-sound, response-sound, work
 use Rattle.client.specs.Machine.{outcomeOf, sending, planOf, acted, starting, transmitting, timing, arriving}
 use Rattle.client.proofs.Judging.{CanArrive, start-passes, transmit-passes, timer-passes, arrival-passes}
 use Rattle.client.proofs.Accepting.{start-accepted, transmit-accepted, timer-accepted, arrive-accepted}
-
--- The body of a datagram that is read is at most 1,392 bytes,
-pub body-short : (s : List ℕ) → reading s .answer ≡ Done → length (bodyOf s) ≤ 1392
-unfolding bodyOf
-body-short s done =
-    let known = accepted-readable s done in
-    rw length-drop (omega arith)
-
--- so that the record keeps its very length.
-pub body-length : (body : List ℕ) → length body ≤ 1392 → bodyLength body ≡ length body
-body-length body short = omega arith
 
 -- An arriving PDU that passed.
 module _ (c : Client) (h : Header) (n status : ℕ) (kept : sound c ≡ true) (short : n ≤ 1392) where

@@ -11,13 +11,15 @@ use Rattle.bodies.specs.Status.{statusReading}
 use Rattle.calls.specs.declared.Call.{Call}
 use Rattle.calls.specs.declared.Sent.the-variants.{Nothing as Unsent}
 use Rattle.calls.specs.declared.Notice.the-variants.{Nothing as Untold}
+use Rattle.fragments.specs.Slots.{storing}
 use Rattle.pdu.specs.Header.{bodyOf}
 use Rattle.reader.specs.Reading.{reading}
 use Rattle.timers.specs.Tickets.{armedWith}
 use Rattle.grounds.specs.Entry.{lentGround}
+use Rattle.grounds.specs.Fragment.{bodyLength}
 use Rattle.client_record.specs.declared.Client.{Client}
 use Rattle.client_table.specs.declared.TimerKind.{TimerKind}
-use Rattle.client_table.specs.Arrival.{bodyLength, arrivalGround}
+use Rattle.client_table.specs.Arrival.{arrivalGround}
 use Rattle.client_table.specs.Local.{startGround, transmitGround, timerGround, namedTimer}
 use Rattle.client_steps.specs.declared.Plan.{Plan}
 use Rattle.client_steps.specs.Plan.{refused}
@@ -26,7 +28,7 @@ use Rattle.client_steps.proofs.PlanLaws.{start-settled, transmit-settled, timer
 use Rattle.client_arrivals.proofs.TableLaws.{arrival-settled}
 use Rattle.client.specs.declared.Outcome.{Outcome}
 use Rattle.client.specs.Sending.{sentOut}
-use Rattle.client.specs.Machine.{outcomeOf, Step, Arrival, sending, storing, planOf, acted, starting, transmitting, timing, arriving}
+use Rattle.client.specs.Machine.{outcomeOf, Step, Arrival, sending, planOf, acted, starting, transmitting, timing, arriving}
 use Rattle.client.proofs.Judging.{timer-passes}
 use Rattle.client.proofs.Accepting.{timer-accepted}
 

@@ -5,6 +5,7 @@ use mathlib.Core.Path.{_≡_, sym, ap, _∙_, subst}
 use Rattle.answers.specs.declared.Ground.{Ground}
 use Rattle.calls.specs.declared.Sent.{Sent}
 use Rattle.calls.specs.Sent.{posting, Posted}
+use Rattle.fragments.specs.Slots.{storing}
 use Rattle.pdu.specs.declared.Header.{Header}
 use Rattle.pdu.specs.Header.{bodyOf}
 use Rattle.reader.specs.declared.Reading.{Reading}
@@ -14,7 +15,7 @@ use Rattle.client_steps.specs.declared.Send.{Send}
 use Rattle.client_steps.specs.declared.Plan.{Plan}
 use Rattle.client.specs.declared.Outcome.{Outcome}
 use Rattle.client.specs.Sending.{sentOut}
-use Rattle.client.specs.Machine.{outcomeOf, Stepped, sending, Arrived, storing, planOf, acted}
+use Rattle.client.specs.Machine.{outcomeOf, Stepped, sending, Arrived, planOf, acted}
 
 -- A PDU that was posted, its header and body known.
 pub posted-as : (h k : Header) (b d out : List ℕ) (r : Sent) (after : List ℕ)

@@ -1,24 +1,24 @@
 -- What each event of the client gives and leaves, for all that a caller can hand in.
 use Prim.Native.Nat.{ℕ}
-use mathlib.Core.Bool.{Bool}
 use mathlib.Core.List.{List, []}
 use mathlib.Core.Path.{_≡_}
 use lib.ListN.{length}
-use Rattle.words.specs.Choice.{choose}
 use Rattle.answers.specs.declared.Ground.{Ground}
 use Rattle.bodies.specs.Status.{statusReading}
 use Rattle.calls.specs.declared.Call.{Call}
 use Rattle.calls.specs.declared.Sent.{Sent}
 use Rattle.calls.specs.declared.Sent.the-variants.{Nothing}
-use Rattle.fragments.specs.Slots.{filled, handedUp}
+use Rattle.fragments.specs.Slots.{storing}
+use Rattle.fragments.specs.Joined.{partOf}
 use Rattle.grounds.specs.Entry.{lentGround}
+use Rattle.grounds.specs.Fragment.{bodyLength}
 use Rattle.pdu.specs.Header.{bodyOf}
 use Rattle.reader.specs.declared.Reading.{Reading}
 use Rattle.reader.specs.Reading.{reading}
 use Rattle.client_record.specs.declared.Client.{Client}
 use Rattle.client_record.specs.Rules.{sound}
 use Rattle.client_table.specs.declared.TimerKind.{TimerKind}
-use Rattle.client_table.specs.Arrival.{bodyLength, arrivalGround}
+use Rattle.client_table.specs.Arrival.{arrivalGround}
 use Rattle.client_table.specs.Local.{startGround, transmitGround, timerGround}
 use Rattle.client_steps.specs.declared.Plan.{Plan}
 use Rattle.client_steps.specs.Rows.{startPlan, transmitPlan, timerPlan}
@@ -71,10 +71,6 @@ pub record Arrived (a : Arrival) (r : Outcome) (slots out : List ℕ) : Type 0 w
   pub stored : slots ≡ a .slots
   pub buffer : out ≡ a .out
 
--- The slot buffer after a plan: only the bytes of the fragment put differ.
-unfoldable pub storing : Bool → ℕ → List ℕ → List ℕ → List ℕ
-storing put f body slots = choose put (filled f body slots) slots
-
 -- The plan of an arriving PDU.
 unfoldable pub planOf : Client → Ground → Reading → List ℕ → Plan
 planOf c lent r body =
@@ -96,4 +92,4 @@ arriving c datagram slots out =
 
 -- The part handed back for number f: none of a record that breaks its rules.
 unfoldable pub handedUpOf : Client → ℕ → List ℕ → List ℕ
-handedUpOf c f slots = choose (sound c) (handedUp (c .incoming) f slots) []
+handedUpOf c f slots = partOf (sound c) (c .incoming) f slots

@@ -15,7 +15,7 @@ ghost use mathlib.Core.Path.{_≡_};
 ghost use mathlib.Core.List.{[]};
 ghost use Rattle.calls.specs.Sent.{Posted};
 ghost use Rattle.client.specs.Sending.{pduHeader, requestSent, emptySent, fackSent, sentOut};
-ghost use Rattle.client.specs.Machine.{outcomeOf, Stepped, Arrived, storing, starting, transmitting, timing, planOf, acted, arriving, handedUpOf};
+ghost use Rattle.client.specs.Machine.{outcomeOf, Stepped, Arrived, starting, transmitting, timing, planOf, acted, arriving, handedUpOf};
 
 // What an event gives back.
 pub struct Outcome {
@@ -86,15 +86,6 @@ fn send_out(send: Send, c: Client, message: &[u8], out: &mut [u8]) -> Sent
     }
 }
 
-// Puts the arriving fragment where the plan says so.
-fn store(put: bool, f: u16, body: &[u8], slots: &mut [u8])
-    ensures { λ _. ⌜ now (slots .exit) ≡ storing put f (now (body .entry)) (now (slots .entry)) ⌝ }
-{
-    if put {
-        fragments::fill(slots, f, body);
-    }
-}
-
 // What an event gives back of its plan and of what was sent.
 fn outcome_of(plan: Plan, sent: Sent) -> Outcome
     ensures { λ r. ⌜ r ≡ outcomeOf plan sent ⌝ }
@@ -148,7 +139,7 @@ fn plan_arrival(c: Client, lent: Ground, reading: Reading, body: &[u8]) -> Plan
     let h = reading.header;
     let ground = client_table::arrival(c, lent, reading, body);
     let status = bodies::read_status(body, reading.little);
-    let length = client_table::body_length(body.len());
+    let length = grounds::body_length(body.len());
     client_arrivals::arrive(ground, c, h, length, status.status)
 }
 
@@ -159,7 +150,7 @@ fn act(plan: Plan, f: u16, body: &[u8], slots: &mut [u8], out: &mut [u8]) -> Out
     let client = plan.client;
     let send = plan.send;
     let none: [u8; 0] = [];
-    store(plan.put, f, body, slots);
+    fragments::store(plan.put, f, body, slots);
     outcome_of(plan, send_out(send, client, &none, out))
 }
 
@@ -182,8 +173,5 @@ pub fn hand_up(c: Client, f: u16, slots: &[u8]) -> &[u8]
 {
     let m = c.incoming;
     let sound = client_record::is_sound(c);
-    if sound {
-        return fragments::hand_up(m, f, slots);
-    }
-    &slots[0..0]
+    fragments::hand_up_where(sound, m, f, slots)
 }

@@ -6,7 +6,7 @@ use outgoing::Outgoing;
 use timers::Timer;
 ghost use mathlib.Core.Path.{_≡_};
 ghost use Rattle.client_record.specs.States.{mayStart, isQueued, isSending, isActive, isDispatched, isWaiting, isAckPending};
-ghost use Rattle.client_record.specs.Rules.{countsSound, messageRule, outgoingSound, timerSound, timersSound, sound};
+ghost use Rattle.client_record.specs.Rules.{countsSound, messageRule, outgoingSound, timersSound, sound};
 ghost use Rattle.client_record.specs.Record.{fresh as freshRecord, timed, waiting, ackPending, unarmed};
 
 pub enum State {
@@ -172,23 +172,15 @@ fn outgoing_is_sound(state: State, o: Outgoing) -> bool
     words::both(bounded, message_rule(state, nothing, unsent, message))
 }
 
-// Whether a timer is off, or named by the state and its ticket at most the counter.
-fn timer_is_sound(named: bool, timer: Timer, tickets: u64) -> bool
-    ensures { λ r. ⌜ r ≡ timerSound named timer tickets ⌝ }
-{
-    let off = timers::is_off(timer);
-    let sound = timers::is_sound(timer, tickets);
-    words::both(words::either(named, off), sound)
-}
-
+// Whether each timer is off, or named by the state and its ticket at most the counter.
 fn timers_are_sound(state: State, wait: Timer, ack: Timer, tickets: u64) -> bool
     ensures { λ r. ⌜ r ≡ timersSound state wait ack tickets ⌝ }
 {
     let waiting = is_waiting(state);
     let pending = is_ack_pending(state);
     words::both(
-        timer_is_sound(waiting, wait, tickets),
-        timer_is_sound(pending, ack, tickets),
+        timers::is_sound_where(waiting, wait, tickets),
+        timers::is_sound_where(pending, ack, tickets),
     )
 }
 

@@ -1,13 +1,14 @@
 -- The grounds of start, transmit and the timer events.
 use Prim.Native.Nat.{ℕ}
 use mathlib.Core.Bool.{Bool, false, not}
-use lib.Dec.{ltb, leb, eqb}
-use Rattle.words.specs.Choice.{both, either}
+use lib.Dec.{ltb, eqb}
+use Rattle.words.specs.Choice.{both}
 use Rattle.answers.specs.declared.Answer.the-variants.{WrongLength, BrokenRecord, NoRow, NumbersUsedUp}
 use Rattle.answers.specs.declared.Ground.{Ground}
 use Rattle.timers.specs.declared.Timer.{Timer}
 use Rattle.outgoing.specs.Sending.{sendsLast}
 use Rattle.grounds.specs.Order.{first, refuseIf}
+use Rattle.grounds.specs.Entry.{transmitLent}
 use Rattle.grounds.specs.Timing.{lateGround, ticketGround}
 use Rattle.client_record.specs.declared.State.{State}
 use Rattle.client_record.specs.declared.Client.{Client}
@@ -24,19 +25,10 @@ startGround c length =
     (first (refuseIf (not (mayStart (c .state))) NoRow)
     (refuseIf (both (not (isQueued (c .state))) (eqb (c .number) 4294967295)) NumbersUsedUp)))
 
--- The message lent has the length that its start gave, where transmit has a row; only the limit is judged elsewhere.
-unfoldable pub sameMessage : State → ℕ → ℕ → Bool
-sameMessage state message length = either (not (isSending state)) (eqb message length)
-
--- 1, of a transmit: the PDU buffer, a message over 44,544, another message.
-unfoldable pub transmitLent : State → ℕ → ℕ → ℕ → Ground
-transmitLent state message length out =
-    refuseIf (not (both (eqb out 1472) (both (leb message 44544) (sameMessage state message length)))) WrongLength
-
 -- Transmit: 1; 2; 15 but in SEND_FRAGS; 20 where the last fragment is sent, which arms WAIT.
 unfoldable pub transmitGround : Client → ℕ → ℕ → Ground
 transmitGround c message out =
-    first (transmitLent (c .state) message (c .outgoing .length) out)
+    first (transmitLent (isSending (c .state)) message (c .outgoing .length) out)
     (first (refuseIf (not (sound c)) BrokenRecord)
     (first (refuseIf (not (isSending (c .state))) NoRow)
     (ticketGround (sendsLast (c .outgoing)) (c .tickets))))

@@ -9,10 +9,9 @@ use outgoing::MESSAGE_SIZE;
 use reader::Reading;
 use timers::Timer;
 ghost use mathlib.Core.Path.{_≡_};
-ghost use Prim.Native.Nat.{_%_};
 ghost use Rattle.client_table.specs.Events.{serverEvent, eventOf, byEvent, sideGround, hasRow, arms as armsTimer};
 ghost use Rattle.client_table.specs.Arrival.{numberGround, pduGround, completes as completesMessage, rowGround, tableGround, arrivalGround};
-ghost use Rattle.client_table.specs.Local.{startGround, sameMessage, transmitLent, transmitGround, namedTimer, namedBy, pings, timerGround};
+ghost use Rattle.client_table.specs.Local.{startGround, transmitGround, namedTimer, namedBy, pings, timerGround};
 
 // What an arriving PDU is to the client.
 pub enum Event {
@@ -170,13 +169,6 @@ fn row_ground(
     grounds::first_of(grounds::refuse_if(!row, Answer::NoRow), rest)
 }
 
-// The length of a body as the record keeps it.
-pub fn body_length(length: usize) -> u16
-    ensures { λ r. ⌜ r ≡ length % 65536 ⌝ }
-{
-    (length % 65536) as u16
-}
-
 // 15 to 20, of a PDU that is the event.
 fn table_ground(event: Event, c: Client, flags1: u8, f: u16, length: u16) -> Ground
     ensures { λ r. ⌜ r ≡ tableGround event c flags1 f length ⌝ }
@@ -207,7 +199,8 @@ pub fn arrival(c: Client, lent: Ground, reading: Reading, body: &[u8]) -> Ground
     let event = event_of(h.kind);
     let old = number(state, c.number, h.number);
     let pdu = pdu_ground(event, old, h.flags1, h.fragment, body, reading.little);
-    let table = table_ground(event, c, h.flags1, h.fragment, body_length(body.len()));
+    let length = grounds::body_length(body.len());
+    let table = table_ground(event, c, h.flags1, h.fragment, length);
     grounds::first_of(entry, grounds::first_of(pdu, table))
 }
 
@@ -230,34 +223,16 @@ pub fn start(c: Client, length: u32) -> Ground
     )
 }
 
-// Whether the message lent at a transmit is that of the call, where transmit has a row.
-fn is_same_message(state: State, message: usize, length: u32) -> bool
-    ensures { λ r. ⌜ r ≡ sameMessage state message length ⌝ }
-{
-    let sending = client_record::is_sending(state);
-    words::either(!sending, message == length as usize)
-}
-
-// 1, of a transmit.
-fn transmit_lent(state: State, message: usize, length: u32, out: usize) -> Ground
-    ensures { λ r. ⌜ r ≡ transmitLent state message length out ⌝ }
-{
-    let same = is_same_message(state, message, length);
-    let fits = words::both(message <= MESSAGE_SIZE as usize, same);
-    let whole = words::both(out == pdu::PDU_SIZE, fits);
-    grounds::refuse_if(!whole, Answer::WrongLength)
-}
-
 // The ground of a transmit.
 pub fn transmit(c: Client, message: usize, out: usize) -> Ground
     ensures { λ r. ⌜ r ≡ transmitGround c message out ⌝ }
 {
     let state = c.state;
     let o = c.outgoing;
-    let lent = transmit_lent(state, message, o.length, out);
+    let sending = client_record::is_sending(state);
+    let lent = grounds::message_lent(sending, message, o.length, out);
     let sound = client_record::is_sound(c);
     let rules = grounds::refuse_if(!sound, Answer::BrokenRecord);
-    let sending = client_record::is_sending(state);
     let row = grounds::refuse_if(!sending, Answer::NoRow);
     let ticket = grounds::tickets(outgoing::sends_last(o), c.tickets);
     grounds::first_of(

@@ -62,12 +62,13 @@ held-told m g kept here k =
     rw zero-add at (sound-told (m .last) 0 (m .slots) g missing (rules .1) here k)
 
 -- Where none of these is held, not one is.
-none-held : (slots : List Slot) (i : ℕ) → anyHeld slots ≡ false → getD slots i missing .held ≡ false
+pub none-held : (slots : List Slot) (i : ℕ) → anyHeld slots ≡ false → getD slots i missing .held ≡ false
 none-held [] i e = refl
 none-held (s ∷ ss) zero e = either-false (s .held) (anyHeld ss) e .0
 none-held (s ∷ ss) (suc i) e = none-held ss i (either-false (s .held) (anyHeld ss) e .1)
 
-none-above : (m : Incoming) (f g : ℕ) → heldAbove m f ≡ false → held m g ≡ true → g ≤ f
+-- Where no fragment above f is held, what is held is at most f.
+pub none-above : (m : Incoming) (f g : ℕ) → heldAbove m f ≡ false → held m g ≡ true → g ≤ f
 unfolding heldAbove held
 none-above m f g e k = by-order (decLe g f)
   where

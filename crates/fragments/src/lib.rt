@@ -8,7 +8,8 @@ ghost use lib.Dec.{eqb, leb};
 ghost use Rattle.words.specs.Choice.{both};
 ghost use Rattle.incoming.specs.Slots.{missing};
 ghost use Rattle.fragments.specs.Judgement.{held, anyHeld, aboveLast, otherLast, contradicts};
-ghost use Rattle.fragments.specs.Slots.{filled, isHandedUp, handedUp};
+ghost use Rattle.fragments.specs.Slots.{filled, storing, isHandedUp, handedUp};
+ghost use Rattle.fragments.specs.Joined.{partOf};
 
 // A slot buffer has exactly as many bytes: 32 fragments of 1,392.
 pub const SLOTS_SIZE: usize = 44544;
@@ -101,6 +102,15 @@ pub fn fill(buffer: &mut [u8], f: u16, body: &[u8])
     }
 }
 
+// Puts an arriving fragment where the plan says so.
+pub fn store(put: bool, f: u16, body: &[u8], slots: &mut [u8])
+    ensures { λ _. ⌜ now (slots .exit) ≡ storing put f (now (body .entry)) (now (slots .entry)) ⌝ }
+{
+    if put {
+        fill(slots, f, body);
+    }
+}
+
 // Whether number f is handed up: a buffer of the right length, a sound record, a contiguous fragment.
 fn is_handed_up(m: Incoming, f: u16, size: usize) -> bool
     ensures { λ r. ⌜ r ≡ isHandedUp m f size ⌝ }
@@ -123,4 +133,14 @@ pub fn hand_up(m: Incoming, f: u16, buffer: &[u8]) -> &[u8]
         return &buffer[from..to];
     }
     &buffer[0..0]
+}
+
+// The part that a machine hands back for number f; an empty one where its record breaks its rules.
+pub fn hand_up_where(kept: bool, m: Incoming, f: u16, slots: &[u8]) -> &[u8]
+    ensures { λ r. ⌜ now r ≡ partOf kept m f (now (slots .entry)) ⌝ }
+{
+    if kept {
+        return hand_up(m, f, slots);
+    }
+    &slots[0..0]
 }

@@ -3,12 +3,14 @@
 use answers::Answer;
 use answers::Ground;
 use incoming::Incoming;
+use outgoing::MESSAGE_SIZE;
 use timers::Timer;
 ghost use mathlib.Core.Path.{_≡_};
+ghost use Prim.Native.Nat.{_%_};
 ghost use Rattle.grounds.specs.Order.{first, refuseIf, groundOf};
 ghost use Rattle.grounds.specs.Fragment.{isLast, wantsFack, fragmentGround, putGround};
 ghost use Rattle.grounds.specs.Fack.{acknowledgedBy, fackCountGround, fackBodyGround, statusBodyGround};
-ghost use Rattle.grounds.specs.Entry.{same, lentGround, entryGround};
+ghost use Rattle.grounds.specs.Entry.{same, lentGround, sameMessage, transmitLent, entryGround};
 ghost use Rattle.grounds.specs.Timing.{lateGround, ticketGround};
 
 // The first of two grounds that refuses.
@@ -61,6 +63,23 @@ pub fn lent(slots: usize, out: usize) -> Ground
     refuse_if(!whole, Answer::WrongLength)
 }
 
+// Whether the message lent at a transmit is that of the call, where transmit has a row.
+fn is_same_message(sending: bool, message: usize, length: u32) -> bool
+    ensures { λ r. ⌜ r ≡ sameMessage sending message length ⌝ }
+{
+    words::either(!sending, message == length as usize)
+}
+
+// 1, of a transmit: the PDU buffer and the message, whose length the record has where it is sending.
+pub fn message_lent(sending: bool, message: usize, length: u32, out: usize) -> Ground
+    ensures { λ r. ⌜ r ≡ transmitLent sending message length out ⌝ }
+{
+    let same = is_same_message(sending, message, length);
+    let fits = words::both(message <= MESSAGE_SIZE as usize, same);
+    let whole = words::both(out == pdu::PDU_SIZE, fits);
+    refuse_if(!whole, Answer::WrongLength)
+}
+
 // 1 to 9, of an arriving datagram: lent lengths, record rules, the reader, the activity.
 pub fn entry(lent: Ground, sound: bool, read: Answer, mine: [u8; 16], theirs: [u8; 16]) -> Ground
     ensures { λ r. ⌜ r ≡ entryGround lent sound read mine theirs ⌝ }
@@ -107,6 +126,13 @@ pub fn put(m: Incoming, f: u16, is_last: bool) -> Ground
     let contradiction = fragments::contradicts_held(m, f, is_last);
     let repeated = refuse_if(held, Answer::Repeated);
     first_of(repeated, refuse_if(contradiction, Answer::Contradiction))
+}
+
+// The length of a body as a record keeps it.
+pub fn body_length(length: usize) -> u16
+    ensures { λ r. ⌜ r ≡ length % 65536 ⌝ }
+{
+    (length % 65536) as u16
 }
 
 // How many fragments a fack acknowledges by its number; 65535 counts as none.

@@ -1,6 +1,6 @@
 // Timers: off, or armed with a ticket that a record's one counter gives out.
 ghost use mathlib.Core.Path.{_≡_};
-ghost use Rattle.timers.specs.Tickets.{usedUp, nextTicket, armedAfresh, armedWith, off, sound};
+ghost use Rattle.timers.specs.Tickets.{usedUp, nextTicket, armedAfresh, armedWith, off, sound, timerSound};
 
 // The largest counter.
 const LARGEST: u64 = 18446744073709551615;
@@ -63,4 +63,13 @@ pub fn is_sound(timer: Timer, counter: u64) -> bool
         Timer::Off => true,
         Timer::Armed(held) => held <= counter,
     }
+}
+
+// Whether the timer is off, or named by the state and its ticket at most the counter.
+pub fn is_sound_where(named: bool, timer: Timer, tickets: u64) -> bool
+    ensures { λ r. ⌜ r ≡ timerSound named timer tickets ⌝ }
+{
+    let off = is_off(timer);
+    let sound = is_sound(timer, tickets);
+    words::both(words::either(named, off), sound)
 }

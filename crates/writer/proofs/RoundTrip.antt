@@ -147,6 +147,11 @@ module _ (s : List ℕ) (done : reading s .answer ≡ Done) where
       passes : groundBy s (orderIs 16 s) (orderIs 0 s) ≡ Pass
       passes = unfold groundBy in readable-passes _ _ _ _ _ _ accepted-readable
 
+  -- Its body is at most 1,392 bytes.
+  pub body-short : length (bodyOf s) ≤ 1392
+  unfolding bodyOf
+  body-short = let known = accepted-readable in rw length-drop (omega arith)
+
 -- The pieces of a little-endian header are the parts of the datagram that it was read from.
 module _ (s : List ℕ) (octets : (i : ℕ) → getD s i 0 < 256) where
   front-same : getD s 0 0 ≡ 4 → (getD s 4 0 ≡ 16) × (getD s 5 0 ≡ 0) × (getD s 6 0 ≡ 0)

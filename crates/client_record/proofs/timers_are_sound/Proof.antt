@@ -14,4 +14,4 @@ timers-are-sound-spec =
     (λ c κs. search needs)
     (λ c κs. search needs)
     (λ c κs. search needs)
-    (λ c. rw (c .both .ensures, c .before .timer-is-sound2 .ensures, c .before .before .timer-is-sound .ensures, c .before .before .before .is-ack-pending .ensures, c .before .before .before .before .is-waiting .ensures)))
+    (λ c. rw (c .both .ensures, c .before .is-sound-where2 .ensures, c .before .before .is-sound-where .ensures, c .before .before .before .is-ack-pending .ensures, c .before .before .before .before .is-waiting .ensures)))

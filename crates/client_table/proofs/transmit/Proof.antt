@@ -19,4 +19,4 @@ transmit-spec =
     (λ c κs. search needs)
     (λ c κs. search needs)
     (λ c κs. search needs)
-    (λ c. rw (c .first-of3 .ensures, c .before .first-of2 .ensures, c .before .before .first-of .ensures, c .before .before .before .tickets .ensures, c .before .before .before .before .sends-last .ensures, c .before .before .before .before .before .refuse-if2 .ensures, c .before .before .before .before .before .before .is-sending .ensures, c .before .before .before .before .before .before .before .refuse-if .ensures, c .before .before .before .before .before .before .before .before .is-sound .ensures, c .before .before .before .before .before .before .before .before .before .transmit-lent .ensures)))
+    (λ c. rw (c .first-of3 .ensures, c .before .first-of2 .ensures, c .before .before .first-of .ensures, c .before .before .before .tickets .ensures, c .before .before .before .before .sends-last .ensures, c .before .before .before .before .before .refuse-if2 .ensures, c .before .before .before .before .before .before .refuse-if .ensures, c .before .before .before .before .before .before .before .is-sound .ensures, c .before .before .before .before .before .before .before .before .message-lent .ensures, c .before .before .before .before .before .before .before .before .before .is-sending .ensures)))

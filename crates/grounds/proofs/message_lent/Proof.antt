@@ -1,12 +1,12 @@
--- `client_table::transmit_lent` meets its contract.
-use Rattle.client_table.specs.Local.{transmitLent}
+-- `grounds::message_lent` meets its contract.
+use Rattle.grounds.specs.Entry.{transmitLent}
 use borrow.Author.Needs.{needs}
-use Rattle.client_table.proofs.transmit_lent.Statement.{statement}
-use Rattle.client_table.proofs.transmit_lent.Tie as tie
+use Rattle.grounds.proofs.message_lent.Statement.{statement}
+use Rattle.grounds.proofs.message_lent.Tie as tie
 
-pub transmit-lent-spec : {M : Type 1} → statement M
+pub message-lent-spec : {M : Type 1} → statement M
 unfolding transmitLent
-transmit-lent-spec =
+message-lent-spec =
     tie.close
     (tie.spec
     (λ c κs. search needs)

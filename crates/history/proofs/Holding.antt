@@ -1,0 +1,261 @@
+-- What a receiver holds of one message.
+use Prim.Native.Nat.{ℕ, _+_, _-_, _*_, _<_, _≤_}
+use mathlib.Core.Bool.{Bool, true, false, false≢true, true≢false}
+use mathlib.Core.List.{List}
+use mathlib.Core.Logic.{_⊎_, inl, inr}
+use mathlib.Core.Path.{_≡_, refl, sym, ap, _∙_}
+use native.Mathlib.Omega.{arith}
+use lib.Dec.{ltb, eqb}
+use lib.ListN.{length, getD, List·getD-eq-default}
+use native.Mathlib.Decide.{decLt}
+use borrow.Author.Tests.{eqb-true, eqb-false, eq-eqb, ltb-true, lt-ltb}
+use Rattle.words.specs.Choice.{choose, both, either}
+use Rattle.words.proofs.Tests.{choose-true, choose-false, either-false}
+use Rattle.flags.specs.Flags.{lastFragment, fragment, idempotent, hasFlag, withFlag}
+use Rattle.incoming.specs.declared.Slot.{Slot}
+use Rattle.incoming.specs.declared.Last.{Last}
+use Rattle.incoming.specs.declared.Last.the-variants.{Unknown, At}
+use Rattle.incoming.specs.declared.Incoming.{Incoming}
+use Rattle.incoming.specs.Slots.{missing, allTo, sound, contiguous, complete, lastWith, stored}
+use Rattle.outgoing.specs.Message.{fragments, fragmentOf, flagsOf}
+use Rattle.outgoing.proofs.OutgoingLaws.{fragments-range, fragments-reach, fragment-most}
+use Rattle.fragments.specs.Judgement.{held, anyHeld, heldAbove, aboveLast, otherLast, lastBelowHeld, contradicts}
+use Rattle.fragments.specs.Slots.{stretch, bytesOf, filled}
+use Rattle.fragments.specs.Joined.{joined}
+use Rattle.fragments.proofs.BufferLaws.{Carries, filled-here, filled-other, joined-front, joined-whole}
+use Rattle.fragments.proofs.PutLaws.{stored-length, stored-slot-same, stored-slot-other, stored-held-same, stored-held-other, held-told, none-above}
+use Rattle.grounds.specs.Fragment.{isLast}
+
+-- A fragment of a message: one of its numbers, marked last where it is the last, with its bytes.
+pub record PartOf (message : List ℕ) (flags1 f : ℕ) (body : List ℕ) : Type 0 where
+  pub below : f < fragments (length message)
+  pub last : isLast flags1 ≡ eqb (f + 1) (fragments (length message))
+  pub bytes : body ≡ fragmentOf message f
+
+-- All that is held is of the message; the last is known exactly where it is held.
+pub record Holding (m : Incoming) (slots message : List ℕ) : Type 0 where
+  pub carries : Carries m slots message
+  pub below : (f : ℕ) → held m f ≡ true → f < fragments (length message)
+  pub last : (k : ℕ) → m .last ≡ At k → k + 1 ≡ fragments (length message)
+  pub known : (k : ℕ) → m .last ≡ At k → held m k ≡ true
+  pub end : (k : ℕ) → k + 1 ≡ fragments (length message) → held m k ≡ true → m .last ≡ At k
+
+-- Nothing is held and no last is known.
+pub record Empty (m : Incoming) : Type 0 where
+  pub none : (f : ℕ) → held m f ≡ false
+  pub last : m .last ≡ Unknown
+
+-- An unknown last is at no number.
+abbrev isKnown : Last → Bool
+isKnown Unknown = false
+isKnown (At k) = true
+
+not-known : (l : Last) (k : ℕ) → l ≡ Unknown → l ≡ At k → ⊥
+not-known l k u e = false≢true (sym (ap isKnown u) ∙ ap isKnown e)
+
+-- The number of a known last.
+abbrev lastOr : Last → ℕ
+lastOr Unknown = 0
+lastOr (At k) = k
+
+-- Where nothing is held, it is of any message.
+pub empty-holding : (m : Incoming) (slots message : List ℕ) → Empty m → Holding m slots message
+unfolding held
+empty-holding m slots message e = record {
+  carries = λ f h. absurd (false≢true (sym (e .none f) ∙ h));
+  below = λ f h. absurd (false≢true (sym (e .none f) ∙ h));
+  last = λ k h. absurd (not-known (m .last) k (e .last) h);
+  known = λ k h. absurd (not-known (m .last) k (e .last) h);
+  end = λ k n h. absurd (false≢true (sym (e .none k) ∙ h));
+}
+
+-- A held fragment of a sound record is at most 1,392 long.
+pub held-short : (m : Incoming) (g : ℕ) → sound m ≡ true → getD (m .slots) g missing .held ≡ true → getD (m .slots) g missing .length ≤ 1392
+unfolding held
+held-short m g kept h = by-place (decLt g (length (m .slots)))
+  where
+    by-place : Dec (g < length (m .slots)) → getD (m .slots) g missing .length ≤ 1392
+    by-place (yes here) = held-told m g kept here h .0
+    by-place (no past) =
+        absurd (false≢true (sym (ap (λ (s : Slot). s .held) (List·getD-eq-default (m .slots) missing (omega arith))) ∙ h))
+
+-- A put of a fragment of the message that is missing.
+module _ (m : Incoming) (slots message : List ℕ) (flags1 f : ℕ) (body : List ℕ) (holds : Holding m slots message)
+    (kept : sound m ≡ true) (long : length (m .slots) ≡ 32) (whole : length slots ≡ 44544) (part : PartOf message flags1 f body)
+    (number : f < 32) where
+  short : length body ≤ 1392
+  short = rw (part .bytes) (fragment-most message f)
+
+  put-carries : Carries (stored m f (length body) (isLast flags1)) (filled f body slots) message
+  put-carries g h = by-number (eqb g f) refl
+    where
+      by-number : (t : Bool) → eqb g f ≡ t → bytesOf (stored m f (length body) (isLast flags1) .slots) g (filled f body slots) ≡ fragmentOf message g
+      by-number true e =
+          let same : g ≡ f = eqb-true g f e in
+          rw (same, stored-slot-same m f (length body) (isLast flags1) (omega arith)) (filled-here f body slots whole short number ∙ part .bytes)
+      by-number false e =
+          let apart = eqb-false g f e in
+          let other = stored-slot-other m f (length body) (isLast flags1) g apart in
+          let before : getD (m .slots) g missing .held ≡ true = sym (ap (λ (s : Slot). s .held) other) ∙ h in
+          rw other (filled-other f body slots whole short number g (getD (m .slots) g missing .length) apart (held-short m g kept before) ∙ holds .carries g before)
+
+  put-below : (g : ℕ) → held (stored m f (length body) (isLast flags1)) g ≡ true → g < fragments (length message)
+  put-below g h = by-number (eqb g f) refl
+    where
+      by-number : (t : Bool) → eqb g f ≡ t → g < fragments (length message)
+      by-number true e = rw (eqb-true g f e) (part .below)
+      by-number false e = holds .below g (sym (stored-held-other m f (length body) (isLast flags1) g (eqb-false g f e)) ∙ h)
+
+  -- What is known of the last after the put: it is the fragment where that is the last, else as before.
+  put-last : (t : Bool) → isLast flags1 ≡ t → (k : ℕ) → lastWith (m .last) f t ≡ At k → (k + 1 ≡ fragments (length message)) × (held (stored m f (length body) (isLast flags1)) k ≡ true)
+  unfolding lastWith choose
+  put-last true e k h =
+      let same : f ≡ k = ap lastOr h in
+      rw (← same) (eqb-true (f + 1) (fragments (length message)) (sym (part .last) ∙ e), stored-held-same m f (length body) (isLast flags1) (omega arith))
+  put-last false e k h =
+      let end = holds .last k h in
+      let apart : k ≡ f → ⊥ = λ (same : k ≡ f).
+      eqb-false (f + 1) (fragments (length message)) (sym (part .last) ∙ e) (ap (λ (j : ℕ). j + 1) (sym same) ∙ end) in
+      (end, stored-held-other m f (length body) (isLast flags1) k apart ∙ holds .known k h)
+
+  put-end : (t : Bool) → isLast flags1 ≡ t → (k : ℕ) → k + 1 ≡ fragments (length message)
+      → held (stored m f (length body) (isLast flags1)) k ≡ true → lastWith (m .last) f t ≡ At k
+  unfolding lastWith choose
+  put-end true e k n h =
+      let end = eqb-true (f + 1) (fragments (length message)) (sym (part .last) ∙ e) in
+      let same : f ≡ k = omega arith in
+      ap At same
+  put-end false e k n h =
+      let apart : k ≡ f → ⊥ = λ (same : k ≡ f).
+      eqb-false (f + 1) (fragments (length message)) (sym (part .last) ∙ e) (ap (λ (j : ℕ). j + 1) (sym same) ∙ n) in
+      holds .end k n (sym (stored-held-other m f (length body) (isLast flags1) k apart) ∙ h)
+
+  -- After it all that is held is of the message.
+  pub put-holding : Holding (stored m f (length body) (isLast flags1)) (filled f body slots) message
+  unfolding stored
+  put-holding = record {
+    carries = put-carries;
+    below = put-below;
+    last = λ k h. put-last (isLast flags1) refl k h .0;
+    known = λ k h. put-last (isLast flags1) refl k h .1;
+    end = put-end (isLast flags1) refl;
+  }
+
+-- Where all to the last is held, what is handed up is the whole message.
+pub holding-whole : (m : Incoming) (slots message : List ℕ) → Holding m slots message → sound m ≡ true → length slots ≡ 44544 → complete m ≡ true
+    → joined m slots ≡ message
+unfolding complete
+holding-whole m slots message holds kept whole all = by-last (m .last) refl all
+  where
+    by-last : (l : Last) → m .last ≡ l → allTo l (contiguous m) ≡ true → joined m slots ≡ message
+    by-last Unknown e h = absurd (false≢true h)
+    by-last (At k) e h =
+        let end = holds .last k e in
+        let below : k < contiguous m = ltb-true k (contiguous m) h in
+        let reach = fragments-reach message in
+        joined-whole m slots message kept whole (holds .carries) (omega arith)
+
+-- A message of one fragment.
+abbrev pub Single : List ℕ → Type 0
+Single message = fragments (length message) ≡ 1
+
+-- What is held of a one-fragment message is its fragment 0, with the last known there: nothing more can be put.
+module _ (m : Incoming) (slots message : List ℕ) (holds : Holding m slots message) where
+  -- Where fragment 0 of it is missing, nothing is held.
+  single-empty : Single message → held m 0 ≡ false → Empty m
+  single-empty one new = record { none = none; last = unknown (m .last) refl }
+    where
+      none : (f : ℕ) → held m f ≡ false
+      none f = by-held (held m f) refl
+        where
+          by-held : (t : Bool) → held m f ≡ t → t ≡ false
+          by-held true e =
+              let below = holds .below f e in
+              let zero-is : f ≡ 0 = omega (arith, one) in
+              absurd (false≢true (sym new ∙ ap (held m) (sym zero-is) ∙ e))
+          by-held false e = refl
+
+      unknown : (l : Last) → m .last ≡ l → l ≡ Unknown
+      unknown Unknown e = refl
+      unknown (At k) e = absurd (false≢true (sym (none k) ∙ holds .known k e))
+
+  -- So a fragment that passes 16 and 17 comes to nothing held.
+  single-held : Single message → (f : ℕ) (last : Bool) → held m f ≡ false → contradicts m f last ≡ false → Empty m
+  unfolding contradicts aboveLast
+  single-held one f last new fits = by-held (held m 0) refl
+    where
+      by-held : (t : Bool) → held m 0 ≡ t → Empty m
+      by-held false e = single-empty one e
+      by-held true e = absurd (by-number (eqb f 0) refl)
+        where
+          known : m .last ≡ At 0
+          known = holds .end 0 (sym one) e
+
+          by-number : (t : Bool) → eqb f 0 ≡ t → ⊥
+          by-number true z = false≢true (sym new ∙ ap (held m) (eqb-true f 0 z) ∙ e)
+          by-number false z =
+              let apart = eqb-false f 0 z in
+              let above : aboveLast (m .last) f ≡ true = ap (λ (l : Last). aboveLast l f) known ∙ lt-ltb 0 f (omega arith) in
+              true≢false (sym above ∙ either-false (aboveLast (m .last) f) _ fits .0)
+
+  -- A last fragment 0 that passes 16 and 17 comes to nothing held.
+  first-last : held m 0 ≡ false → contradicts m 0 true ≡ false → Empty m
+  unfolding contradicts lastBelowHeld both choose
+  first-last new fits = record { none = none; last = unknown (m .last) refl }
+    where
+      above : heldAbove m 0 ≡ false
+      above = either-false (otherLast (m .last) 0 true) _ (either-false (aboveLast (m .last) 0) _ fits .1) .1
+
+      none : (f : ℕ) → held m f ≡ false
+      none f = by-held (held m f) refl
+        where
+          by-held : (t : Bool) → held m f ≡ t → t ≡ false
+          by-held true e =
+              let most : f ≤ 0 = none-above m 0 f above e in
+              let zero-is : f ≡ 0 = omega arith in
+              absurd (false≢true (sym new ∙ ap (held m) (sym zero-is) ∙ e))
+          by-held false e = refl
+
+      unknown : (l : Last) → m .last ≡ l → l ≡ Unknown
+      unknown Unknown e = refl
+      unknown (At k) e = absurd (false≢true (sym (none k) ∙ holds .known k e))
+
+-- Of two messages of which one has a single fragment: where a fragment of the other passes 16 and 17, nothing was held.
+pub other-empty : (m : Incoming) (slots message other : List ℕ) (flags1 f : ℕ) (body : List ℕ) → Holding m slots message
+    → PartOf other flags1 f body → held m f ≡ false → contradicts m f (isLast flags1) ≡ false → Single message ⊎ Single other → Empty m
+other-empty m slots message other flags1 f body holds part new fits (inl one) = single-held m slots message holds one f (isLast flags1) new fits
+other-empty m slots message other flags1 f body holds part new fits (inr one) =
+    let zero-is : f ≡ 0 = omega (arith, one, part .below) in
+    let ends : isLast flags1 ≡ true = part .last ∙ eq-eqb (f + 1) (fragments (length other)) (omega (arith, one)) in
+    first-last m slots message holds (ap (held m) (sym zero-is) ∙ new)
+    (sym (ap (λ (t : Bool). contradicts m 0 t) ends) ∙ ap (λ (k : ℕ). contradicts m k (isLast flags1)) (sym zero-is) ∙ fits)
+
+-- The flags of a fragment, with the idempotent bit or without, mark the last and no other.
+pub flags-last : (count f : ℕ) (mark : Bool) → f < count → isLast (withFlag idempotent mark (flagsOf count f)) ≡ eqb (f + 1) count
+unfolding isLast withFlag flagsOf hasFlag either choose
+flags-last count f mark below = by-tests (eqb count 1) (eqb (f + 1) count) refl refl mark
+  where
+    by-tests : (one last : Bool) → eqb count 1 ≡ one → eqb (f + 1) count ≡ last → (t : Bool)
+        → isLast (withFlag idempotent t (choose one 0 (choose last (fragment + lastFragment) fragment))) ≡ last
+    by-tests true true p q true = refl
+    by-tests true true p q false = refl
+    by-tests true false p q t =
+        let single : count ≡ 1 = eqb-true count 1 p in
+        absurd (eqb-false (f + 1) count q (omega arith))
+    by-tests false true p q true = refl
+    by-tests false true p q false = refl
+    by-tests false false p q true = refl
+    by-tests false false p q false = refl
+
+-- The idempotent bit of a fragment is the call's mark.
+pub flags-mark : (count f : ℕ) (mark : Bool) → hasFlag idempotent (withFlag idempotent mark (flagsOf count f)) ≡ mark
+unfolding withFlag flagsOf hasFlag choose
+flags-mark count f mark = by-tests (eqb count 1) (eqb (f + 1) count) mark
+  where
+    by-tests : (one last t : Bool) → hasFlag idempotent (withFlag idempotent t (choose one 0 (choose last (fragment + lastFragment) fragment))) ≡ t
+    by-tests true last true = refl
+    by-tests true last false = refl
+    by-tests false true true = refl
+    by-tests false true false = refl
+    by-tests false false true = refl
+    by-tests false false false = refl

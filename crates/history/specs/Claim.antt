@@ -1,0 +1,151 @@
+-- What holds after every list of events: demand 3, and document 01's "What each step owes".
+use Prim.Native.Nat.{ℕ, _+_, _≤_}
+use mathlib.Core.Bool.{Bool, true, false}
+use mathlib.Core.List.{List, [], _∷_, _++_}
+use mathlib.Core.Logic.{_⊎_}
+use mathlib.Core.Path.{_≡_}
+use lib.Dec.{eqb}
+use lib.ListN.{length}
+use Rattle.words.specs.Choice.{choose}
+use Rattle.answers.specs.declared.Answer.the-variants.{Done}
+use Rattle.fragments.specs.Joined.{Leads}
+use Rattle.timers.specs.declared.Timer.{Timer}
+use Rattle.timers.specs.declared.Timer.the-variants.{Off, Armed}
+use Rattle.client_record.specs.declared.Client.{Client}
+use Rattle.client_record.specs.declared.State.{State as ClientState}
+use Rattle.client_record.specs.declared.State.the-variants.{Queued, SendFrags, Dispatched as DispatchedState, ReceiveFrags, AckPending, Complete, Fault as FaultState}
+use Rattle.client_record.specs.Rules.{sound as clientSound}
+use Rattle.client_table.specs.declared.TimerKind.{TimerKind}
+use Rattle.client_table.specs.declared.TimerKind.the-variants.{Wait, Ack}
+use Rattle.client.specs.HandUp.{handsUp}
+use Rattle.server_record.specs.States.{isIdle}
+use Rattle.server_record.specs.Rules.{sound as serverSound}
+use Rattle.history.specs.Lists.{In}
+use Rattle.history.specs.World.{Started, Dispatched, Replied, World}
+use Rattle.history.specs.Events.{Event, ClientTimer, ServerTimer}
+use Rattle.history.specs.Steps.{answerTo, step, run}
+
+-- How often a number was dispatched.
+abbrev pub times : ℕ → List Dispatched → ℕ
+times n [] = 0
+times n (d ∷ ds) = choose (eqb n (d .number)) 1 0 + times n ds
+
+-- A number not marked idempotent is dispatched at most once.
+unfoldable pub AtMostOnce : World → Type 0
+AtMostOnce w = (s : Started) → In s (w .starts) → s .idempotent ≡ false → times (s .number) (w .dispatches) ≤ 1
+
+-- Whole messages: a dispatch gets all that the start of its number has, and no other start has that number.
+pub record WholeMessage (starts : List Started) (d : Dispatched) : Type 0 where
+  pub start : Started
+  pub started : In start starts
+  pub number : start .number ≡ d .number
+  pub whole : d .bytes ≡ start .message
+  pub only : (other : Started) → In other starts → other .number ≡ d .number → other ≡ start
+
+unfoldable pub WholeMessages : World → Type 0
+WholeMessages w = (d : Dispatched) → In d (w .dispatches) → WholeMessage (w .starts) d
+
+-- What the client hands up.
+abbrev pub handedUp : World → List ℕ
+handedUp w = handsUp (w .client) (w .clientSlots)
+
+-- One reply, given to the client's number, of which this is so.
+pub record OfOneReply (w : World) (P : List ℕ → Type 0) : Type 0 where
+  pub reply : Replied
+  pub given : In reply (w .replies)
+  pub number : reply .number ≡ w .client .number
+  pub is : P (reply .message)
+
+-- What the client hands up is nothing, or a leading part of one reply;
+unfoldable pub OneReply : World → Type 0
+OneReply w = (handedUp w ≡ []) ⊎ OfOneReply w (λ message. Leads (handedUp w) message)
+
+-- once it was told "last" it is the whole of one.
+abbrev pub toldLast : ClientState → Bool
+toldLast Queued = false
+toldLast SendFrags = false
+toldLast DispatchedState = false
+toldLast ReceiveFrags = false
+toldLast AckPending = true
+toldLast Complete = true
+toldLast FaultState = false
+
+unfoldable pub WholeReply : World → Type 0
+WholeReply w = toldLast (w .client .state) ≡ true → OfOneReply w (λ message. handedUp w ≡ message)
+
+-- It only grows: while no further start is accepted, what was handed up before leads what is handed up now.
+unfoldable pub OnlyGrows : World → List Event → Type 0
+OnlyGrows w events =
+    (before after : List Event) → events ≡ before ++ after → run w events .starts ≡ run w before .starts
+    → Leads (handedUp (run w before)) (handedUp (run w events))
+
+-- The timers of a world: the client's two and the server's RESEND.
+pub data TimerOf : Type 0 where
+  OfClient : TimerKind → TimerOf
+  OfServer : TimerOf
+
+unfoldable pub timerIn : World → TimerOf → Timer
+timerIn w (OfClient Wait) = w .client .wait
+timerIn w (OfClient Ack) = w .client .ack
+timerIn w OfServer = w .server .resend
+
+-- The event of a timer, with its ticket and a PDU buffer.
+unfoldable pub timerEvent : TimerOf → ℕ → List ℕ → Event
+timerEvent (OfClient kind) ticket out = ClientTimer kind ticket out
+timerEvent OfServer ticket out = ServerTimer ticket out
+
+-- A late timer changes nothing: where a ticket is not the armed one, its event leaves the whole world as it was,
+unfoldable pub LateTimers : World → Type 0
+LateTimers w = (timer : TimerOf) (ticket : ℕ) (out : List ℕ) → (timerIn w timer ≡ Armed ticket → ⊥) → step w (timerEvent timer ticket out) ≡ w
+
+-- a ticket that was armed and is no longer never is again,
+unfoldable pub GoneTickets : World → List Event → Type 0
+GoneTickets w events =
+    (before between after : List Event) → events ≡ before ++ (between ++ after) → (timer : TimerOf) (ticket : ℕ)
+    → timerIn (run w before) timer ≡ Armed ticket → (timerIn (run w (before ++ between)) timer ≡ Armed ticket → ⊥)
+    → timerIn (run w events) timer ≡ Armed ticket → ⊥
+
+-- and a ticket that acts is no longer armed.
+unfoldable pub ActsOnce : World → Type 0
+ActsOnce w =
+    (timer : TimerOf) (ticket : ℕ) (out : List ℕ) → answerTo w (timerEvent timer ticket out) ≡ Done
+    → timerIn (step w (timerEvent timer ticket out)) timer ≡ Armed ticket → ⊥
+
+-- Nothing is armed in a finished call: COMPLETE, FAULT, IDLE.
+abbrev pub finished : ClientState → Bool
+finished Queued = false
+finished SendFrags = false
+finished DispatchedState = false
+finished ReceiveFrags = false
+finished AckPending = false
+finished Complete = true
+finished FaultState = true
+
+pub record Quiet (w : World) : Type 0 where
+  pub wait : finished (w .client .state) ≡ true → w .client .wait ≡ Off
+  pub ack : finished (w .client .state) ≡ true → w .client .ack ≡ Off
+  pub resend : isIdle (w .server .state) ≡ true → w .server .resend ≡ Off
+
+-- Reachable records keep their rules, so 2 never arises for them.
+pub record RulesKept (w : World) : Type 0 where
+  pub client : clientSound (w .client) ≡ true
+  pub server : serverSound (w .server) ≡ true
+
+-- The numbers of dispatches never fall.
+abbrev pub NeverFall : List Dispatched → Type 0
+NeverFall [] = Unit {0}
+NeverFall (d ∷ ds) = ((e : Dispatched) → In e ds → d .number ≤ e .number) × NeverFall ds
+
+-- All of it, of the world that a list of events leaves.
+pub record Claim (w : World) (events : List Event) : Type 0 where
+  pub once : AtMostOnce (run w events)
+  pub whole : WholeMessages (run w events)
+  pub reply : OneReply (run w events)
+  pub complete : WholeReply (run w events)
+  pub grows : OnlyGrows w events
+  pub late : LateTimers (run w events)
+  pub gone : GoneTickets w events
+  pub acts : ActsOnce (run w events)
+  pub quiet : Quiet (run w events)
+  pub rules : RulesKept (run w events)
+  pub rising : NeverFall (run w events .dispatches)

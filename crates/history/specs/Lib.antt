@@ -1,0 +1,8 @@
+-- One client and one server, every list of events, and what then holds.
+pub mod Lists
+pub mod World
+pub mod Events
+pub mod Steps
+pub mod Fairness
+pub mod Freshness
+pub mod Claim

@@ -1,0 +1,110 @@
+-- The server's rows of arriving PDUs.
+use Prim.Native.Nat.{ℕ, _%_}
+use mathlib.Core.Bool.{Bool, true}
+use Rattle.words.specs.Choice.{choose}
+use Rattle.answers.specs.declared.Answer.the-variants.{Done}
+use Rattle.calls.specs.declared.Call.{Call}
+use Rattle.calls.specs.declared.Notice.{Notice}
+use Rattle.calls.specs.declared.Notice.the-variants.{Nothing as Untold, Dispatch}
+use Rattle.flags.specs.Flags.{idempotent, hasFlag}
+use Rattle.pdu.specs.declared.Header.{Header}
+use Rattle.incoming.specs.declared.Incoming.{Incoming}
+use Rattle.incoming.specs.Slots.{cleared, complete, stored}
+use Rattle.outgoing.specs.Sending.{noMessage, acknowledgedTo}
+use Rattle.grounds.specs.Fragment.{isLast, wantsFack}
+use Rattle.grounds.specs.Fack.{acknowledgedBy}
+use Rattle.timers.specs.declared.Timer.the-variants.{Off}
+use Rattle.server_record.specs.declared.Idle.the-variants.{Spent}
+use Rattle.server_record.specs.declared.State.{State}
+use Rattle.server_record.specs.declared.State.the-variants.{Idle as IdleState, Collect, Running}
+use Rattle.server_record.specs.declared.Server.{Server}
+use Rattle.server_record.specs.Record.{unarmed}
+use Rattle.server_steps.specs.declared.Send.{Send}
+use Rattle.server_steps.specs.declared.Send.the-variants.{Nothing, Working, Nocall, Fack}
+use Rattle.server_steps.specs.declared.Plan.{Plan}
+use Rattle.server_steps.specs.Plan.{accepted, withOutgoing}
+
+-- The call that a request carries.
+unfoldable pub callOf : Header → Call
+callOf h = record {
+  idempotent = hasFlag idempotent (h .flags1);
+  object = h .object;
+  interface = h .interface;
+  version = h .version;
+  operation = h .operation;
+}
+
+-- Begin: the request's number and call; serial, all counts, slots and known last reset; COLLECT, nothing armed.
+unfoldable pub begun : Server → Header → Server
+begun s h = record {
+  state = Collect;
+  activity = s .activity;
+  boot = s .boot;
+  number = h .number;
+  call = callOf h;
+  outgoing = noMessage 0;
+  incoming = cleared;
+  resends = 0;
+  tickets = s .tickets;
+  resend = Off;
+}
+
+-- The record with other fragments held.
+unfoldable pub withIncoming : Server → Incoming → Server
+withIncoming s m = record {
+  state = s .state;
+  activity = s .activity;
+  boot = s .boot;
+  number = s .number;
+  call = s .call;
+  outgoing = s .outgoing;
+  incoming = m;
+  resends = s .resends;
+  tickets = s .tickets;
+  resend = s .resend;
+}
+
+-- All to the last held: to RUNNING; else COLLECT.
+unfoldable pub putState : Bool → State
+putState complete = choose complete Running Collect
+
+-- All to the last held: notice "dispatch"; else none.
+unfoldable pub putNotice : Bool → Notice
+putNotice complete = choose complete Dispatch Untold
+
+-- A fack for the serial of what was put, where one is wanted.
+unfoldable pub fackFor : Bool → ℕ → Send
+fackFor wanted serial = choose wanted (Fack serial) Nothing
+
+-- A request is put, and m is held then.
+unfoldable pub putPlan : Server → Incoming → ℕ → ℕ → Plan
+putPlan s m flags1 serial = record {
+  answer = Done;
+  server = withIncoming (unarmed s (putState (complete m))) m;
+  send = fackFor (wantsFack flags1) serial;
+  notice = putNotice (complete m);
+  put = true;
+}
+
+-- Put, in COLLECT.
+unfoldable pub requestPlan : Server → ℕ → ℕ → ℕ → ℕ → Plan
+requestPlan s flags1 serial f n = putPlan s (stored (s .incoming) f n (isLast flags1)) flags1 serial
+
+-- Begin, and put.
+unfoldable pub beginPlan : Server → Header → ℕ → Plan
+beginPlan s h n = requestPlan (begun s h) (h .flags1) (h .serial) (h .fragment) n
+
+-- Working and nocall: the record stays.
+unfoldable pub workingPlan : Server → Plan
+workingPlan s = accepted s Working
+
+unfoldable pub nocallPlan : Server → Plan
+nocallPlan s = accepted s Nocall
+
+-- Fack: acknowledged becomes the larger of itself and g + 1, which 17 keeps within a byte.
+unfoldable pub fackPlan : Server → ℕ → Plan
+fackPlan s g = accepted (withOutgoing s (acknowledgedTo (s .outgoing) (acknowledgedBy g % 256))) Nothing
+
+-- Ack: to IDLE spent.
+unfoldable pub ackPlan : Server → Plan
+ackPlan s = accepted (unarmed s (IdleState Spent)) Nothing

@@ -1,0 +1,52 @@
+-- A fresh record, and the two ways in which a row leaves its timer.
+use Prim.Native.Nat.{ℕ}
+use mathlib.Core.List.{List}
+use Rattle.calls.specs.Sent.{blankCall}
+use Rattle.outgoing.specs.Sending.{noMessage}
+use Rattle.incoming.specs.Slots.{cleared}
+use Rattle.timers.specs.declared.Timer.{Timer}
+use Rattle.timers.specs.declared.Timer.the-variants.{Off}
+use Rattle.timers.specs.Tickets.{nextTicket, armedAfresh}
+use Rattle.server_record.specs.declared.Idle.the-variants.{Fresh}
+use Rattle.server_record.specs.declared.Reply.{Reply}
+use Rattle.server_record.specs.declared.State.{State}
+use Rattle.server_record.specs.declared.State.the-variants.{Idle as IdleState, Held}
+use Rattle.server_record.specs.declared.Server.{Server}
+
+-- Fresh: IDLE fresh, no number, counts 0, nothing held or armed, any ticket counter.
+unfoldable pub fresh : List ℕ → ℕ → ℕ → Server
+fresh activity boot tickets = record {
+  state = IdleState Fresh;
+  activity = activity;
+  boot = boot;
+  number = 0;
+  call = blankCall;
+  outgoing = noMessage 0;
+  incoming = cleared;
+  resends = 0;
+  tickets = tickets;
+  resend = Off;
+}
+
+-- The record in another state, with this timer and this counter.
+abbrev pub timed : Server → State → ℕ → Timer → Server
+timed s state tickets resend = record {
+  state = state;
+  activity = s .activity;
+  boot = s .boot;
+  number = s .number;
+  call = s .call;
+  outgoing = s .outgoing;
+  incoming = s .incoming;
+  resends = s .resends;
+  tickets = tickets;
+  resend = resend;
+}
+
+-- To HELD with RESEND armed.
+unfoldable pub holding : Server → Reply → Server
+holding s reply = timed s (Held reply) (nextTicket (s .tickets)) (armedAfresh (s .tickets))
+
+-- To a state with nothing armed.
+unfoldable pub unarmed : Server → State → Server
+unarmed s state = timed s state (s .tickets) Off

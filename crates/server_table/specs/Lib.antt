@@ -1,0 +1,5 @@
+-- The server's judgement of each event.
+pub mod Events
+pub mod Table
+pub mod Arrival
+pub mod Local
