@@ -2,3 +2,7 @@
 pub mod ListLaws
 pub mod Holding
 pub mod Network
+pub mod Invariant
+pub mod Refused
+pub mod ClientSteps
+pub mod StartStep

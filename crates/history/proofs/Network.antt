@@ -42,9 +42,9 @@ pub record Response (replies : List Replied) (h : Header) (body : List ℕ) : Ty
   pub number : reply .number ≡ h .number
   pub part : PartOf (reply .message) (h .flags1) (h .fragment) body
 
--- A datagram that reads, and is of that type, is so.
-pub record Known (kind : ℕ) (P : Header → List ℕ → Type 0) (d : List ℕ) : Type 0 where
-  pub told : reading d .answer ≡ Done → reading d .header .kind ≡ kind → P (reading d .header) (bodyOf d)
+-- A datagram that reads, and is of a type that is meant, is so.
+pub record Known (Meant : ℕ → Type 0) (P : Header → List ℕ → Type 0) (d : List ℕ) : Type 0 where
+  pub told : reading d .answer ≡ Done → Meant (reading d .header .kind) → P (reading d .header) (bodyOf d)
 
 -- The header of an accepted datagram has UUIDs of 16 bytes.
 sized-read : (little : Bool) (s : List ℕ) → Sized (headerOf little s)
@@ -62,19 +62,25 @@ unfolding datagram headerBytes headerOf
 read-kind h body done = ap (λ (r : Reading). r .header .kind) (accepted-reading (datagram h body) done)
 
 -- A PDU of another type,
-pub other-known : (kind : ℕ) (P : Header → List ℕ → Type 0) (h : Header) (body : List ℕ) → (h .kind ≡ kind → ⊥) → Known kind P (datagram h body)
-other-known kind P h body other = record { told = λ done e. absurd (other (sym (read-kind h body done) ∙ e)) }
+pub other-known : (Meant : ℕ → Type 0) (P : Header → List ℕ → Type 0) (h : Header) (body : List ℕ) → (Meant (h .kind) → ⊥)
+    → Known Meant P (datagram h body)
+other-known Meant P h body other = record { told = λ done e. absurd (other (subst Meant (read-kind h body done) e)) }
 
--- and one of that type of which it was written so.
-pub same-known : (kind : ℕ) (P : Header → List ℕ → Type 0) (h : Header) (body : List ℕ) → Fits h → h .kind ≤ 10 → h .authentication ≡ 0
-    → length body ≤ 1392 → P h body → Known kind P (datagram h body)
-same-known kind P h body fits known plain short p =
+-- and one of which it was written so.
+pub same-known : (Meant : ℕ → Type 0) (P : Header → List ℕ → Type 0) (h : Header) (body : List ℕ) → Fits h → h .kind ≤ 10 → h .authentication ≡ 0
+    → length body ≤ 1392 → P h body → Known Meant P (datagram h body)
+same-known Meant P h body fits known plain short p =
     record {
       told =
           λ done e.
           subst (λ (r : Reading). P (r .header) (bodyOf (datagram h body))) (sym (read-written h body fits known plain short))
           (subst (P h) (sym (body-written h body (fits .sized))) p);
     }
+
+-- What is known of a datagram is known when more is on record.
+pub more-known : (Meant : ℕ → Type 0) (P Q : Header → List ℕ → Type 0) → ((h : Header) (body : List ℕ) → P h body → Q h body)
+    → (d : List ℕ) → Known Meant P d → Known Meant Q d
+more-known Meant P Q more d k = record { told = λ done e. more (reading d .header) (bodyOf d) (k .told done e) }
 
 -- What a side has sent after a PDU went through the writer: that datagram too.
 pub posted-sent : (before : List (List ℕ)) (h : Header) (body out : List ℕ) → Sized h → length out ≡ 1472 → h .kind ≤ 10 → h .authentication ≡ 0

@@ -1,0 +1,221 @@
+-- A start keeps what is known of the world.
+use Prim.Native.Nat.{ℕ, _+_, _≤_, _<_, _%_}
+use mathlib.Core.Bool.{Bool, true, false, false≢true, true≢false}
+use mathlib.Core.List.{List}
+use mathlib.Core.Logic.{_⊎_, inl, inr}
+use mathlib.Core.Path.{_≡_, refl, sym, ap, subst, _∙_}
+use native.Mathlib.Omega.{arith}
+use lib.ListN.{length}
+use native.Mathlib.Decide.{decLt}
+use Rattle.words.specs.Choice.{choose, either}
+use Rattle.answers.specs.declared.Answer.the-variants.{Done}
+use Rattle.answers.specs.declared.Ground.{Ground}
+use Rattle.answers.specs.declared.Ground.the-variants.{Pass}
+use Rattle.calls.specs.declared.Call.{Call}
+use Rattle.calls.specs.declared.Sent.the-variants.{Nothing as Unsent}
+use Rattle.fragments.specs.Judgement.{held, anyHeld}
+use Rattle.fragments.proofs.PutLaws.{none-held}
+use Rattle.incoming.specs.Slots.{cleared}
+use Rattle.incoming.proofs.SlotLaws.{cleared-length}
+use Rattle.outgoing.specs.Sending.{started as startedMessage, messageOf}
+use Rattle.pdu.specs.declared.Header.{Header}
+use Rattle.client_record.specs.declared.Client.{Client}
+use Rattle.client_record.specs.States.{isQueued}
+use Rattle.client_table.specs.Local.{startGround}
+use Rattle.client_steps.specs.Plan.{accepted}
+use Rattle.client_steps.specs.Rows.{nextNumber, started, startPlan}
+use Rattle.client_steps.proofs.StepLaws.{started-sound}
+use Rattle.client.specs.Machine.{outcomeOf, starting}
+use Rattle.client.proofs.Judging.{CanStart, start-passes}
+use Rattle.client.proofs.Accepting.{start-accepted}
+use Rattle.server_record.specs.declared.Server.{Server}
+use Rattle.history.specs.Lists.{In, andThen}
+use Rattle.history.specs.World.{Started, Dispatched, Replied, World}
+use Rattle.history.specs.Steps.{isDone, startStep}
+use Rattle.history.specs.Fairness.{Typed, FairStart}
+use Rattle.history.specs.Claim.{times}
+use Rattle.history.proofs.ListLaws.{in-before, in-added, in-grown, all-grown, last-started, times-none}
+use Rattle.history.proofs.Holding.{Empty}
+use Rattle.history.proofs.Network.{Request, Known, more-known}
+use Rattle.history.proofs.Invariant.{nothing, ClientInv, CalledStart, Collecting, ServerInv, CallInv, IsRequest, Inv}
+
+-- After a start nothing is held.
+pub cleared-none : Empty cleared
+unfolding held cleared either choose
+cleared-none = record { none = λ f. none-held (cleared .slots) f refl; last = refl }
+
+-- The number of a new start is above all that were started.
+module _ (c : Client) (slots : List ℕ) (starts : List Started) (replies : List Replied) (inv : ClientInv c slots starts replies) (n : ℕ)
+    (can : CanStart c n) where
+  next-small : nextNumber (isQueued (c .state)) (c .number) < 4294967296
+  unfolding nextNumber choose
+  next-small = by-state (isQueued (c .state))
+    where
+      by-state : (t : Bool) → choose t 0 ((c .number + 1) % 4294967296) < 4294967296
+      by-state true = omega arith
+      by-state false = omega arith
+
+  next-above : (s : Started) → In s starts → s .number < nextNumber (isQueued (c .state)) (c .number)
+  unfolding nextNumber choose
+  next-above s m = by-state (isQueued (c .state)) refl
+    where
+      by-state : (t : Bool) → isQueued (c .state) ≡ t → s .number < choose t 0 ((c .number + 1) % 4294967296)
+      by-state true e = absurd (false≢true (sym (inv .begun s m .0) ∙ e))
+      by-state false e =
+          let small = inv .current e .small in
+          let most = inv .begun s m .1 in
+          let below : c .number < 4294967295 = below-last (c .number) small (can .numbered e) in
+          omega arith
+        where
+          below-last : (k : ℕ) → k < 4294967296 → (k ≡ 4294967295 → ⊥) → k < 4294967295
+          below-last k p q = by-order (decLt k 4294967295)
+            where
+              by-order : Dec (k < 4294967295) → k < 4294967295
+              by-order (yes h) = h
+              by-order (no h) = absurd (q (omega arith))
+
+-- A start that goes on record.
+module _ (w : World) (inv : Inv w) (call : Call) (n : ℕ) (message : List ℕ) (can : CanStart (w .client) n) (fair : FairStart call n message) where
+  abbrev number : ℕ
+  number = nextNumber (isQueued (w .client .state)) (w .client .number)
+
+  abbrev start : Started
+  start = record { number = number; idempotent = call .idempotent; message = message }
+
+  abbrev starts : List Started
+  starts = andThen (w .starts) start
+
+  above : (s : Started) → In s (w .starts) → s .number < number
+  above = next-above (w .client) (w .clientSlots) (w .starts) (w .replies) (inv .client) n can
+
+  -- The client has the new call and holds nothing,
+  client-started : ClientInv (started (w .client) call n) (w .clientSlots) starts (w .replies)
+  unfolding started isQueued startedMessage messageOf
+  client-started = record {
+    kept = started-sound (w .client) call n (can .short);
+    activity = inv .client .activity;
+    slotted = cleared-length;
+    begun =
+        all-grown (λ (s : Started). (false ≡ false) × (s .number ≤ number)) (w .starts) start (λ s m. (refl, omega (arith, above s m))) (refl, omega arith);
+    current =
+        λ e.
+        record {
+          start = start;
+          started = in-added (w .starts) start;
+          number = refl;
+          mark = refl;
+          message = last-started (w .starts) start;
+          size = fair .whole;
+          typed = fair .typed;
+          small = next-small (w .client) (w .clientSlots) (w .starts) (w .replies) (inv .client) n can;
+        };
+    holds = nothing cleared-none;
+    told = λ e. absurd (false≢true e);
+  }
+
+  -- the server's call is still one that was started,
+  server-started : ServerInv (w .server) (w .serverSlots) starts (w .dispatches) (w .replies)
+  server-started =
+      let old = inv .server in
+      record {
+        kept = old .kept;
+        activity = old .activity;
+        boot = old .boot;
+        slotted = old .slotted;
+        dispatched = old .dispatched;
+        answered = old .answered;
+        called =
+            λ e.
+            let k = old .called e in
+            record {
+              start = k .start;
+              started = in-before (w .starts) (k .start) start (k .started);
+              number = k .number;
+              mark = k .mark;
+              typed = k .typed;
+              small = k .small;
+            };
+        collecting =
+            λ e.
+            let k = old .collecting e in
+            record {
+              start = k .start;
+              started = in-before (w .starts) (k .start) start (k .started);
+              number = k .number;
+              holding = k .holding;
+              first = k .first;
+            };
+        running = old .running;
+        single = old .single;
+        replying = old .replying;
+      }
+
+  -- no start has that number, and no dispatch;
+  undispatched : (d : Dispatched) → In d (w .dispatches) → d .number ≡ number → ⊥
+  undispatched d m e =
+      let from = inv .calls .whole d m in
+      let below = above (from .0) (from .1 .0) in
+      let same : from .0 .number ≡ d .number = from .1 .1 .0 in
+      omega arith
+
+  unique : (s t : Started) → In s starts → In t starts → s .number ≡ t .number → s ≡ t
+  unique s t m k e = by-places (in-grown (w .starts) s start m) (in-grown (w .starts) t start k)
+    where
+      by-places : In s (w .starts) ⊎ (s ≡ start) → In t (w .starts) ⊎ (t ≡ start) → s ≡ t
+      by-places (inl p) (inl q) = inv .calls .unique s t p q e
+      by-places (inl p) (inr q) =
+          let below = above s p in
+          let same : t .number ≡ number = ap (λ (x : Started). x .number) q in
+          absurd (omega arith)
+      by-places (inr p) (inl q) =
+          let below = above t q in
+          let same : s .number ≡ number = ap (λ (x : Started). x .number) p in
+          absurd (omega arith)
+      by-places (inr p) (inr q) = p ∙ sym q
+
+  calls-started : CallInv starts (w .dispatches) (w .replies)
+  calls-started = record {
+    unique = unique;
+    once =
+        all-grown (λ (s : Started). s .idempotent ≡ false → times (s .number) (w .dispatches) ≤ 1) (w .starts) start (inv .calls .once)
+        (λ e. let none = times-none (w .dispatches) number undispatched in omega arith);
+    whole =
+        λ d m.
+        let from = inv .calls .whole d m in
+        (from .0, (in-before (w .starts) (from .0) start (from .1 .0), from .1 .1));
+    rising = inv .calls .rising;
+    alike = inv .calls .alike;
+  }
+
+  -- and what was sent is known with one start more.
+  request-started : (h : Header) (body : List ℕ) → Request (w .starts) h body → Request starts h body
+  request-started h body r = record {
+    start = r .start;
+    started = in-before (w .starts) (r .start) start (r .started);
+    number = r .number;
+    mark = r .mark;
+    part = r .part;
+    sized = r .sized;
+    version = r .version;
+    small = r .small;
+    operation = r .operation;
+  }
+
+  start-inv : Inv (startStep w (outcomeOf (startPlan Pass (w .client) call n) Unsent) (call .idempotent) message)
+  unfolding startStep outcomeOf startPlan accepted choose started
+  start-inv = record {
+    client = client-started;
+    server = server-started;
+    calls = calls-started;
+    requests = λ d m. more-known IsRequest (Request (w .starts)) (Request starts) request-started d (inv .requests d m);
+    responses = inv .responses;
+  }
+
+-- A start that is answered 0 keeps what is known of the world.
+pub started-inv : (w : World) (call : Call) (n : ℕ) (message : List ℕ) → Inv w → starting (w .client) call n .answer ≡ Done → FairStart call n message
+    → Inv (startStep w (starting (w .client) call n) (call .idempotent) message)
+unfolding starting
+started-inv w call n message inv done fair =
+    let pass = start-accepted (w .client) call n done in
+    subst (λ (g : Ground). Inv (startStep w (outcomeOf (startPlan g (w .client) call n) Unsent) (call .idempotent) message)) (sym pass)
+    (start-inv w inv call n message (start-passes (w .client) n pass) fair)
