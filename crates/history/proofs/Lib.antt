@@ -6,3 +6,5 @@ pub mod Invariant
 pub mod Refused
 pub mod ClientSteps
 pub mod StartStep
+pub mod ServerSteps
+pub mod ServerEvents

@@ -1,0 +1,252 @@
+-- Transmit, fault, the RESEND timer and reply keep what is known of the world.
+use Prim.Native.Nat.{ℕ, _≤_}
+use mathlib.Core.Bool.{Bool, true, false, false≢true}
+use mathlib.Core.List.{List, []}
+use mathlib.Core.Logic.{_⊎_, inl, inr}
+use mathlib.Core.Path.{_≡_, refl, sym, ap, subst, _∙_}
+use native.Mathlib.Omega.{arith}
+use lib.Dec.{ltb}
+use lib.ListN.{length}
+use Rattle.words.specs.Choice.{choose}
+use Rattle.answers.specs.declared.Answer.the-variants.{Done}
+use Rattle.answers.specs.declared.Ground.{Ground}
+use Rattle.answers.specs.declared.Ground.the-variants.{Pass}
+use Rattle.calls.specs.declared.Notice.the-variants.{Nothing as Untold}
+use Rattle.calls.specs.declared.Sent.the-variants.{Nothing as Unsent}
+use Rattle.outgoing.specs.Sending.{sendsLast, replied, messageOf}
+use Rattle.pdu.specs.declared.Header.{Header}
+use Rattle.pdu.specs.Header.{blank}
+use Rattle.server_record.specs.declared.Idle.the-variants.{Spent}
+use Rattle.server_record.specs.declared.Reply.{Reply}
+use Rattle.server_record.specs.declared.Reply.the-variants.{Data, Fault}
+use Rattle.server_record.specs.declared.State.{State}
+use Rattle.server_record.specs.declared.State.the-variants.{Idle as IdleState, Running, Replying, Held}
+use Rattle.server_record.specs.declared.Server.{Server}
+use Rattle.server_record.specs.States.{isFresh, isReplying, isHeld}
+use Rattle.server_record.specs.Rules.{sound}
+use Rattle.server_record.specs.Record.{unarmed}
+use Rattle.server_record.proofs.StateLaws.{running-state, replying-state, HeldWith, held-state}
+use Rattle.server_steps.specs.declared.Send.the-variants.{Nothing, Fault as SendFault}
+use Rattle.server_steps.specs.declared.Plan.{Plan}
+use Rattle.server_steps.specs.Plan.{accepted, withOutgoing}
+use Rattle.server_steps.specs.Rows.{answered, replyPlan, settled, transmitted, transmitPlan, faultPlan, resendHeld, resendRow, timerRow, timerPlan}
+use Rattle.server_steps.proofs.StepLaws.{replied-sound, transmitted-sound, fault-sound, timer-sound}
+use Rattle.server.specs.Sending.{sentOut}
+use Rattle.server.specs.Machine.{outcomeOf, replying, sending, transmitting, timing, faulting}
+use Rattle.server.proofs.Judging.{CanReply, reply-passes, transmit-passes, fault-passes, timer-passes}
+use Rattle.server.proofs.Accepting.{reply-accepted, transmit-accepted, fault-accepted, timer-accepted}
+use Rattle.history.specs.Lists.{In, andThen}
+use Rattle.history.specs.World.{Replied, World}
+use Rattle.history.specs.Steps.{isDone, lastDispatched, serverStep, replyStep}
+use Rattle.history.specs.Fairness.{lastReplied}
+use Rattle.history.proofs.ListLaws.{in-before, in-added, in-grown, all-grown, last-replied}
+use Rattle.history.proofs.Holding.{Single}
+use Rattle.history.proofs.Network.{Response, Known, more-known}
+use Rattle.history.proofs.Invariant.{ClientHolds, nothing, fragments-of, ClientInv, CurrentReply, unanswered, hasData, ServerInv, CallInv, IsResponse, Inv}
+use Rattle.history.proofs.ServerSteps.{GoesOn, goes-on, answers, ofCall, others-sent, all-single, response-sent, settled-goes-on, transmitted-goes-on, resend-goes-on, transmitted-counts, planned}
+
+-- Transmit.
+pub server-transmit-inv : (w : World) (message out : List ℕ) (number : ℕ) → Inv w → transmitting (w .server) message out .outcome .answer ≡ Done
+    → message ≡ lastReplied (w .replies)
+    → Inv (serverStep w (transmitting (w .server) message out .outcome) (transmitting (w .server) message out .out) (w .serverSlots) number)
+unfolding transmitting transmitPlan accepted sentOut isFresh
+server-transmit-inv w message out number inv done lent =
+    let s = w .server in
+    let pass = transmit-accepted s message out done in
+    let j = transmit-passes s (length message) (length out) pass in
+    let state = replying-state (s .state) (j .row) in
+    let called : isFresh (s .state) ≡ false = ap isFresh state in
+    let now = inv .server .replying (ap hasData state) in
+    let k = inv .server .called called in
+    let last = sendsLast (s .outgoing) in
+    let single = all-single s (w .starts) (w .replies) message k now (inv .server .activity) (inv .server .boot) (j .kept) (j .row) lent in
+    let g = transmitted-goes-on last s (w .replies) state now single in
+    subst
+    (λ (x : Ground).
+    Inv (serverStep w (sending (transmitPlan x s) blank message out .outcome) (sending (transmitPlan x s) blank message out .out) (w .serverSlots) number))
+    (sym pass)
+    (planned w (transmitPlan Pass s) blank message out (w .serverSlots) number inv refl
+    (goes-on s (transmitted last s) (w .serverSlots) (w .starts) (w .dispatches) (w .replies) (inv .server) called
+    (transmitted-sound s (j .kept) (j .row) (j .free)) g)
+    (response-sent s (w .starts) (w .replies) message k now (inv .server .activity) (inv .server .boot) (j .kept) (j .row) lent (transmitted last s) g
+    (transmitted-counts last s .0) (transmitted-counts last s .1) (w .serverSent) out (j .buffer) (inv .responses)))
+
+-- Fault.
+pub server-fault-inv : (w : World) (status : ℕ) (out : List ℕ) (number : ℕ) → Inv w → faulting (w .server) status out .outcome .answer ≡ Done
+    → Inv (serverStep w (faulting (w .server) status out .outcome) (faulting (w .server) status out .out) (w .serverSlots) number)
+unfolding faulting faultPlan accepted isFresh blank
+server-fault-inv w status out number inv done =
+    let s = w .server in
+    let pass = fault-accepted s status out done in
+    let j = fault-passes s (length out) pass in
+    let state = running-state (s .state) (j .row) in
+    let called : isFresh (s .state) ≡ false = ap isFresh state in
+    let t = settled (s .call .idempotent) s (Fault status) in
+    let g =
+    settled-goes-on (s .call .idempotent) s s (Fault status) (w .replies) refl refl refl refl refl refl (λ e. inv .server .single (ap unanswered state))
+    (λ e. absurd (false≢true e)) in
+    let next = goes-on s t (w .serverSlots) (w .starts) (w .dispatches) (w .replies) (inv .server) called (fault-sound s (j .kept) status (j .row) (j .free)) g in
+    subst
+    (λ (x : Ground).
+    Inv (serverStep w (sending (faultPlan x s status) blank [] out .outcome) (sending (faultPlan x s status) blank [] out .out) (w .serverSlots) number))
+    (sym pass)
+    (planned w (faultPlan Pass s status) blank [] out (w .serverSlots) number inv refl next
+    (others-sent (w .serverSent) (Response (w .replies)) t blank out (j .buffer) (next .activity) refl refl (inv .responses) (SendFault status) [] refl
+    (λ e. rw (g .call) (inv .server .called called .typed))))
+
+-- RESEND sends no response, and tells nothing.
+timer-quiet : (s : Server) (reply : Reply) → (answers (resendRow s reply .send) ≡ false) × (resendRow s reply .notice ≡ Untold)
+unfolding resendRow resendHeld accepted choose
+timer-quiet s reply = by-count (ltb (s .resends) 5) reply
+  where
+    by-count : (t : Bool) (r : Reply)
+        → (answers (choose t (resendHeld s r) (accepted (unarmed s (IdleState Spent)) Nothing) .send) ≡ false)
+        × (choose t (resendHeld s r) (accepted (unarmed s (IdleState Spent)) Nothing) .notice ≡ Untold)
+    by-count true Data = unfold resendHeld accepted choose in (refl, refl)
+    by-count true (Fault status) = unfold resendHeld accepted choose in (refl, refl)
+    by-count false r = unfold accepted choose in (refl, refl)
+
+-- The RESEND timer.
+pub server-timer-inv : (w : World) (ticket : ℕ) (out : List ℕ) (number : ℕ) → Inv w → timing (w .server) ticket out .outcome .answer ≡ Done
+    → Inv (serverStep w (timing (w .server) ticket out .outcome) (timing (w .server) ticket out .out) (w .serverSlots) number)
+unfolding timing timerPlan timerRow isFresh blank
+server-timer-inv w ticket out number inv done =
+    let s = w .server in
+    let pass = timer-accepted s ticket out done in
+    let j = timer-passes s ticket (length out) pass in
+    let held = held-state (s .state) (j .row) in
+    let called : isFresh (s .state) ≡ false = ap isFresh (held .is) in
+    let plan = resendRow s (held .reply) in
+    let g = resend-goes-on s (held .reply) (w .replies) (λ e. inv .server .replying (ap hasData (held .is) ∙ e)) in
+    let kept : sound (plan .server) ≡ true =
+    subst (λ (x : State). sound (timerRow x s .server) ≡ true) (held .is) (timer-sound s (j .kept) (j .free)) in
+    let next = goes-on s (plan .server) (w .serverSlots) (w .starts) (w .dispatches) (w .replies) (inv .server) called kept g in
+    let quiet = timer-quiet s (held .reply) in
+    subst
+    (λ (x : Ground).
+    Inv (serverStep w (sending (timerPlan x s) blank [] out .outcome) (sending (timerPlan x s) blank [] out .out) (w .serverSlots) number))
+    (sym pass)
+    (subst
+    (λ (x : State). Inv (serverStep w (sending (timerRow x s) blank [] out .outcome) (sending (timerRow x s) blank [] out .out) (w .serverSlots) number))
+    (sym (held .is))
+    (planned w plan blank [] out (w .serverSlots) number inv (quiet .1) next
+    (others-sent (w .serverSent) (Response (w .replies)) (plan .server) blank out (j .buffer) (next .activity) refl refl (inv .responses) (plan .send) []
+    (quiet .0) (λ e. rw (g .call) (inv .server .called called .typed)))))
+
+-- A reply that goes on record.
+module _ (w : World) (inv : Inv w) (n : ℕ) (message : List ℕ) (can : CanReply (w .server) n) (whole : length message ≡ n) where
+  abbrev reply : Replied
+  reply = record { number = lastDispatched (w .dispatches); message = message }
+
+  abbrev replies : List Replied
+  replies = andThen (w .replies) reply
+
+  running : w .server .state ≡ Running
+  running = running-state (w .server .state) (can .row)
+
+  -- It is given to the server's number,
+  to-number : lastDispatched (w .dispatches) ≡ w .server .number
+  to-number = inv .server .running running
+
+  -- to which every earlier reply was a single fragment.
+  earlier : (r : Replied) → In r (w .replies) → r .number ≡ w .server .number → Single (r .message)
+  earlier = inv .server .single (ap unanswered running)
+
+  server-replied : ServerInv (answered (w .server) n) (w .serverSlots) (w .starts) (w .dispatches) replies
+  unfolding answered withOutgoing unarmed replied messageOf isFresh
+  server-replied =
+      let old = inv .server in
+      let called : isFresh (w .server .state) ≡ false = ap isFresh running in
+      let k = old .called called in
+      record {
+        kept = replied-sound (w .server) (can .kept) n (can .short);
+        activity = old .activity;
+        boot = old .boot;
+        slotted = old .slotted;
+        dispatched = λ d m. (refl, old .dispatched d m .1);
+        answered =
+            all-grown (λ (r : Replied). (false ≡ false) × (r .number ≤ w .server .number)) (w .replies) reply (λ r m. (refl, old .answered r m .1))
+            (refl, omega (arith, to-number));
+        called =
+            λ e.
+            record { start = k .start; started = k .started; number = k .number; mark = k .mark; typed = k .typed; small = k .small };
+        collecting = λ e. absurd (false≢true (sym (ap hasData e)));
+        running = λ e. absurd (false≢true (sym (ap hasData e)));
+        single = λ e. absurd (false≢true e);
+        replying =
+            λ e.
+            record {
+              reply = reply;
+              given = in-added (w .replies) reply;
+              number = to-number;
+              message = last-replied (w .replies) reply;
+              size = whole;
+              others = others;
+            };
+      }
+    where
+      others : (r : Replied) → In r replies → r .number ≡ w .server .number → (r ≡ reply) ⊎ Single (r .message)
+      others r m e = by-place (in-grown (w .replies) r reply m)
+        where
+          by-place : In r (w .replies) ⊎ (r ≡ reply) → (r ≡ reply) ⊎ Single (r .message)
+          by-place (inl old) = inr (earlier r old e)
+          by-place (inr new) = inl new
+
+  -- The client holds what it held,
+  client-replied : ClientInv (w .client) (w .clientSlots) (w .starts) replies
+  client-replied =
+      let old = inv .client in
+      record {
+        kept = old .kept;
+        activity = old .activity;
+        slotted = old .slotted;
+        begun = old .begun;
+        current = old .current;
+        holds = more (old .holds);
+        told = old .told;
+      }
+    where
+      more : ClientHolds (w .client .number) (w .client .incoming) (w .clientSlots) (w .replies)
+          → ClientHolds (w .client .number) (w .client .incoming) (w .clientSlots) replies
+      more (nothing e) = nothing e
+      more (fragments-of r m e h) = fragments-of r (in-before (w .replies) r reply m) e h
+
+  -- and of two replies to one number the earlier is a single fragment.
+  alike : (r t : Replied) → In r replies → In t replies → r .number ≡ t .number → (r ≡ t) ⊎ (Single (r .message) ⊎ Single (t .message))
+  alike r t m k e = by-places (in-grown (w .replies) r reply m) (in-grown (w .replies) t reply k)
+    where
+      by-places : In r (w .replies) ⊎ (r ≡ reply) → In t (w .replies) ⊎ (t ≡ reply) → (r ≡ t) ⊎ (Single (r .message) ⊎ Single (t .message))
+      by-places (inl p) (inl q) = inv .calls .alike r t p q e
+      by-places (inl p) (inr q) = inr (inl (earlier r p (e ∙ ap (λ (x : Replied). x .number) q ∙ to-number)))
+      by-places (inr p) (inl q) = inr (inr (earlier t q (sym e ∙ ap (λ (x : Replied). x .number) p ∙ to-number)))
+      by-places (inr p) (inr q) = inl (p ∙ sym q)
+
+  response-replied : (h : Header) (body : List ℕ) → Response (w .replies) h body → Response replies h body
+  response-replied h body r =
+      record { reply = r .reply; given = in-before (w .replies) (r .reply) reply (r .given); number = r .number; part = r .part }
+
+  reply-inv : Inv (replyStep w (outcomeOf (replyPlan Pass (w .server) n) Unsent) message)
+  unfolding replyStep outcomeOf replyPlan accepted choose
+  reply-inv = record {
+    client = client-replied;
+    server = server-replied;
+    calls =
+        record {
+          unique = inv .calls .unique;
+          once = inv .calls .once;
+          whole = inv .calls .whole;
+          rising = inv .calls .rising;
+          alike = alike;
+        };
+    requests = inv .requests;
+    responses = λ d m. more-known IsResponse (Response (w .replies)) (Response replies) response-replied d (inv .responses d m);
+  }
+
+-- Reply.
+pub replied-inv : (w : World) (n : ℕ) (message : List ℕ) → Inv w → replying (w .server) n .answer ≡ Done → length message ≡ n
+    → Inv (replyStep w (replying (w .server) n) message)
+unfolding replying
+replied-inv w n message inv done whole =
+    let pass = reply-accepted (w .server) n done in
+    subst (λ (g : Ground). Inv (replyStep w (outcomeOf (replyPlan g (w .server) n) Unsent) message)) (sym pass)
+    (reply-inv w inv n message (reply-passes (w .server) n pass) whole)
