@@ -8,3 +8,4 @@ pub mod ClientSteps
 pub mod StartStep
 pub mod ServerSteps
 pub mod ServerEvents
+pub mod ServerArrivals

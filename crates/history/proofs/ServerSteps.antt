@@ -74,7 +74,7 @@ past Running = false
 past Replying = true
 past (Held reply) = true
 
-past-called : (s : State) → past s ≡ true → isFresh s ≡ false
+pub past-called : (s : State) → past s ≡ true → isFresh s ≡ false
 unfolding isFresh neverCalled
 past-called (IdleState Fresh) e = absurd (false≢true e)
 past-called (IdleState Spent) e = refl
@@ -187,7 +187,7 @@ transmitted-goes-on false s replies state now single = record {
 }
 
 -- replaying data,
-rewinding-goes-on : (s t : Server) (replies : List Replied) → t .activity ≡ s .activity → t .boot ≡ s .boot → t .number ≡ s .number
+pub rewinding-goes-on : (s t : Server) (replies : List Replied) → t .activity ≡ s .activity → t .boot ≡ s .boot → t .number ≡ s .number
     → t .call ≡ s .call → t .incoming ≡ s .incoming → t .outgoing .length ≡ s .outgoing .length → CurrentReply s replies
     → GoesOn s (rewinding t) replies
 unfolding rewinding unarmed withOutgoing rewound
@@ -204,7 +204,7 @@ rewinding-goes-on s t replies a b n c i z now = record {
 }
 
 -- a call that is spent,
-spent-goes-on : (s : Server) (replies : List Replied) → GoesOn s (unarmed s (IdleState Spent)) replies
+pub spent-goes-on : (s : Server) (replies : List Replied) → GoesOn s (unarmed s (IdleState Spent)) replies
 unfolding unarmed
 spent-goes-on s replies = record {
   activity = refl;
