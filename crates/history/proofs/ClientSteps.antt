@@ -21,7 +21,7 @@ use Rattle.calls.specs.Sent.{sentHeader, posting}
 use Rattle.flags.specs.Flags.{idempotent, withFlag}
 use Rattle.fragments.specs.Judgement.{held, contradicts}
 use Rattle.fragments.specs.Slots.{filled, storing}
-use Rattle.fragments.proofs.PutLaws.{stored-length}
+use Rattle.fragments.proofs.PutLaws.{stored-length, filled-length}
 use Rattle.facks.specs.Mask.{lastContiguous, maskOf}
 use Rattle.incoming.specs.declared.Incoming.{Incoming}
 use Rattle.incoming.specs.Slots.{contiguous, complete, stored, sound as incomingSound}
@@ -446,7 +446,7 @@ module _ (number : ℕ) (m : Incoming) (slots : List ℕ) (replies : List Replie
   -- What was held is of that reply,
   same-reply : ClientHolds number m slots replies → Holding m slots (r .message)
   same-reply (nothing e) = empty-holding m slots (r .message) e
-  same-reply (fragments-of t m′ n h) = by-replies (alike t r m′ given (n ∙ sym mine))
+  same-reply (fragments-of t m′ n z h) = by-replies (alike t r m′ given (n ∙ sym mine))
     where
       by-replies : (t ≡ r) ⊎ (Single (t .message) ⊎ Single (r .message)) → Holding m slots (r .message)
       by-replies (inl same) = subst (λ (x : Replied). Holding m slots (x .message)) same h
@@ -455,7 +455,9 @@ module _ (number : ℕ) (m : Incoming) (slots : List ℕ) (replies : List Replie
 
   -- and so it is after the put.
   put-holds : ClientHolds number m slots replies → ClientHolds number (stored m f (length body) (isLast flags1)) (filled f body slots) replies
-  put-holds h = fragments-of r given mine (put-holding m slots (r .message) flags1 f body (same-reply h) kept long whole part small)
+  put-holds h =
+      fragments-of r given mine (filled-length f body slots ∙ whole)
+      (put-holding m slots (r .message) flags1 f body (same-reply h) kept long whole part small)
 
 -- The state after a response: "last" is told exactly where all is held.
 put-told : (all idempotent : Bool) (c : Client) (m : Incoming) → toldLast (withIncoming (putRecord all idempotent c) m .state) ≡ true → all ≡ true

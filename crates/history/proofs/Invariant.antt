@@ -45,7 +45,8 @@ pub record CurrentStart (c : Client) (starts : List Started) : Type 0 where
 -- The client holds nothing, or fragments of one reply to its number.
 pub data ClientHolds (number : ℕ) (m : Incoming) (slots : List ℕ) (replies : List Replied) : Type 0 where
   nothing : Empty m → ClientHolds number m slots replies
-  fragments-of : (r : Replied) → In r replies → r .number ≡ number → Holding m slots (r .message) → ClientHolds number m slots replies
+  fragments-of : (r : Replied) → In r replies → r .number ≡ number → length slots ≡ 44544 → Holding m slots (r .message)
+      → ClientHolds number m slots replies
 
 -- What is known of the client.
 pub record ClientInv (c : Client) (slots : List ℕ) (starts : List Started) (replies : List Replied) : Type 0 where

@@ -3,6 +3,7 @@ pub mod ListLaws
 pub mod Holding
 pub mod Network
 pub mod Invariant
+pub mod Beginning
 pub mod Refused
 pub mod ClientSteps
 pub mod StartStep

@@ -1,17 +1,51 @@
--- A refused event leaves the whole world as it was.
+-- A refused event leaves the whole world as it was, and so does a late timer.
 use Prim.Native.Nat.{ℕ}
+use mathlib.Core.Bool.{Bool, true, false, false≢true}
 use mathlib.Core.List.{List}
-use mathlib.Core.Path.{_≡_, refl, ap}
+use mathlib.Core.Path.{_≡_, refl, sym, ap, _∙_}
+use lib.Dec.{eqb}
+use borrow.Author.Tests.{eqb-true}
+use Rattle.words.specs.Choice.{choose}
+use Rattle.words.proofs.Tests.{choose-false}
+use Rattle.answers.specs.declared.Answer.{Answer}
 use Rattle.answers.specs.declared.Answer.the-variants.{Done}
-use Rattle.calls.specs.declared.Call.{Call}
+use Rattle.answers.specs.declared.Ground.the-variants.{Pass}
+use Rattle.answers.specs.Number.{numberOf}
+use Rattle.calls.specs.declared.Notice.the-variants.{Nothing as Untold}
 use Rattle.calls.specs.declared.Sent.the-variants.{Nothing}
+use Rattle.timers.specs.declared.Timer.{Timer}
+use Rattle.timers.specs.declared.Timer.the-variants.{Off, Armed}
+use Rattle.timers.specs.Tickets.{armedWith}
+use Rattle.grounds.specs.Order.{refuseIf, groundOf}
+use Rattle.grounds.proofs.PassLaws.{answer-passes}
 use Rattle.client_table.specs.declared.TimerKind.{TimerKind}
+use Rattle.client_table.specs.declared.TimerKind.the-variants.{Wait, Ack}
+use Rattle.client_table.specs.Local.{namedTimer}
 use Rattle.client.specs.declared.Outcome.{Outcome as ClientOutcome}
 use Rattle.client.specs.Machine.{starting, transmitting as clientTransmitting, timing as clientTiming, arriving as clientArriving}
-use Rattle.client.proofs.Refusals.{start-refused, transmit-refused, timer-refused, arrive-refused}
-use Rattle.history.specs.World.{World}
-use Rattle.history.specs.Events.{Lent, Own, Other, Event, Start, ClientTransmit, ClientArrive, ClientTimer}
-use Rattle.history.specs.Steps.{bytesLent, ownAfter, sentAfter, clientStep, startStep, step, answerTo}
+use Rattle.client.proofs.Judging.{timer-passes as client-timer-passes}
+use Rattle.client.proofs.Accepting.{timer-accepted as client-timer-accepted}
+use Rattle.client.proofs.Refusals.{start-refused, transmit-refused as client-transmit-refused, timer-refused as client-timer-refused, arrive-refused as client-arrive-refused}
+use Rattle.server.specs.declared.Outcome.{Outcome as ServerOutcome}
+use Rattle.server.specs.HandUp.{handsUp}
+use Rattle.server.specs.Machine.{replying, transmitting as serverTransmitting, timing as serverTiming, faulting, arriving as serverArriving}
+use Rattle.server.proofs.Judging.{timer-passes as server-timer-passes}
+use Rattle.server.proofs.Accepting.{timer-accepted as server-timer-accepted}
+use Rattle.server.proofs.Refusals.{reply-refused, transmit-refused as server-transmit-refused, fault-refused, timer-refused as server-timer-refused, arrive-refused as server-arrive-refused}
+use Rattle.history.specs.World.{Started, Replied, World}
+use Rattle.history.specs.Events.{Lent, Own, Other, Event, Start, ClientTransmit, ClientArrive, ClientTimer, ServerArrive, ServerTransmit, ServerTimer, Reply, Fault}
+use Rattle.history.specs.Steps.{isDone, bytesLent, ownAfter, sentAfter, dispatchesAfter, lastDispatched, clientStep, serverStep, startStep, replyStep, step, answerTo}
+use Rattle.history.specs.Lists.{andThen}
+use Rattle.history.specs.Claim.{TimerOf, OfClient, OfServer, timerIn, timerEvent}
+
+-- An answer that is not Done is not 0.
+not-zero : (a : Answer) → (a ≡ Done → ⊥) → isDone a ≡ false
+unfolding groundOf refuseIf choose
+not-zero a other = by-number (eqb (numberOf a) 0) refl
+  where
+    by-number : (t : Bool) → eqb (numberOf a) 0 ≡ t → t ≡ false
+    by-number true e = absurd (other (answer-passes a (unfold groundOf refuseIf choose in rw e)))
+    by-number false e = refl
 
 -- The buffer of a side after an event that left the bytes lent as they were.
 same-own : (lent : Lent) (own left : List ℕ) → left ≡ bytesLent lent own → ownAfter lent own left ≡ own
@@ -19,7 +53,7 @@ unfolding bytesLent ownAfter
 same-own Own own left e = e
 same-own (Other bytes) own left e = refl
 
--- A client that stays, sends nothing and leaves its buffer changes nothing.
+-- A client that stays, sends nothing and leaves its buffer changes nothing,
 client-same : (w : World) (r : ClientOutcome) (out slots : List ℕ) → r .client ≡ w .client → r .sent ≡ Nothing → slots ≡ w .clientSlots
     → clientStep w r out slots ≡ w
 unfolding sentAfter
@@ -34,3 +68,111 @@ client-same w r out slots p q e = λ i. record {
   dispatches = w .dispatches;
   replies = w .replies;
 }
+
+-- nor does such a server that tells nothing,
+server-same : (w : World) (r : ServerOutcome) (out slots : List ℕ) (number : ℕ) → r .server ≡ w .server → r .sent ≡ Nothing → r .notice ≡ Untold
+    → slots ≡ w .serverSlots → serverStep w r out slots number ≡ w
+unfolding sentAfter dispatchesAfter
+server-same w r out slots number p q u e = λ i. record {
+  client = w .client;
+  server = p i;
+  clientSlots = w .clientSlots;
+  serverSlots = e i;
+  clientSent = w .clientSent;
+  serverSent = sentAfter (w .serverSent) (q i) out;
+  starts = w .starts;
+  dispatches = dispatchesAfter (w .dispatches) (u i) number (handsUp (r .server) slots);
+  replies = w .replies;
+}
+
+-- a start that is not on record
+start-same : (w : World) (r : ClientOutcome) (idempotent : Bool) (message : List ℕ) → (r .answer ≡ Done → ⊥) → r .client ≡ w .client
+    → startStep w r idempotent message ≡ w
+unfolding startStep
+start-same w r idempotent message other p =
+    let new : Started = record { number = r .client .number; idempotent = idempotent; message = message } in
+    let none = choose-false (isDone (r .answer)) (andThen (w .starts) new) (w .starts) (not-zero (r .answer) other) in
+    λ i. record {
+      client = p i;
+      server = w .server;
+      clientSlots = w .clientSlots;
+      serverSlots = w .serverSlots;
+      clientSent = w .clientSent;
+      serverSent = w .serverSent;
+      starts = none i;
+      dispatches = w .dispatches;
+      replies = w .replies;
+    }
+
+-- or a reply that is not.
+reply-same : (w : World) (r : ServerOutcome) (message : List ℕ) → (r .answer ≡ Done → ⊥) → r .server ≡ w .server → replyStep w r message ≡ w
+unfolding replyStep
+reply-same w r message other p =
+    let new : Replied = record { number = lastDispatched (w .dispatches); message = message } in
+    let none = choose-false (isDone (r .answer)) (andThen (w .replies) new) (w .replies) (not-zero (r .answer) other) in
+    λ i. record {
+      client = w .client;
+      server = p i;
+      clientSlots = w .clientSlots;
+      serverSlots = w .serverSlots;
+      clientSent = w .clientSent;
+      serverSent = w .serverSent;
+      starts = w .starts;
+      dispatches = w .dispatches;
+      replies = none i;
+    }
+
+-- So an event that is not answered 0 leaves the whole world as it was.
+pub refused-same : (w : World) (e : Event) → (answerTo w e ≡ Done → ⊥) → step w e ≡ w
+unfolding step answerTo
+refused-same w (Start call n message) other =
+    let same = start-refused (w .client) call n other in
+    start-same w (starting (w .client) call n) (call .idempotent) message other (same .client)
+refused-same w (ClientTransmit message out) other =
+    let same = client-transmit-refused (w .client) message out other .outcome in
+    client-same w (clientTransmitting (w .client) message out .outcome) _ (w .clientSlots) (same .client) (same .sent) refl
+refused-same w (ClientArrive datagram lent out) other =
+    let same = client-arrive-refused (w .client) datagram (bytesLent lent (w .clientSlots)) out other in
+    client-same w (clientArriving (w .client) datagram (bytesLent lent (w .clientSlots)) out .outcome) _ _ (same .outcome .client) (same .outcome .sent)
+    (same-own lent (w .clientSlots) _ (same .stored))
+refused-same w (ClientTimer kind ticket out) other =
+    let same = client-timer-refused (w .client) kind ticket out other .outcome in
+    client-same w (clientTiming (w .client) kind ticket out .outcome) _ (w .clientSlots) (same .client) (same .sent) refl
+refused-same w (ServerArrive datagram lent out) other =
+    let same = server-arrive-refused (w .server) datagram (bytesLent lent (w .serverSlots)) out other in
+    server-same w (serverArriving (w .server) datagram (bytesLent lent (w .serverSlots)) out .outcome) _ _ _ (same .outcome .server) (same .outcome .sent)
+    (same .outcome .notice) (same-own lent (w .serverSlots) _ (same .stored))
+refused-same w (ServerTransmit message out) other =
+    let same = server-transmit-refused (w .server) message out other .outcome in
+    server-same w (serverTransmitting (w .server) message out .outcome) _ (w .serverSlots) _ (same .server) (same .sent) (same .notice) refl
+refused-same w (ServerTimer ticket out) other =
+    let same = server-timer-refused (w .server) ticket out other .outcome in
+    server-same w (serverTiming (w .server) ticket out .outcome) _ (w .serverSlots) _ (same .server) (same .sent) (same .notice) refl
+refused-same w (Reply n message) other =
+    let same = reply-refused (w .server) n other in
+    reply-same w (replying (w .server) n) message other (same .server)
+refused-same w (Fault status out) other =
+    let same = fault-refused (w .server) status out other .outcome in
+    server-same w (faulting (w .server) status out .outcome) _ (w .serverSlots) _ (same .server) (same .sent) (same .notice) refl
+
+-- A timer that is armed with a ticket has it.
+armed-is : (timer : Timer) (ticket : ℕ) → armedWith timer ticket ≡ true → timer ≡ Armed ticket
+unfolding armedWith
+armed-is Off ticket e = absurd (false≢true e)
+armed-is (Armed held) ticket e = ap Armed (eqb-true held ticket e)
+
+-- A timer event that is answered 0 has the armed ticket,
+pub acted-armed : (w : World) (timer : TimerOf) (ticket : ℕ) (out : List ℕ) → answerTo w (timerEvent timer ticket out) ≡ Done
+    → timerIn w timer ≡ Armed ticket
+unfolding answerTo timerEvent timerIn namedTimer
+acted-armed w (OfClient Wait) ticket out done =
+    armed-is (w .client .wait) ticket (client-timer-passes (w .client) Wait ticket _ (client-timer-accepted (w .client) Wait ticket out done) .armed)
+acted-armed w (OfClient Ack) ticket out done =
+    armed-is (w .client .ack) ticket (client-timer-passes (w .client) Ack ticket _ (client-timer-accepted (w .client) Ack ticket out done) .armed)
+acted-armed w OfServer ticket out done =
+    armed-is (w .server .resend) ticket (server-timer-passes (w .server) ticket _ (server-timer-accepted (w .server) ticket out done) .armed)
+
+-- so a late one leaves the whole world as it was.
+pub late-same : (w : World) (timer : TimerOf) (ticket : ℕ) (out : List ℕ) → (timerIn w timer ≡ Armed ticket → ⊥) → step w (timerEvent timer ticket out) ≡ w
+late-same w timer ticket out late =
+    refused-same w (timerEvent timer ticket out) (λ done. late (acted-armed w timer ticket out done))

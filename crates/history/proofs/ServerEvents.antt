@@ -209,7 +209,7 @@ module _ (w : World) (inv : Inv w) (n : ℕ) (message : List ℕ) (can : CanRepl
       more : ClientHolds (w .client .number) (w .client .incoming) (w .clientSlots) (w .replies)
           → ClientHolds (w .client .number) (w .client .incoming) (w .clientSlots) replies
       more (nothing e) = nothing e
-      more (fragments-of r m e h) = fragments-of r (in-before (w .replies) r reply m) e h
+      more (fragments-of r m e z h) = fragments-of r (in-before (w .replies) r reply m) e z h
 
   -- and of two replies to one number the earlier is a single fragment.
   alike : (r t : Replied) → In r replies → In t replies → r .number ≡ t .number → (r ≡ t) ⊎ (Single (r .message) ⊎ Single (t .message))

@@ -1,0 +1,139 @@
+-- A fresh world is as every world is known to be.
+use Prim.Native.Nat.{ℕ, _≤_}
+use mathlib.Core.Bool.{Bool, true, false, false≢true}
+use mathlib.Core.List.{List, []}
+use mathlib.Core.Path.{_≡_, refl, sym, ap, subst, _∙_}
+use lib.Dec.{ltb, leb}
+use lib.ListN.{length, getD}
+use native.Mathlib.Omega.{arith}
+use borrow.Author.Tests.{le-leb, eq-eqb}
+use Rattle.words.specs.Choice.{choose, both}
+use Rattle.words.proofs.Tests.{both-hold}
+use Rattle.fragments.specs.Judgement.{held}
+use Rattle.fragments.proofs.PutLaws.{none-held}
+use Rattle.incoming.specs.declared.Incoming.{Incoming}
+use Rattle.incoming.specs.declared.Last.{Last}
+use Rattle.incoming.specs.declared.Last.the-variants.{Unknown}
+use Rattle.incoming.specs.Slots.{missing, lastSound, soundFrom, sound as incomingSound, within}
+use Rattle.incoming.proofs.SlotLaws.{sound-all}
+use Rattle.outgoing.specs.declared.Outgoing.{Outgoing}
+use Rattle.outgoing.specs.Sending.{bounded, hasNothing}
+use Rattle.outgoing.proofs.SendLaws.{bounded-holds}
+use Rattle.timers.specs.declared.Timer.{Timer}
+use Rattle.timers.specs.declared.Timer.the-variants.{Off}
+use Rattle.timers.specs.Tickets.{timerSound}
+use Rattle.timers.proofs.TimerLaws.{off-sound}
+use Rattle.client_record.specs.declared.State.{State as ClientState}
+use Rattle.client_record.specs.declared.State.the-variants.{Queued}
+use Rattle.client_record.specs.declared.Client.{Client}
+use Rattle.client_record.specs.States.{isQueued, isWaiting, isAckPending}
+use Rattle.client_record.specs.Rules.{outgoingSound as clientOutgoing, messageRule as clientRule, timersSound, sound as clientSound}
+use Rattle.client_record.proofs.RuleLaws.{rules-hold as client-rules, counts-hold}
+use Rattle.server_record.specs.declared.Idle.the-variants.{Fresh as NeverCalled}
+use Rattle.server_record.specs.declared.State.{State as ServerState}
+use Rattle.server_record.specs.declared.State.the-variants.{Idle}
+use Rattle.server_record.specs.declared.Server.{Server}
+use Rattle.server_record.specs.States.{neverCalled, isFresh, isRunning, isHeld}
+use Rattle.server_record.specs.Rules.{outgoingSound as serverOutgoing, idleRule, messageRule as serverRule, sound as serverSound}
+use Rattle.server_record.proofs.RuleLaws.{rules-hold as server-rules}
+use Rattle.history.specs.Lists.{In}
+use Rattle.history.specs.World.{Started, Dispatched, Replied, World}
+use Rattle.history.specs.Claim.{toldLast, NeverFall}
+use Rattle.history.specs.Freshness.{NothingHeld, NothingSent, FreshClient, FreshServer, Fresh}
+use Rattle.history.proofs.Holding.{Empty}
+use Rattle.history.proofs.Invariant.{nothing, ClientInv, unanswered, hasData, ServerInv, CallInv, Inv}
+
+-- Nothing held keeps the rules of what is held,
+held-sound : (m : Incoming) → NothingHeld m → incomingSound m ≡ true
+unfolding incomingSound
+held-sound m n =
+    both-hold (lastSound (m .last)) (soundFrom (m .last) 0 (m .slots)) (ap lastSound (n .last))
+    (sound-all (m .last) 0 (m .slots) missing (λ g below h. absurd (false≢true (sym (none-held (m .slots) g (n .none)) ∙ h))))
+
+-- and is nothing at every number.
+held-empty : (m : Incoming) → NothingHeld m → Empty m
+unfolding held
+held-empty m n = record { none = λ f. none-held (m .slots) f (n .none); last = n .last }
+
+-- No message out keeps the rules of what is sent.
+sent-bounded : (o : Outgoing) → NothingSent o → bounded o ≡ true
+sent-bounded o n = bounded-holds o (omega (arith, n .sent)) (omega (arith, n .acknowledged))
+
+sent-none : (o : Outgoing) → NothingSent o → hasNothing o ≡ true
+unfolding hasNothing
+sent-none o n = eq-eqb (o .count) 0 (n .count)
+
+-- A timer that is off keeps its rule.
+off-kept : (named : Bool) (timer : Timer) (tickets : ℕ) → timer ≡ Off → timerSound named timer tickets ≡ true
+off-kept named timer tickets e = subst (λ (t : Timer). timerSound named t tickets ≡ true) (sym e) (off-sound named tickets)
+
+-- A fresh client,
+client-fresh : (c : Client) (slots : List ℕ) (starts : List Started) (replies : List Replied) → FreshClient c → starts ≡ [] → ClientInv c slots starts replies
+unfolding clientOutgoing clientRule timersSound isQueued
+client-fresh c slots starts replies f none = record {
+  kept =
+      client-rules c
+      (record {
+        counts = counts-hold (c .waits) (c .resends) (omega (arith, f .waits)) (omega (arith, f .resends));
+        outgoing =
+            subst (λ (s : ClientState). clientOutgoing s (c .outgoing) ≡ true) (sym (f .state))
+            (both-hold (bounded (c .outgoing)) (hasNothing (c .outgoing)) (sent-bounded (c .outgoing) (f .outgoing)) (sent-none (c .outgoing) (f .outgoing)));
+        incoming = held-sound (c .incoming) (f .incoming);
+        timers =
+            both-hold _ _ (off-kept (isWaiting (c .state)) (c .wait) (c .tickets) (f .wait)) (off-kept (isAckPending (c .state)) (c .ack) (c .tickets) (f .ack));
+      });
+  activity = f .activity;
+  slotted = f .incoming .slots;
+  begun = λ s m. absurd (subst (In s) none m);
+  current = λ e. absurd (false≢true (sym e ∙ ap isQueued (f .state)));
+  holds = nothing (held-empty (c .incoming) (f .incoming));
+  told = λ e. absurd (false≢true (sym (ap toldLast (f .state)) ∙ e));
+}
+
+-- a fresh server
+server-fresh : (s : Server) (slots : List ℕ) (starts : List Started) (dispatches : List Dispatched) (replies : List Replied) → FreshServer s
+    → dispatches ≡ [] → replies ≡ [] → ServerInv s slots starts dispatches replies
+unfolding serverOutgoing serverRule idleRule isFresh neverCalled isRunning
+server-fresh s slots starts dispatches replies f none unanswered-yet = record {
+  kept =
+      server-rules s
+      (record {
+        count = le-leb (s .resends) 5 (omega (arith, f .resends));
+        outgoing =
+            subst (λ (x : ServerState). serverOutgoing x (s .outgoing) ≡ true) (sym (f .state))
+            (both-hold (bounded (s .outgoing)) (hasNothing (s .outgoing)) (sent-bounded (s .outgoing) (f .outgoing)) (sent-none (s .outgoing) (f .outgoing)));
+        incoming = held-sound (s .incoming) (f .incoming);
+        timer = off-kept (isHeld (s .state)) (s .resend) (s .tickets) (f .resend);
+      });
+  activity = f .activity;
+  boot = f .boot;
+  slotted = f .incoming .slots;
+  dispatched = λ d m. absurd (subst (In d) none m);
+  answered = λ r m. absurd (subst (In r) unanswered-yet m);
+  called = λ e. absurd (false≢true (sym e ∙ ap isFresh (f .state)));
+  collecting = λ e. absurd (false≢true (sym (ap unanswered (f .state)) ∙ ap unanswered e));
+  running = λ e. absurd (false≢true (sym (ap isRunning (f .state)) ∙ ap isRunning e));
+  single = λ e. absurd (false≢true (sym (ap unanswered (f .state)) ∙ e));
+  replying = λ e. absurd (false≢true (sym (ap hasData (f .state)) ∙ e));
+}
+
+-- and nothing on record.
+calls-fresh : (starts : List Started) (dispatches : List Dispatched) (replies : List Replied) → starts ≡ [] → dispatches ≡ [] → replies ≡ []
+    → CallInv starts dispatches replies
+calls-fresh starts dispatches replies s d r = record {
+  unique = λ a b m. absurd (subst (In a) s m);
+  once = λ a m. absurd (subst (In a) s m);
+  whole = λ a m. absurd (subst (In a) d m);
+  rising = subst NeverFall (sym d) tt;
+  alike = λ a b m. absurd (subst (In a) r m);
+}
+
+-- So a fresh world is.
+pub fresh-inv : (w : World) → Fresh w → Inv w
+fresh-inv w f = record {
+  client = client-fresh (w .client) (w .clientSlots) (w .starts) (w .replies) (f .client) (f .starts);
+  server = server-fresh (w .server) (w .serverSlots) (w .starts) (w .dispatches) (w .replies) (f .server) (f .dispatches) (f .replies);
+  calls = calls-fresh (w .starts) (w .dispatches) (w .replies) (f .starts) (f .dispatches) (f .replies);
+  requests = λ d m. absurd (subst (In d) (f .clientSent) m);
+  responses = λ d m. absurd (subst (In d) (f .serverSent) m);
+}
