@@ -10,3 +10,6 @@ pub mod StartStep
 pub mod ServerSteps
 pub mod ServerEvents
 pub mod ServerArrivals
+pub mod Histories
+pub mod Tickets
+pub mod Theorem

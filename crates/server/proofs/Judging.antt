@@ -34,8 +34,8 @@ use Rattle.server_table.specs.declared.Row.{Row}
 use Rattle.server_table.specs.declared.Row.the-variants.{Old, Missing, Repeat, Begin, Put, Working, Nocall, Replay, Acknowledge, Finish}
 use Rattle.server_table.specs.Events.{eventOf, byEvent, sideGround}
 use Rattle.server_table.specs.Arrival.{requestGround, oldGround, rowGround, sameCall, callGround, slotGround, pduGround, tableGround, orderFor, rowFor, arrivalGround}
-use Rattle.server_table.proofs.TableLaws.{begin-told, put-told, acknowledge-told}
 use Rattle.server_table.specs.Local.{holds, transmitGround, armsAgain, timerGround, replyGround, faultGround}
+use Rattle.server_table.proofs.TableLaws.{begin-told, put-told, acknowledge-told}
 
 -- What a reply that passed is known to be.
 pub record CanReply (s : Server) (n : ℕ) : Type 0 where

@@ -4,3 +4,4 @@ pub mod Judging
 pub mod Accepting
 pub mod Refusals
 pub mod Keeping
+pub mod TicketLaws

@@ -216,7 +216,7 @@ resend-held (Fault status) s = refl
 
 -- and at it.
 pub timer-held : (state : State) (s : Server) → timerRow state s .server .incoming ≡ s .incoming
-unfolding timerRow resendRow unarmed accepted choose refused
+unfolding timerRow resendRow unarmed refused accepted choose
 timer-held (IdleState idle) s = refl
 timer-held Collect s = refl
 timer-held Running s = refl

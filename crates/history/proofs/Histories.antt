@@ -1,0 +1,159 @@
+-- Every event keeps what is known of the world, what the client hands up only grows, and lists of events go on.
+use Prim.Native.Nat.{ℕ, _+_, _≤_}
+use mathlib.Core.List.{List, [], _∷_, _++_}
+use mathlib.Core.Logic.{_⊎_, inl, inr}
+use mathlib.Core.Path.{_≡_, refl, sym, ap, subst, _∙_}
+use native.Mathlib.Omega.{arith}
+use native.Mathlib.Nat.{le-refl}
+use lib.ListN.{length, length-append}
+use Rattle.words.proofs.Tests.{choose-true}
+use Rattle.answers.specs.declared.Answer.the-variants.{Done}
+use Rattle.calls.specs.declared.Call.{Call}
+use Rattle.fragments.specs.Joined.{Leads}
+use Rattle.fragments.proofs.PutLaws.{leads-refl, leads-trans}
+use Rattle.grounds.proofs.PassLaws.{done-or-not}
+use Rattle.client.specs.Machine.{starting}
+use Rattle.client.proofs.Growing.{transmit-grows, timer-grows, arrive-grows}
+use Rattle.history.specs.Lists.{andThen}
+use Rattle.history.specs.World.{Started, World}
+use Rattle.history.specs.Events.{Lent, Own, Event, Start, ClientTransmit, ClientArrive, ClientTimer, ServerArrive, ServerTransmit, ServerTimer, Reply, Fault}
+use Rattle.history.specs.Steps.{isDone, bytesLent, ownAfter, startStep, replyStep, step, answerTo, run}
+use Rattle.history.specs.Fairness.{Premise, Fair}
+use Rattle.history.specs.Claim.{handedUp}
+use Rattle.history.proofs.Invariant.{Inv}
+use Rattle.history.proofs.Refused.{refused-same}
+use Rattle.history.proofs.ClientSteps.{client-transmit-inv, client-timer-inv, client-arrive-inv}
+use Rattle.history.proofs.StartStep.{started-inv}
+use Rattle.history.proofs.ServerEvents.{server-transmit-inv, server-fault-inv, server-timer-inv, replied-inv}
+use Rattle.history.proofs.ServerArrivals.{server-arrive-inv}
+
+-- An event that is answered 0 and keeps its premise,
+accepted-inv : (w : World) (e : Event) → Inv w → answerTo w e ≡ Done → Premise w e → Inv (step w e)
+unfolding step answerTo bytesLent ownAfter
+accepted-inv w (Start call n message) inv done fair = started-inv w call n message inv done fair
+accepted-inv w (ClientTransmit message out) inv done fair = client-transmit-inv w message out inv done fair
+accepted-inv w (ClientArrive datagram lent out) inv done fair =
+    subst (λ (l : Lent). answerTo w (ClientArrive datagram l out) ≡ Done → Inv (step w (ClientArrive datagram l out))) (sym (fair .own))
+    (λ d. client-arrive-inv w datagram out inv d (fair .earlier)) done
+accepted-inv w (ClientTimer kind ticket out) inv done fair = client-timer-inv w kind ticket out inv done
+accepted-inv w (ServerArrive datagram lent out) inv done fair =
+    subst (λ (l : Lent). answerTo w (ServerArrive datagram l out) ≡ Done → Inv (step w (ServerArrive datagram l out))) (sym (fair .own))
+    (λ d. server-arrive-inv w datagram out inv d (fair .earlier)) done
+accepted-inv w (ServerTransmit message out) inv done fair = server-transmit-inv w message out (w .server .number) inv done fair
+accepted-inv w (ServerTimer ticket out) inv done fair = server-timer-inv w ticket out (w .server .number) inv done
+accepted-inv w (Reply n message) inv done fair = replied-inv w n message inv done fair
+accepted-inv w (Fault status out) inv done fair = server-fault-inv w status out (w .server .number) inv done
+
+-- and so every event, keeps what is known.
+pub step-inv : (w : World) (e : Event) → Inv w → (answerTo w e ≡ Done → Premise w e) → Inv (step w e)
+step-inv w e inv fair = by-answer (done-or-not (answerTo w e))
+  where
+    by-answer : Dec (answerTo w e ≡ Done) → Inv (step w e)
+    by-answer (yes done) = accepted-inv w e inv done (fair done)
+    by-answer (no other) = subst Inv (sym (refused-same w e other)) inv
+
+-- A list of events keeps it.
+pub run-inv : (w : World) (events : List Event) → Inv w → Fair w events → Inv (run w events)
+unfolding run
+run-inv w [] inv fair = inv
+run-inv w (e ∷ es) inv fair = run-inv (step w e) es (step-inv w e inv (fair .0)) (fair .1)
+
+-- One list behind the other.
+pub run-append : (w : World) (before after : List Event) → run w (before ++ after) ≡ run (run w before) after
+unfolding run
+run-append w [] after = refl
+run-append w (e ∷ es) after = run-append (step w e) es after
+
+pub fair-append : (w : World) (before after : List Event) → Fair w (before ++ after) → Fair w before × Fair (run w before) after
+unfolding run
+fair-append w [] after fair = (tt, fair)
+fair-append w (e ∷ es) after fair = let rest = fair-append (step w e) es after (fair .1) in ((fair .0, rest .0), rest .1)
+
+-- The starts on record stay or get one more.
+pub record OneMore (before after : List Started) : Type 0 where
+  pub start : Started
+  pub is : after ≡ andThen before start
+
+-- A start that is answered 0 is on record then,
+start-more : (w : World) (call : Call) (n : ℕ) (message : List ℕ) → starting (w .client) call n .answer ≡ Done
+    → OneMore (w .starts) (startStep w (starting (w .client) call n) (call .idempotent) message .starts)
+unfolding startStep
+start-more w call n message done =
+    let new : Started = record { number = starting (w .client) call n .client .number; idempotent = call .idempotent; message = message } in
+    record { start = new; is = choose-true (isDone (starting (w .client) call n .answer)) (andThen (w .starts) new) (w .starts) (ap isDone done) }
+
+-- and no other event changes the starts.
+step-starts : (w : World) (e : Event) → (step w e .starts ≡ w .starts) ⊎ OneMore (w .starts) (step w e .starts)
+unfolding step answerTo replyStep
+step-starts w (Start call n message) = by-answer (done-or-not (starting (w .client) call n .answer))
+  where
+    by-answer : Dec (starting (w .client) call n .answer ≡ Done)
+        → (step w (Start call n message) .starts ≡ w .starts) ⊎ OneMore (w .starts) (step w (Start call n message) .starts)
+    by-answer (yes done) = unfold step in inr (start-more w call n message done)
+    by-answer (no other) = unfold answerTo in inl (ap (λ (v : World). v .starts) (refused-same w (Start call n message) other))
+step-starts w (ClientTransmit message out) = inl refl
+step-starts w (ClientArrive datagram lent out) = inl refl
+step-starts w (ClientTimer kind ticket out) = inl refl
+step-starts w (ServerArrive datagram lent out) = inl refl
+step-starts w (ServerTransmit message out) = inl refl
+step-starts w (ServerTimer ticket out) = inl refl
+step-starts w (Reply n message) = inl refl
+step-starts w (Fault status out) = inl refl
+
+more-length : (before after : List Started) → OneMore before after → length after ≡ length before + 1
+more-length before after m = rw (m .is, length-append) refl
+
+-- So there are never fewer.
+run-starts : (w : World) (events : List Event) → length (w .starts) ≤ length (run w events .starts)
+unfolding run
+run-starts w [] = le-refl (length (w .starts))
+run-starts w (e ∷ es) = by-step (step-starts w e) (run-starts (step w e) es)
+  where
+    by-step : (step w e .starts ≡ w .starts) ⊎ OneMore (w .starts) (step w e .starts) → length (step w e .starts) ≤ length (run (step w e) es .starts)
+        → length (w .starts) ≤ length (run (step w e) es .starts)
+    by-step (inl same) h = let as-long : length (step w e .starts) ≡ length (w .starts) = ap length same in omega arith
+    by-step (inr more) h = let longer = more-length (w .starts) (step w e .starts) more in omega arith
+
+-- What the client hands up before an event that starts no call leads what it hands up after it.
+accepted-grows : (w : World) (e : Event) → answerTo w e ≡ Done → Premise w e → OneMore (w .starts) (step w e .starts) ⊎ Leads (handedUp w) (handedUp (step w e))
+unfolding step answerTo bytesLent ownAfter replyStep
+accepted-grows w (Start call n message) done fair = inl (start-more w call n message done)
+accepted-grows w (ClientTransmit message out) done fair = inr (transmit-grows (w .client) message out (w .clientSlots))
+accepted-grows w (ClientArrive datagram lent out) done fair =
+    inr
+    (subst (λ (l : Lent). Leads (handedUp w) (handedUp (step w (ClientArrive datagram l out)))) (sym (fair .own))
+    (arrive-grows (w .client) datagram (w .clientSlots) out))
+accepted-grows w (ClientTimer kind ticket out) done fair = inr (timer-grows (w .client) kind ticket out (w .clientSlots))
+accepted-grows w (ServerArrive datagram lent out) done fair = inr (leads-refl (handedUp w))
+accepted-grows w (ServerTransmit message out) done fair = inr (leads-refl (handedUp w))
+accepted-grows w (ServerTimer ticket out) done fair = inr (leads-refl (handedUp w))
+accepted-grows w (Reply n message) done fair = inr (leads-refl (handedUp w))
+accepted-grows w (Fault status out) done fair = inr (leads-refl (handedUp w))
+
+step-grows : (w : World) (e : Event) → (answerTo w e ≡ Done → Premise w e) → OneMore (w .starts) (step w e .starts) ⊎ Leads (handedUp w) (handedUp (step w e))
+step-grows w e fair = by-answer (done-or-not (answerTo w e))
+  where
+    by-answer : Dec (answerTo w e ≡ Done) → OneMore (w .starts) (step w e .starts) ⊎ Leads (handedUp w) (handedUp (step w e))
+    by-answer (yes done) = accepted-grows w e done (fair done)
+    by-answer (no other) = inr (subst (λ (v : World). Leads (handedUp w) (handedUp v)) (sym (refused-same w e other)) (leads-refl (handedUp w)))
+
+-- While no start goes on record it only grows.
+pub run-grows : (w : World) (events : List Event) → Fair w events → run w events .starts ≡ w .starts → Leads (handedUp w) (handedUp (run w events))
+unfolding run
+run-grows w [] fair same = leads-refl (handedUp w)
+run-grows w (e ∷ es) fair same = by-starts (step-starts w e) (step-grows w e (fair .0)) (run-grows (step w e) es (fair .1))
+  where
+    none-more : OneMore (w .starts) (step w e .starts) → ⊥
+    none-more more =
+        let longer = more-length (w .starts) (step w e .starts) more in
+        let least = run-starts (step w e) es in
+        let as-long : length (run (step w e) es .starts) ≡ length (w .starts) = ap length same in
+        omega arith
+
+    by-starts : (step w e .starts ≡ w .starts) ⊎ OneMore (w .starts) (step w e .starts)
+        → OneMore (w .starts) (step w e .starts) ⊎ Leads (handedUp w) (handedUp (step w e))
+        → (run (step w e) es .starts ≡ step w e .starts → Leads (handedUp (step w e)) (handedUp (run (step w e) es)))
+        → Leads (handedUp w) (handedUp (run (step w e) es))
+    by-starts (inr more) grows rest = absurd (none-more more)
+    by-starts (inl stay) (inl more) rest = absurd (none-more more)
+    by-starts (inl stay) (inr grows) rest = leads-trans grows (rest (same ∙ sym stay))

@@ -1,0 +1,191 @@
+-- The theorem over every list of events.
+use Prim.Native.Nat.{ℕ, zero, suc, _*_, _<_, _≤_}
+use mathlib.Core.Bool.{Bool, true, false, false≢true}
+use mathlib.Core.List.{List, [], _++_, append-assoc}
+use mathlib.Core.Logic.{_⊎_, inl, inr}
+use mathlib.Core.Path.{_≡_, refl, sym, ap, subst, _∙_}
+use native.Mathlib.Omega.{arith}
+use borrow.Author.Tests.{leb-true}
+use Rattle.words.specs.Choice.{either}
+use Rattle.words.proofs.Tests.{both-true}
+use lib.ListN.{length, take, drop, take-append-drop}
+use Rattle.fragments.specs.Judgement.{held}
+use Rattle.fragments.specs.Joined.{handedBelow, joined, Leads}
+use Rattle.fragments.proofs.BufferLaws.{joined-front}
+use Rattle.incoming.specs.declared.Incoming.{Incoming}
+use Rattle.incoming.specs.declared.Last.{Last}
+use Rattle.incoming.specs.Slots.{missing, allTo, contiguous, complete}
+use Rattle.incoming.proofs.SlotLaws.{count-held}
+use Rattle.timers.specs.declared.Timer.{Timer}
+use Rattle.timers.specs.declared.Timer.the-variants.{Off, Armed}
+use Rattle.timers.specs.Tickets.{off, sound as ticketSound, timerSound}
+use Rattle.client_record.specs.declared.State.{State}
+use Rattle.client_record.specs.declared.State.the-variants.{Queued, SendFrags, Dispatched as DispatchedState, ReceiveFrags, AckPending, Complete, Fault}
+use Rattle.client_record.specs.States.{isWaiting, isAckPending}
+use Rattle.client_record.specs.Rules.{timersSound}
+use Rattle.client_record.proofs.RuleLaws.{rules-told, complete-unarmed, fault-unarmed}
+use Rattle.client_table.specs.declared.TimerKind.the-variants.{Wait, Ack}
+use Rattle.client.proofs.Growing.{hands-joined}
+use Rattle.server_record.specs.States.{isHeld}
+use Rattle.server_record.proofs.RuleLaws.{idle-unarmed, rules-told as server-rules-told}
+use Rattle.history.specs.World.{World}
+use Rattle.history.specs.Events.{Event}
+use Rattle.history.specs.Steps.{run}
+use Rattle.history.specs.Fairness.{Fair}
+use Rattle.history.specs.Freshness.{Fresh}
+use Rattle.history.specs.Claim.{AtMostOnce, WholeMessages, handedUp, OfOneReply, OneReply, WholeReply, OnlyGrows, TimerOf, OfClient, OfServer, timerIn, LateTimers, GoneTickets, finished, Quiet, Claim}
+use Rattle.history.proofs.Holding.{Empty, holding-whole}
+use Rattle.history.proofs.Invariant.{ClientHolds, nothing, fragments-of, Inv}
+use Rattle.history.proofs.Beginning.{fresh-inv}
+use Rattle.history.proofs.Refused.{late-same}
+use Rattle.history.proofs.Histories.{run-inv, run-append, fair-append, run-grows}
+use Rattle.history.proofs.Tickets.{counterOf, run-counts, run-gone, acts-once}
+
+-- Where nothing is held nothing is joined.
+empty-joined : (m : Incoming) (slots : List ℕ) → Empty m → joined m slots ≡ []
+unfolding joined contiguous held
+empty-joined m slots e = by-count (contiguous m) refl
+  where
+    by-count : (n : ℕ) → contiguous m ≡ n → handedBelow m slots n ≡ []
+    by-count zero k = unfold handedBelow in refl
+    by-count (suc n) k =
+        absurd (false≢true (sym (e .none 0) ∙ unfold held contiguous in count-held (m .slots) 0 missing (omega (arith, k))))
+
+-- and it is not complete.
+empty-unfinished : (m : Incoming) → Empty m → complete m ≡ false
+unfolding complete
+empty-unfinished m e = ap (λ (l : Last). allTo l (contiguous m)) (e .last)
+
+module _ (w : World) (inv : Inv w) where
+  joins : handedUp w ≡ joined (w .client .incoming) (w .clientSlots)
+  joins = hands-joined (w .client) (w .clientSlots) (inv .client .kept)
+
+  -- What the client hands up is nothing, or a leading part of one reply,
+  one-reply : OneReply w
+  unfolding OneReply
+  one-reply = by-holds (inv .client .holds)
+    where
+      by-holds : ClientHolds (w .client .number) (w .client .incoming) (w .clientSlots) (w .replies)
+          → (handedUp w ≡ []) ⊎ OfOneReply w (λ message. Leads (handedUp w) message)
+      by-holds (nothing e) = inl (joins ∙ empty-joined (w .client .incoming) (w .clientSlots) e)
+      by-holds (fragments-of r m n whole h) =
+          let count = contiguous (w .client .incoming) in
+          let front =
+          joined-front (w .client .incoming) (w .clientSlots) (r .message) (rules-told (w .client) (inv .client .kept) .incoming) whole (h .carries) in
+          inr
+          (record {
+            reply = r;
+            given = m;
+            number = n;
+            is =
+                record {
+                  rest = drop (1392 * count) (r .message);
+                  whole = sym (take-append-drop (1392 * count) (r .message)) ∙ ap (λ (l : List ℕ). l ++ drop (1392 * count) (r .message)) (sym (joins ∙ front));
+                };
+          })
+
+  -- and the whole of one once "last" was told.
+  whole-reply : WholeReply w
+  unfolding WholeReply
+  whole-reply told = by-holds (inv .client .holds)
+    where
+      by-holds : ClientHolds (w .client .number) (w .client .incoming) (w .clientSlots) (w .replies)
+          → OfOneReply w (λ message. handedUp w ≡ message)
+      by-holds (nothing e) = absurd (false≢true (sym (empty-unfinished (w .client .incoming) e) ∙ inv .client .told told))
+      by-holds (fragments-of r m n whole h) =
+          record {
+            reply = r;
+            given = m;
+            number = n;
+            is =
+                joins
+                ∙ holding-whole (w .client .incoming) (w .clientSlots) (r .message) h (rules-told (w .client) (inv .client .kept) .incoming) whole
+                (inv .client .told told);
+          }
+
+  -- Each dispatch gets the whole message of the one start that has its number.
+  whole-messages : WholeMessages w
+  unfolding WholeMessages
+  whole-messages d m =
+      let from = inv .calls .whole d m in
+      record {
+        start = from .0;
+        started = from .1 .0;
+        number = from .1 .1 .0;
+        whole = from .1 .1 .1;
+        only = λ other k n. inv .calls .unique other (from .0) k (from .1 .0) (n ∙ sym (from .1 .1 .0));
+      }
+
+  -- Nothing is armed in a finished call.
+  quiet : Quiet w
+  quiet = record {
+    wait = λ e. by-state (w .client .state) refl e .0;
+    ack = λ e. by-state (w .client .state) refl e .1;
+    resend = λ e. idle-unarmed (w .server) (inv .server .kept) e;
+  }
+    where
+      by-state : (s : State) → w .client .state ≡ s → finished s ≡ true → (w .client .wait ≡ Off) × (w .client .ack ≡ Off)
+      by-state Queued e f = absurd (false≢true f)
+      by-state SendFrags e f = absurd (false≢true f)
+      by-state DispatchedState e f = absurd (false≢true f)
+      by-state ReceiveFrags e f = absurd (false≢true f)
+      by-state AckPending e f = absurd (false≢true f)
+      by-state Complete e f = complete-unarmed (w .client) (inv .client .kept) e
+      by-state Fault e f = fault-unarmed (w .client) (inv .client .kept) e
+
+-- An armed ticket is at most the counter.
+sound-most : (named : Bool) (timer : Timer) (tickets ticket : ℕ) → timerSound named timer tickets ≡ true → timer ≡ Armed ticket → ticket ≤ tickets
+unfolding timerSound ticketSound
+sound-most named timer tickets ticket kept e =
+    leb-true ticket tickets (subst (λ (t : Timer). ticketSound t tickets ≡ true) e (both-true (either named (off timer)) (ticketSound timer tickets) kept .1))
+
+armed-most : (w : World) → Inv w → (timer : TimerOf) (ticket : ℕ) → timerIn w timer ≡ Armed ticket → ticket ≤ counterOf w timer
+unfolding timerIn timersSound
+armed-most w inv (OfClient Wait) ticket e =
+    sound-most (isWaiting (w .client .state)) (w .client .wait) (w .client .tickets) ticket (both-true _ _ (rules-told (w .client) (inv .client .kept) .timers) .0) e
+armed-most w inv (OfClient Ack) ticket e =
+    sound-most (isAckPending (w .client .state)) (w .client .ack) (w .client .tickets) ticket (both-true _ _ (rules-told (w .client) (inv .client .kept) .timers) .1) e
+armed-most w inv OfServer ticket e =
+    sound-most (isHeld (w .server .state)) (w .server .resend) (w .server .tickets) ticket (server-rules-told (w .server) (inv .server .kept) .timer) e
+
+-- A ticket that was armed and is no longer never is again.
+gone-tickets : (w : World) (events : List Event) → Inv w → Fair w events → GoneTickets w events
+unfolding GoneTickets
+gone-tickets w events inv fair before between after split timer ticket armed gone now =
+    let earlier = run-inv w before inv (fair-append w before (between ++ after) (subst (Fair w) split fair) .0) in
+    let most = armed-most (run w before) earlier timer ticket armed in
+    let counts = run-counts (run w before) between timer in
+    let middle : run w (before ++ between) ≡ run (run w before) between = run-append w before between in
+    let end : run w events ≡ run (run w (before ++ between)) after =
+    ap (run w) (split ∙ sym (append-assoc before between after)) ∙ run-append w (before ++ between) after in
+    run-gone (run w (before ++ between)) after timer ticket (subst (λ (v : World). ticket ≤ counterOf v timer) (sym middle) (omega arith)) gone
+    (subst (λ (v : World). timerIn v timer ≡ Armed ticket) end now)
+
+-- While no start is accepted, what was handed up leads what is handed up.
+only-grows : (w : World) (events : List Event) → Fair w events → OnlyGrows w events
+unfolding OnlyGrows
+only-grows w events fair before after split same =
+    let later = fair-append w before after (subst (Fair w) split fair) .1 in
+    let end : run w events ≡ run (run w before) after = ap (run w) split ∙ run-append w before after in
+    subst (λ (v : World). Leads (handedUp (run w before)) (handedUp v)) (sym end)
+    (run-grows (run w before) after later (sym (ap (λ (v : World). v .starts) end) ∙ same))
+
+-- After every fair list of events of a fresh world the claim holds.
+pub theorem : (w : World) → Fresh w → (events : List Event) → Fair w events → Claim w events
+unfolding AtMostOnce LateTimers
+theorem w fresh events fair =
+    let start = fresh-inv w fresh in
+    let inv = run-inv w events start fair in
+    record {
+      once = inv .calls .once;
+      whole = whole-messages (run w events) inv;
+      reply = one-reply (run w events) inv;
+      complete = whole-reply (run w events) inv;
+      grows = only-grows w events fair;
+      late = late-same (run w events);
+      gone = gone-tickets w events start fair;
+      acts = acts-once (run w events);
+      quiet = quiet (run w events) inv;
+      rules = record { client = inv .client .kept; server = inv .server .kept };
+      rising = inv .calls .rising;
+    }
