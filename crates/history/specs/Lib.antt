@@ -6,3 +6,4 @@ pub mod Steps
 pub mod Fairness
 pub mod Freshness
 pub mod Claim
+pub mod Runs

@@ -1,0 +1,90 @@
+-- The two runs, proved: each starts fresh, keeps every premise, and ends as document 01 says.
+use Prim.Native.Nat.{ℕ}
+use mathlib.Core.List.{List, [], _∷_}
+use mathlib.Core.Path.{_≡_, refl, ap, _∙_}
+use native.Mathlib.Omega.{arith}
+use lib.ListN.{length, length-replicate}
+use Rattle.client_record.specs.declared.State.the-variants.{Complete}
+use Rattle.server_record.specs.declared.Idle.the-variants.{Spent, Repeatable}
+use Rattle.server_record.specs.declared.State.the-variants.{Idle}
+use Rattle.history.specs.World.{World}
+use Rattle.history.specs.Freshness.{Fresh}
+use Rattle.history.specs.Claim.{handedUp}
+use Rattle.history.specs.Runs.{Story, Ran, before, lossy, twice, question, secondReply, exampleMessage, exampleReply, zeros}
+use Rattle.history.proofs.ComputedOpen.{opened}
+use Rattle.history.proofs.ComputedLaws.{Plays}
+use Rattle.history.proofs.ComputedLossy.{reply-whole as lossy-reply, plays-lossy}
+use Rattle.history.proofs.ComputedTwice.{reply-whole as twice-reply, plays-twice}
+
+-- The world before a run is fresh.
+before-fresh : (clientSlots serverSlots : List ℕ) → Fresh (before clientSlots serverSlots)
+unfolding opened
+before-fresh clientSlots serverSlots = record {
+  client = record {
+    state = refl;
+    activity = refl;
+    outgoing = record { count = refl; sent = refl; acknowledged = refl };
+    incoming = record { slots = refl; none = refl; last = refl };
+    waits = refl;
+    resends = refl;
+    wait = refl;
+    ack = refl;
+  };
+  server = record {
+    state = refl;
+    activity = refl;
+    boot = omega arith;
+    outgoing = record { count = refl; sent = refl; acknowledged = refl };
+    incoming = record { slots = refl; none = refl; last = refl };
+    resends = refl;
+    resend = refl;
+  };
+  clientSent = refl;
+  serverSent = refl;
+  starts = refl;
+  dispatches = refl;
+  replies = refl;
+}
+
+-- What a story that was played shows.
+ran : {w after : World} {story : Story} {handed : List ℕ} → Fresh w → Plays w story after → handedUp after ≡ handed
+    → Ran w story (after .client .state) (after .server .state) (after .dispatches) handed
+ran fresh plays handed = record {
+  fresh = fresh;
+  fair = plays .fair;
+  answers = plays .answers;
+  client-ends = ap (λ (v : World). v .client .state) (plays .ends);
+  server-ends = ap (λ (v : World). v .server .state) (plays .ends);
+  dispatched = ap (λ (v : World). v .dispatches) (plays .ends);
+  hands-up = ap handedUp (plays .ends) ∙ handed;
+}
+
+-- The first, for every request of 2,785 bytes and every reply of 2,786: the call is COMPLETE and the server spent, there is one
+-- dispatch, of the whole request, and the client hands up the whole reply.
+pub lossy-ran : (message reply clientSlots serverSlots out : List ℕ) → length message ≡ 2785 → length reply ≡ 2786 → length clientSlots ≡ 44544
+    → length serverSlots ≡ 44544 → length out ≡ 1472
+    → Ran (before clientSlots serverSlots) (lossy message reply out) Complete (Idle Spent) (record { number = 0; bytes = message } ∷ []) reply
+lossy-ran message reply clientSlots serverSlots out asks replies clientRoom serverRoom room =
+    ran (before-fresh clientSlots serverSlots) (plays-lossy message reply clientSlots serverSlots out asks replies clientRoom serverRoom room)
+    (lossy-reply message reply clientSlots serverSlots out asks replies clientRoom serverRoom room)
+
+-- So it is of the bytes written out.
+zeros-long : (n : ℕ) → length (zeros n) ≡ n
+unfolding zeros
+zeros-long n = length-replicate n 0
+
+pub example-ran :
+    Ran (before (zeros 44544) (zeros 44544)) (lossy exampleMessage exampleReply (zeros 1472)) Complete (Idle Spent)
+    (record { number = 0; bytes = exampleMessage } ∷ []) exampleReply
+unfolding exampleMessage exampleReply
+example-ran =
+    lossy-ran exampleMessage exampleReply (zeros 44544) (zeros 44544) (zeros 1472) refl refl (zeros-long 44544) (zeros-long 44544) (zeros-long 1472)
+
+-- The second: the call is COMPLETE and the server repeatable, there are two dispatches, each of the whole request, and the client
+-- hands up the reply to the second.
+pub twice-ran : (clientSlots serverSlots out : List ℕ) → length clientSlots ≡ 44544 → length serverSlots ≡ 44544 → length out ≡ 1472
+    → Ran (before clientSlots serverSlots) (twice out) Complete (Idle Repeatable)
+    (record { number = 0; bytes = question } ∷ record { number = 0; bytes = question } ∷ []) secondReply
+twice-ran clientSlots serverSlots out clientRoom serverRoom room =
+    ran (before-fresh clientSlots serverSlots) (plays-twice clientSlots serverSlots out clientRoom serverRoom room)
+    (twice-reply clientSlots serverSlots out clientRoom serverRoom room)

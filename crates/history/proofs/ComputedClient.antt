@@ -1,0 +1,139 @@
+-- What each event of the client makes of a world in which every PDU is one that the writer wrote: after these laws only records
+-- are left to compute.
+use Prim.Native.Nat.{ℕ}
+use mathlib.Core.List.{List, [], _∷_, _++_, append-nil}
+use mathlib.Core.Path.{_≡_, sym, _∙_}
+use native.Mathlib.Omega.{arith}
+use lib.ListN.{length}
+use Rattle.answers.specs.Number.{numberOf}
+use Rattle.pdu.specs.declared.Header.{Header}
+use Rattle.pdu.specs.Header.{datagram}
+use Rattle.writer.proofs.RoundTrip.{accepted, read-written, body-written}
+use Rattle.bodies.specs.Fack.{fackBytes, fackSent as fackFields}
+use Rattle.incoming.specs.Slots.{contiguous}
+use Rattle.facks.specs.Mask.{lastContiguous, maskOf}
+use Rattle.outgoing.specs.Message.{fragmentOf, flagsOf}
+use Rattle.outgoing.proofs.OutgoingLaws.{fragment-most}
+use Rattle.fragments.specs.Slots.{storing}
+use Rattle.grounds.specs.Entry.{lentGround}
+use Rattle.client_record.specs.declared.Client.{Client}
+use Rattle.client_table.specs.declared.TimerKind.{TimerKind}
+use Rattle.client_table.specs.Local.{transmitGround, timerGround}
+use Rattle.client_steps.specs.declared.Send.{Send}
+use Rattle.client_steps.specs.declared.Send.the-variants.{Nothing, Request, Ping, Ack, Fack}
+use Rattle.client_steps.specs.declared.Plan.{Plan}
+use Rattle.client_steps.specs.Rows.{transmitPlan, timerPlan}
+use Rattle.client.specs.Sending.{pduHeader, requestSent, emptySent, fackSent, sentOut}
+use Rattle.client.specs.Machine.{outcomeOf, sending, transmitting, timing, planOf, acted, arriving}
+use Rattle.history.specs.World.{World}
+use Rattle.history.specs.Events.{Own, ClientTransmit, ClientArrive, ClientTimer}
+use Rattle.history.specs.Steps.{sentAfter, bytesLent, ownAfter, clientStep, step, answerTo}
+use Rattle.history.proofs.ComputedLaws.{Makes, Uuids, posted, Carried}
+
+-- What the client sends, as it stands in the world: nothing, or one PDU.
+abbrev pub clientPdus : Send → Client → List ℕ → List (List ℕ)
+clientPdus Nothing c message = []
+clientPdus (Request f) c message = datagram (pduHeader 0 (flagsOf (c .outgoing .count) f) f c) (fragmentOf message f) ∷ []
+clientPdus Ping c message = datagram (pduHeader 1 0 0 c) [] ∷ []
+clientPdus Ack c message = datagram (pduHeader 7 0 0 c) [] ∷ []
+clientPdus (Fack serial) c message =
+    datagram (pduHeader 9 0 (lastContiguous (contiguous (c .incoming))) c) (fackBytes (fackFields serial (maskOf (c .incoming)))) ∷ []
+
+client-sent : (send : Send) (c : Client) (message out : List ℕ) (before : List (List ℕ)) → Uuids (c .activity) (c .call) → length out ≡ 1472
+    → sentAfter before (sentOut send c message out .sent) (sentOut send c message out .out) ≡ before ++ clientPdus send c message
+unfolding sentOut requestSent emptySent fackSent pduHeader sentAfter fackBytes
+client-sent Nothing c message out before z room = sym (append-nil before)
+client-sent (Request f) c message out before z room =
+    posted 0 _ _ _ _ _ _ _ (fragmentOf message f) out before (omega arith) (fragment-most message f) z room
+client-sent Ping c message out before z room = posted 1 _ _ _ _ _ _ _ [] out before (omega arith) (omega arith) z room
+client-sent Ack c message out before z room = posted 7 _ _ _ _ _ _ _ [] out before (omega arith) (omega arith) z room
+client-sent (Fack serial) c message out before z room =
+    posted 9 _ _ _ _ _ _ _ (fackBytes (fackFields serial (maskOf (c .incoming)))) out before (omega arith) (omega arith) z room
+
+-- The world after a plan of the client.
+abbrev pub clientLeft : World → Plan → List ℕ → List ℕ → World
+clientLeft w plan message slots = record {
+  client = plan .client;
+  server = w .server;
+  clientSlots = slots;
+  serverSlots = w .serverSlots;
+  clientSent = w .clientSent ++ clientPdus (plan .send) (plan .client) message;
+  serverSent = w .serverSent;
+  starts = w .starts;
+  dispatches = w .dispatches;
+  replies = w .replies;
+}
+
+abbrev clientDone : World → Plan → List ℕ → List ℕ → List ℕ → World
+clientDone w plan message out slots = clientStep w (sending plan message out .outcome) (sending plan message out .out) slots
+
+client-left : (w : World) (plan : Plan) (message out slots : List ℕ) → Uuids (plan .client .activity) (plan .client .call) → length out ≡ 1472
+    → clientDone w plan message out slots ≡ clientLeft w plan message slots
+unfolding sending outcomeOf
+client-left w plan message out slots z room = λ i. record {
+  client = plan .client;
+  server = w .server;
+  clientSlots = slots;
+  serverSlots = w .serverSlots;
+  clientSent = client-sent (plan .send) (plan .client) message out (w .clientSent) z room i;
+  serverSent = w .serverSent;
+  starts = w .starts;
+  dispatches = w .dispatches;
+  replies = w .replies;
+}
+
+-- The plan of a transmit of n bytes, of a timer event, and of an arriving PDU.
+abbrev pub clientTransmit : Client → ℕ → Plan
+clientTransmit c n = transmitPlan (transmitGround c n 1472) c
+
+abbrev pub clientTime : Client → TimerKind → ℕ → Plan
+clientTime c kind ticket = timerPlan (timerGround c kind ticket 1472) kind c
+
+abbrev pub clientArrival : Client → Header → List ℕ → Plan
+clientArrival c h body = planOf c (lentGround 44544 1472) (accepted h) body
+
+module _ (w : World) (out : List ℕ) (room : length out ≡ 1472) where
+  -- A transmit, of a message of n bytes;
+  pub client-transmits : (message : List ℕ) (n : ℕ) → length message ≡ n
+      → Uuids (clientTransmit (w .client) n .client .activity) (clientTransmit (w .client) n .client .call)
+      → Makes w (ClientTransmit message out) (numberOf (clientTransmit (w .client) n .answer))
+      (clientLeft w (clientTransmit (w .client) n) message (w .clientSlots))
+  unfolding step answerTo transmitting sending outcomeOf
+  client-transmits message n whole z = record {
+    answered = λ i. numberOf (transmitPlan (transmitGround (w .client) (whole i) (room i)) (w .client) .answer);
+    leaves =
+        (λ i. clientDone w (transmitPlan (transmitGround (w .client) (whole i) (room i)) (w .client)) message out (w .clientSlots))
+        ∙ client-left w (clientTransmit (w .client) n) message out (w .clientSlots) z room;
+  }
+
+  -- a timer event;
+  pub client-times : (kind : TimerKind) (ticket : ℕ)
+      → Uuids (clientTime (w .client) kind ticket .client .activity) (clientTime (w .client) kind ticket .client .call)
+      → Makes w (ClientTimer kind ticket out) (numberOf (clientTime (w .client) kind ticket .answer))
+      (clientLeft w (clientTime (w .client) kind ticket) [] (w .clientSlots))
+  unfolding step answerTo timing sending outcomeOf
+  client-times kind ticket z = record {
+    answered = λ i. numberOf (timerPlan (timerGround (w .client) kind ticket (room i)) kind (w .client) .answer);
+    leaves =
+        (λ i. clientDone w (timerPlan (timerGround (w .client) kind ticket (room i)) kind (w .client)) [] out (w .clientSlots))
+        ∙ client-left w (clientTime (w .client) kind ticket) [] out (w .clientSlots) z room;
+  }
+
+  -- a PDU that arrives.
+  pub client-arrives : {h : Header} {body : List ℕ} → Carried h body → length (w .clientSlots) ≡ 44544
+      → Uuids (clientArrival (w .client) h body .client .activity) (clientArrival (w .client) h body .client .call)
+      → Makes w (ClientArrive (datagram h body) Own out) (numberOf (clientArrival (w .client) h body .answer))
+      (clientLeft w (clientArrival (w .client) h body) []
+      (storing (clientArrival (w .client) h body .put) (h .fragment) body (w .clientSlots)))
+  unfolding step answerTo arriving acted sending outcomeOf bytesLent ownAfter
+  client-arrives {h} {body} c whole z =
+      let read = read-written h body (c .fits) (c .known) (c .plain) (c .short) in
+      let rest = body-written h body (c .fits .sized) in
+      record {
+        answered = λ i. numberOf (planOf (w .client) (lentGround (whole i) (room i)) (read i) (rest i) .answer);
+        leaves =
+            (λ i. clientDone w (planOf (w .client) (lentGround (whole i) (room i)) (read i) (rest i)) [] out
+            (storing (planOf (w .client) (lentGround (whole i) (room i)) (read i) (rest i) .put) (read i .header .fragment) (rest i) (w .clientSlots)))
+            ∙ client-left w (clientArrival (w .client) h body) [] out
+            (storing (clientArrival (w .client) h body .put) (h .fragment) body (w .clientSlots)) z room;
+      }

@@ -1,0 +1,130 @@
+-- What the laws of both sides' events share.
+use Prim.Native.Nat.{ℕ, zero, suc, _≤_, _<_}
+use mathlib.Core.Bool.{true, false}
+use mathlib.Core.List.{List, [], _∷_, _++_}
+use mathlib.Core.Logic.{inl, inr}
+use mathlib.Core.Path.{_≡_, refl, sym, ap, subst, _∙_}
+use native.Mathlib.Omega.{arith}
+use lib.Dec.{ltb, eqb}
+use lib.ListN.{length, drop, getD}
+use borrow.Author.Tests.{ltb-true, eqb-false}
+use Rattle.answers.specs.declared.Answer.the-variants.{Done}
+use Rattle.answers.specs.Number.{numberOf}
+use Rattle.pdu.specs.declared.Header.{Header}
+use Rattle.pdu.specs.Header.{datagram}
+use Rattle.writer.proofs.RoundTrip.{Fits}
+use Rattle.calls.specs.declared.Call.{Call}
+use Rattle.calls.specs.Sent.{sentHeader, posting}
+use Rattle.history.specs.Lists.{In, andThen}
+use Rattle.history.specs.World.{World}
+use Rattle.history.specs.Events.{Own, Event}
+use Rattle.history.specs.Steps.{sentAfter, step, answerTo, run}
+use Rattle.history.specs.Fairness.{Typed, FairArrival, Premise, Fair}
+use Rattle.history.specs.Runs.{Story, eventsOf, numbersOf, answersTo}
+use Rattle.history.proofs.Network.{posted-sent, call-sized, call-fits}
+
+-- The event is answered that number, and leaves that world.
+pub record Makes (w : World) (e : Event) (number : ℕ) (after : World) : Type 0 where
+  pub answered : numberOf (answerTo w e) ≡ number
+  pub leaves : step w e ≡ after
+
+-- The story keeps every premise, is answered as it says, and ends so.
+pub record Plays (w : World) (story : Story) (after : World) : Type 0 where
+  pub fair : Fair w (eventsOf story)
+  pub answers : answersTo w (eventsOf story) ≡ numbersOf story
+  pub ends : run w (eventsOf story) ≡ after
+
+-- The same where the world left is told otherwise.
+pub told : {A : Type 0} {w : World} {e : Event} {number : ℕ} (after : A → World) {x y : A} → x ≡ y → Makes w e number (after x)
+    → Makes w e number (after y)
+told after same m = record { answered = m .answered; leaves = m .leaves ∙ ap after same }
+
+-- What arrives is the i-th PDU sent.
+nth : (sent : List (List ℕ)) (i : ℕ) → i < length sent → In (getD sent i []) sent
+nth [] i h = absurd (omega arith)
+nth (d ∷ ds) zero h = inl refl
+nth (d ∷ ds) (suc i) h = inr (nth ds i (omega arith))
+
+pub came : {sent : List (List ℕ)} (i : ℕ) → ltb i (length sent) ≡ true → FairArrival sent (getD sent i []) Own
+came {sent} i here = record { earlier = nth sent i (ltb-true i (length sent) here); own = refl }
+
+-- Nothing happens;
+pub over : {w : World} → Plays w [] w
+unfolding run
+over = record { fair = tt; answers = refl; ends = refl }
+
+-- an event that keeps its premise, and then the rest;
+onward : {w next after : World} {e : Event} {number : ℕ} {story : Story} → Makes w e number next → (answerTo w e ≡ Done → Premise w e)
+    → Plays next story after → Plays w ((e, number) ∷ story) after
+unfolding run
+onward {after = after} {story = story} m premise rest =
+    let back = sym (m .leaves) in
+    record {
+      fair = (premise, subst (λ (v : World). Fair v (eventsOf story)) back (rest .fair));
+      answers = λ i. m .answered i ∷ subst (λ (v : World). answersTo v (eventsOf story) ≡ numbersOf story) back (rest .answers) i;
+      ends = subst (λ (v : World). run v (eventsOf story) ≡ after) back (rest .ends);
+    }
+
+pub then : {w next after : World} {e : Event} {number : ℕ} {story : Story} → Makes w e number next → Premise w e
+    → Plays next story after → Plays w ((e, number) ∷ story) after
+then m premise rest = onward m (λ done. premise) rest
+
+-- a refused one, and then the rest;
+pub refused : {w next after : World} {e : Event} {number : ℕ} {story : Story} → Makes w e number next → eqb number 0 ≡ false
+    → Plays next story after → Plays w ((e, number) ∷ story) after
+refused {number = number} m undone rest =
+    onward m (λ done. absurd (eqb-false number 0 undone (sym (m .answered) ∙ ap numberOf done))) rest
+
+-- a story behind another.
+pub joined : {w next after : World} (one two : Story) → Plays w one next → Plays next two after → Plays w (one ++ two) after
+unfolding run
+joined {after = after} [] two p q =
+    let back = sym (p .ends) in
+    record {
+      fair = subst (λ (v : World). Fair v (eventsOf two)) back (q .fair);
+      answers = subst (λ (v : World). answersTo v (eventsOf two) ≡ numbersOf two) back (q .answers);
+      ends = subst (λ (v : World). run v (eventsOf two) ≡ after) back (q .ends);
+    }
+joined {w} {next} {after} (t ∷ ts) two p q =
+    let later : Plays (step w (t .0)) ts next = record { fair = p .fair .1; answers = ap (drop 1) (p .answers); ends = p .ends } in
+    let rest = joined ts two later q in
+    record {
+      fair = (p .fair .0, rest .fair);
+      answers = λ i. getD (p .answers i) 0 0 ∷ rest .answers i;
+      ends = rest .ends;
+    }
+
+-- UUIDs of sixteen bytes.
+pub record Uuids (activity : List ℕ) (call : Call) : Type 0 where
+  pub activity-16 : length activity ≡ 16
+  pub object-16 : length (call .object) ≡ 16
+  pub interface-16 : length (call .interface) ≡ 16
+
+-- A PDU that is posted stands at the end of what was sent.
+module _ (kind flags1 serial : ℕ) (activity : List ℕ) (boot number : ℕ) (call : Call) (fragment : ℕ) (body out : List ℕ) (before : List (List ℕ)) where
+  pub posted : kind ≤ 10 → length body ≤ 1392 → Uuids activity call → length out ≡ 1472
+      → sentAfter before (posting (sentHeader kind flags1 serial activity boot number call fragment) body out .sent)
+      (posting (sentHeader kind flags1 serial activity boot number call fragment) body out .out)
+      ≡ andThen before (datagram (sentHeader kind flags1 serial activity boot number call fragment) body)
+  unfolding sentHeader
+  posted known short z room =
+      posted-sent before (sentHeader kind flags1 serial activity boot number call fragment) body out
+      (call-sized kind flags1 serial activity boot number call fragment (z .activity-16) (z .object-16) (z .interface-16)) room known refl short
+
+-- A PDU that the reader accepts, as it was written.
+pub record Carried (h : Header) (body : List ℕ) : Type 0 where
+  pub fits : Fits h
+  pub known : h .kind ≤ 10
+  pub plain : h .authentication ≡ 0
+  pub short : length body ≤ 1392
+
+pub carried : (kind flags1 serial : ℕ) (activity : List ℕ) (boot number : ℕ) (call : Call) (fragment : ℕ) (body : List ℕ) → Typed call
+    → length activity ≡ 16 → (kind ≤ 10) × (serial < 65536) × (boot < 4294967296) × (number < 4294967296) × (fragment < 65536) → length body ≤ 1392
+    → Carried (sentHeader kind flags1 serial activity boot number call fragment) body
+unfolding sentHeader
+carried kind flags1 serial activity boot number call fragment body typed whole small short = record {
+  fits = call-fits kind flags1 serial activity boot number call fragment whole typed (small .1) (small .2) (small .3) (small .4);
+  known = small .0;
+  plain = refl;
+  short = short;
+}

@@ -1,0 +1,348 @@
+-- The first run, event by event.
+use Prim.Native.Nat.{ℕ, _<_, _≤_}
+use mathlib.Core.Bool.{false}
+use mathlib.Core.List.{List, [], _∷_}
+use mathlib.Core.Path.{_≡_, refl, _∙_}
+use native.Mathlib.Omega.{arith}
+use lib.ListN.{length, take}
+use Rattle.calls.specs.Sent.{sentHeader}
+use Rattle.incoming.specs.declared.Last.the-variants.{Unknown, At}
+use Rattle.incoming.specs.declared.Incoming.{Incoming}
+use Rattle.incoming.specs.Slots.{missing, cleared}
+use Rattle.fragments.specs.Slots.{filled}
+use Rattle.fragments.proofs.PartLaws.{parts-joined}
+use Rattle.fragments.proofs.PutLaws.{filled-length}
+use Rattle.outgoing.specs.declared.Outgoing.{Outgoing}
+use Rattle.outgoing.specs.Message.{fragmentOf, flagsOf}
+use Rattle.outgoing.proofs.OutgoingLaws.{fragment-most}
+use Rattle.timers.specs.declared.Timer.{Timer}
+use Rattle.timers.specs.declared.Timer.the-variants.{Off, Armed}
+use Rattle.client_record.specs.declared.State.{State as ClientState}
+use Rattle.client_record.specs.declared.State.the-variants.{SendFrags, Dispatched, ReceiveFrags, AckPending, Complete}
+use Rattle.client_table.specs.declared.TimerKind.the-variants.{Wait, Ack}
+use Rattle.client.specs.HandUp.{handsUp as clientHandsUp}
+use Rattle.client.proofs.Growing.{hands-joined}
+use Rattle.server_record.specs.declared.Idle.the-variants.{Spent}
+use Rattle.server_record.specs.declared.Reply.the-variants.{Data}
+use Rattle.server_record.specs.declared.State.{State as ServerState}
+use Rattle.server_record.specs.declared.State.the-variants.{Idle, Collect, Running, Replying, Held}
+use Rattle.server_record.specs.Rules.{sound as serverSound}
+use Rattle.server.specs.HandUp.{handsUp as serverHandsUp}
+use Rattle.history.specs.Fairness.{Typed}
+use Rattle.history.specs.Runs.{before, activity, called, request, ping, ack, response, working, nocall, asked, askedAgain, answered, answeredAgain, closed, lossy}
+use Rattle.history.proofs.Holding.{empty-holding, holding-whole}
+use Rattle.history.proofs.StartStep.{cleared-none}
+use Rattle.history.proofs.ComputedOpen.{opened}
+use Rattle.history.proofs.ComputedLaws.{Plays, told, came, over, then, refused, joined, Uuids, Carried, carried}
+use Rattle.history.proofs.ComputedParts.{kept, put}
+use Rattle.history.proofs.ComputedClient.{client-transmits, client-times, client-arrives}
+use Rattle.history.proofs.ComputedServer.{server-transmits, server-times, server-arrives}
+use Rattle.history.proofs.ComputedSides.{ClientSide, ServerSide, Books, world, held, holds, nothing, sends, clientIn, serverIn}
+
+uuids : Uuids activity called
+uuids = record { activity-16 = refl; object-16 = refl; interface-16 = refl }
+
+typed : Typed called
+typed = record { object = refl; interface = refl; version = omega arith; operation = omega arith }
+
+-- The run's PDUs arrive as they were written: a fragment of the request or of the reply,
+fragment-came : (boot kind : ℕ) (message : List ℕ) (f serial : ℕ) → (boot < 65536) × (kind ≤ 10) × (f < 65536) × (serial < 65536)
+    → Carried (sentHeader kind (flagsOf 3 f) serial activity boot 0 called f) (fragmentOf message f)
+fragment-came boot kind message f serial small =
+    carried kind (flagsOf 3 f) serial activity boot 0 called f (fragmentOf message f) typed refl (omega arith) (fragment-most message f)
+
+-- and one without a body.
+empty-came : (boot kind serial : ℕ) → (boot < 65536) × (kind ≤ 10) × (serial < 65536) → Carried (sentHeader kind 0 serial activity boot 0 called 0) []
+empty-came boot kind serial small = carried kind 0 serial activity boot 0 called 0 [] typed refl (omega arith) (omega arith)
+
+module _ (message reply clientSlots serverSlots out : List ℕ) (asks : length message ≡ 2785) (replies : length reply ≡ 2786)
+    (clientRoom : length clientSlots ≡ 44544) (serverRoom : length serverSlots ≡ 44544) (room : length out ≡ 1472) where
+  -- The server's slot buffer after each put,
+  abbrev v1 : List ℕ
+  v1 = filled 2 (fragmentOf message 2) serverSlots
+
+  v1-long : length v1 ≡ 44544
+  v1-long = filled-length 2 (fragmentOf message 2) serverSlots ∙ serverRoom
+
+  abbrev v2 : List ℕ
+  v2 = filled 0 (fragmentOf message 0) v1
+
+  v2-long : length v2 ≡ 44544
+  v2-long = filled-length 0 (fragmentOf message 0) v1 ∙ v1-long
+
+  abbrev v3 : List ℕ
+  v3 = filled 1 (fragmentOf message 1) v2
+
+  v3-long : length v3 ≡ 44544
+  v3-long = filled-length 1 (fragmentOf message 1) v2 ∙ v2-long
+
+  -- and the client's.
+  abbrev u1 : List ℕ
+  u1 = filled 1 (fragmentOf reply 1) clientSlots
+
+  u1-long : length u1 ≡ 44544
+  u1-long = filled-length 1 (fragmentOf reply 1) clientSlots ∙ clientRoom
+
+  abbrev u2 : List ℕ
+  u2 = filled 0 (fragmentOf reply 0) u1
+
+  u2-long : length u2 ≡ 44544
+  u2-long = filled-length 0 (fragmentOf reply 0) u1 ∙ u1-long
+
+  abbrev u3 : List ℕ
+  u3 = filled 2 (fragmentOf reply 2) u2
+
+  u3-long : length u3 ≡ 44544
+  u3-long = filled-length 2 (fragmentOf reply 2) u2 ∙ u2-long
+
+  -- The first n PDUs of all that the client has sent, and the server.
+  abbrev clientSent : ℕ → List (List ℕ)
+  clientSent n =
+      take n
+      (request message 0 1 ∷ request message 1 2 ∷ request message 2 3 ∷ ping 4
+      ∷ request message 0 5 ∷ request message 1 6 ∷ request message 2 7 ∷ ping 8 ∷ ack 8 ∷ [])
+
+  abbrev serverSent : ℕ → List (List ℕ)
+  serverSent n =
+      take n
+      (nocall ∷ working ∷ response reply 0 1 ∷ response reply 1 2 ∷ response reply 2 3
+      ∷ response reply 0 4 ∷ response reply 1 5 ∷ response reply 2 6 ∷ [])
+
+  -- The client's side: state, fragments sent, serial, what is held, the counts of WAIT and of resends, tickets, WAIT, ACK; its slot
+  -- buffer and how many PDUs it has sent.
+  abbrev clientAt : ClientState → ℕ → ℕ → Incoming → ℕ → ℕ → ℕ → Timer → Timer → List ℕ → ℕ → ClientSide
+  clientAt state sent serial incoming waits resends tickets wait ack slots pdus = record {
+    client = clientIn called state (sends 2785 3 sent 0 serial) incoming waits resends tickets wait ack;
+    slots = slots;
+    sent = clientSent pdus;
+  }
+
+  -- The server's side: state, message sent, what is held, tickets, RESEND; its slot buffer and how many PDUs it has sent.
+  abbrev serverAt : ServerState → Outgoing → Incoming → ℕ → Timer → List ℕ → ℕ → ServerSide
+  serverAt state outgoing incoming tickets resend slots pdus = record {
+    server = serverIn called state outgoing incoming tickets resend;
+    slots = slots;
+    sent = serverSent pdus;
+  }
+
+  -- The client before its first event and after each that changes it; n is the length of the fragment that is put.
+  abbrev k0 : ClientSide
+  k0 = record { client = before clientSlots serverSlots .client; slots = clientSlots; sent = [] }
+
+  abbrev k1 : ClientSide
+  k1 = clientAt SendFrags 0 0 nothing 0 0 5 Off Off clientSlots 0
+
+  abbrev k2 : ClientSide
+  k2 = clientAt SendFrags 1 1 nothing 0 0 5 Off Off clientSlots 1
+
+  abbrev k3 : ClientSide
+  k3 = clientAt SendFrags 2 2 nothing 0 0 5 Off Off clientSlots 2
+
+  abbrev k4 : ClientSide
+  k4 = clientAt Dispatched 3 3 nothing 0 0 6 (Armed 6) Off clientSlots 3
+
+  abbrev k5 : ClientSide
+  k5 = clientAt Dispatched 3 4 nothing 1 0 7 (Armed 7) Off clientSlots 4
+
+  abbrev k6 : ClientSide
+  k6 = clientAt SendFrags 0 4 nothing 1 1 7 Off Off clientSlots 4
+
+  abbrev k7 : ClientSide
+  k7 = clientAt SendFrags 1 5 nothing 1 1 7 Off Off clientSlots 5
+
+  abbrev k8 : ClientSide
+  k8 = clientAt SendFrags 2 6 nothing 1 1 7 Off Off clientSlots 6
+
+  abbrev k9 : ClientSide
+  k9 = clientAt Dispatched 3 7 nothing 1 1 8 (Armed 8) Off clientSlots 7
+
+  abbrev k10 : ClientSide
+  k10 = clientAt Dispatched 3 7 nothing 0 1 9 (Armed 9) Off clientSlots 7
+
+  abbrev k11 : ℕ → ClientSide
+  k11 n = clientAt ReceiveFrags 3 7 (holds missing (held n) missing Unknown) 0 1 10 (Armed 10) Off u1 7
+
+  abbrev k12 : ℕ → ClientSide
+  k12 n = clientAt ReceiveFrags 3 7 (holds (held n) (held 1392) missing Unknown) 0 1 11 (Armed 11) Off u2 7
+
+  abbrev k13 : ClientSide
+  k13 = clientAt ReceiveFrags 3 8 (holds (held 1392) (held 1392) missing Unknown) 1 1 12 (Armed 12) Off u2 8
+
+  abbrev k14 : ℕ → ClientSide
+  k14 n = clientAt AckPending 3 8 (holds (held 1392) (held 1392) (held n) (At 2)) 0 1 13 Off (Armed 13) u3 8
+
+  abbrev k15 : ClientSide
+  k15 = clientAt Complete 3 8 (holds (held 1392) (held 1392) (held 2) (At 2)) 0 1 13 Off Off u3 9
+
+  -- The server, likewise.
+  abbrev s0 : ServerSide
+  s0 = record { server = before clientSlots serverSlots .server; slots = serverSlots; sent = [] }
+
+  abbrev s1 : ℕ → ServerSide
+  s1 n = serverAt Collect (sends 0 0 0 0 0) (holds missing missing (held n) (At 2)) 100 Off v1 0
+
+  abbrev s2 : ℕ → ServerSide
+  s2 n = serverAt Collect (sends 0 0 0 0 0) (holds (held n) missing (held 1) (At 2)) 100 Off v2 0
+
+  abbrev s3 : ServerSide
+  s3 = serverAt Collect (sends 0 0 0 0 0) (holds (held 1392) missing (held 1) (At 2)) 100 Off v2 1
+
+  abbrev s4 : ℕ → ServerSide
+  s4 n = serverAt Running (sends 0 0 0 0 0) (holds (held 1392) (held n) (held 1) (At 2)) 100 Off v3 1
+
+  abbrev all : Incoming
+  all = holds (held 1392) (held 1392) (held 1) (At 2)
+
+  abbrev s5 : ServerSide
+  s5 = serverAt Running (sends 0 0 0 0 0) all 100 Off v3 2
+
+  abbrev s6 : ServerSide
+  s6 = serverAt Replying (sends 2786 3 0 0 0) all 100 Off v3 2
+
+  abbrev s7 : ServerSide
+  s7 = serverAt Replying (sends 2786 3 1 0 1) all 100 Off v3 3
+
+  abbrev s8 : ServerSide
+  s8 = serverAt Replying (sends 2786 3 2 0 2) all 100 Off v3 4
+
+  abbrev s9 : ServerSide
+  s9 = serverAt (Held Data) (sends 2786 3 3 0 3) all 101 (Armed 101) v3 5
+
+  abbrev s10 : ServerSide
+  s10 = serverAt Replying (sends 2786 3 0 0 3) all 101 Off v3 5
+
+  abbrev s11 : ServerSide
+  s11 = serverAt Replying (sends 2786 3 1 0 4) all 101 Off v3 6
+
+  abbrev s12 : ServerSide
+  s12 = serverAt Replying (sends 2786 3 2 0 5) all 101 Off v3 7
+
+  abbrev s13 : ServerSide
+  s13 = serverAt (Held Data) (sends 2786 3 3 0 6) all 102 (Armed 102) v3 8
+
+  abbrev s14 : ServerSide
+  s14 = serverAt (Idle Spent) (sends 2786 3 3 0 6) all 102 Off v3 8
+
+  -- What is on record: nothing, the start, the dispatch of these bytes, the reply.
+  abbrev b0 : Books
+  b0 = record { starts = []; dispatches = []; replies = [] }
+
+  abbrev b1 : Books
+  b1 = record { starts = record { number = 0; idempotent = false; message = message } ∷ []; dispatches = []; replies = [] }
+
+  abbrev b2 : List ℕ → Books
+  b2 bytes = record { starts = b1 .starts; dispatches = record { number = 0; bytes = bytes } ∷ []; replies = [] }
+
+  abbrev b3 : Books
+  b3 = record { starts = b1 .starts; dispatches = b2 message .dispatches; replies = record { number = 0; message = reply } ∷ [] }
+
+  -- What the server hands up when all is held is the request,
+  request-whole : serverHandsUp (s5 .server) v3 ≡ message
+  unfolding opened serverHandsUp
+  request-whole =
+      parts-joined (serverSound (s5 .server)) all v3 refl
+      ∙ holding-whole all v3 message
+      (put message 2785 1 asks (s2 1392 .server .incoming) v2 4
+      (put message 2785 0 asks (s1 1 .server .incoming) v1 4
+      (put message 2785 2 asks cleared serverSlots 6 (empty-holding cleared serverSlots message cleared-none)
+      refl refl serverRoom (omega arith) (omega arith) refl)
+      refl refl v1-long (omega arith) (omega arith) refl)
+      refl refl v2-long (omega arith) (omega arith) refl)
+      refl v3-long refl
+
+  -- and what the client does, the reply.
+  pub reply-whole : clientHandsUp (k15 .client) u3 ≡ reply
+  unfolding opened
+  reply-whole =
+      hands-joined (k15 .client) u3 refl
+      ∙ holding-whole (k15 .client .incoming) u3 reply
+      (put reply 2786 2 replies (k12 1392 .client .incoming) u2 6
+      (put reply 2786 0 replies (k11 1392 .client .incoming) u1 4
+      (put reply 2786 1 replies cleared clientSlots 4 (empty-holding cleared clientSlots reply cleared-none)
+      refl refl clientRoom (omega arith) (omega arith) refl)
+      refl refl u1-long (omega arith) (omega arith) refl)
+      refl refl u2-long (omega arith) (omega arith) refl)
+      refl u3-long refl
+
+  -- The story, stage by stage.
+  plays-asked : Plays (world k0 s0 b0) (asked message reply out) (world k4 (s2 1392) b1)
+  unfolding opened
+  plays-asked =
+      then {next = world k1 s0 b1} (record { answered = refl; leaves = refl }) (record { typed = typed; whole = asks })
+      (then {next = world k2 s0 b1} (client-transmits _ out room message 2785 asks uuids) refl
+      (then {next = world k3 s0 b1} (client-transmits _ out room message 2785 asks uuids) refl
+      (then {next = world k4 s0 b1} (client-transmits _ out room message 2785 asks uuids) refl
+      (then {next = world k4 (s1 1) b1}
+      (told (λ (n : ℕ). world k4 (s1 n) b1) (kept message 2785 2 asks)
+      (server-arrives _ out room (fragment-came 0 0 message 2 3 (omega arith)) serverRoom uuids)) (came 2 refl)
+      (then {next = world k4 (s2 1392) b1}
+      (told (λ (n : ℕ). world k4 (s2 n) b1) (kept message 2785 0 asks)
+      (server-arrives _ out room (fragment-came 0 0 message 0 1 (omega arith)) v1-long uuids)) (came 0 refl)
+      (refused {next = world k4 (s2 1392) b1} (server-arrives _ out room (fragment-came 0 0 message 0 1 (omega arith)) v2-long uuids) refl
+      over))))))
+
+  plays-asked-again : Plays (world k4 (s2 1392) b1) (askedAgain message reply out) (world k10 s5 (b2 message))
+  unfolding opened
+  plays-asked-again =
+      then {next = world k5 (s2 1392) b1} (client-times _ out room Wait 6 uuids) tt
+      (refused {next = world k5 (s2 1392) b1} (client-times _ out room Wait 6 uuids) refl
+      (then {next = world k5 s3 b1} (server-arrives _ out room (empty-came 0 1 4 (omega arith)) v2-long uuids) (came 3 refl)
+      (then {next = world k6 s3 b1} (client-arrives _ out room (empty-came 7 5 0 (omega arith)) clientRoom uuids) (came 0 refl)
+      (then {next = world k7 s3 b1} (client-transmits _ out room message 2785 asks uuids) refl
+      (then {next = world k8 s3 b1} (client-transmits _ out room message 2785 asks uuids) refl
+      (then {next = world k9 s3 b1} (client-transmits _ out room message 2785 asks uuids) refl
+      (refused {next = world k9 s3 b1} (server-arrives _ out room (fragment-came 0 0 message 0 5 (omega arith)) v2-long uuids) refl
+      (then {next = world k9 (s4 1392) (b2 message)}
+      (told (λ (bytes : List ℕ). world k9 (s4 1392) (b2 bytes)) request-whole
+      (told (λ (n : ℕ). world k9 (s4 n) (b2 (serverHandsUp (s4 n .server) v3))) (kept message 2785 1 asks)
+      (server-arrives _ out room (fragment-came 0 0 message 1 6 (omega arith)) v2-long uuids))) (came 5 refl)
+      (then {next = world k9 s5 (b2 message)} (server-arrives _ out room (fragment-came 0 0 message 2 7 (omega arith)) v3-long uuids) (came 6 refl)
+      (then {next = world k10 s5 (b2 message)} (client-arrives _ out room (empty-came 7 4 0 (omega arith)) clientRoom uuids) (came 1 refl)
+      over))))))))))
+
+  plays-answered : Plays (world k10 s5 (b2 message)) (answered message reply out) (world k13 s9 b3)
+  unfolding opened
+  plays-answered =
+      then {next = world k10 s6 b3} (record { answered = refl; leaves = refl }) replies
+      (then {next = world k10 s7 b3} (server-transmits _ out room reply 2786 replies uuids) refl
+      (then {next = world k10 s8 b3} (server-transmits _ out room reply 2786 replies uuids) refl
+      (then {next = world k10 s9 b3} (server-transmits _ out room reply 2786 replies uuids) refl
+      (then {next = world (k11 1392) s9 b3}
+      (told (λ (n : ℕ). world (k11 n) s9 b3) (kept reply 2786 1 replies)
+      (client-arrives _ out room (fragment-came 7 2 reply 1 2 (omega arith)) clientRoom uuids)) (came 3 refl)
+      (then {next = world (k12 1392) s9 b3}
+      (told (λ (n : ℕ). world (k12 n) s9 b3) (kept reply 2786 0 replies)
+      (client-arrives _ out room (fragment-came 7 2 reply 0 1 (omega arith)) u1-long uuids)) (came 2 refl)
+      (then {next = world k13 s9 b3} (client-times _ out room Wait 11 uuids) tt
+      over))))))
+
+  plays-answered-again : Plays (world k13 s9 b3) (answeredAgain message reply out) (world (k14 2) s13 b3)
+  unfolding opened
+  plays-answered-again =
+      then {next = world k13 s10 b3} (server-arrives _ out room (empty-came 0 1 8 (omega arith)) v3-long uuids) (came 7 refl)
+      (then {next = world k13 s11 b3} (server-transmits _ out room reply 2786 replies uuids) refl
+      (then {next = world k13 s12 b3} (server-transmits _ out room reply 2786 replies uuids) refl
+      (then {next = world k13 s13 b3} (server-transmits _ out room reply 2786 replies uuids) refl
+      (refused {next = world k13 s13 b3} (server-times _ out room 101 uuids) refl
+      (refused {next = world k13 s13 b3} (client-arrives _ out room (fragment-came 7 2 reply 0 4 (omega arith)) u2-long uuids) refl
+      (refused {next = world k13 s13 b3} (record { answered = refl; leaves = refl }) refl
+      (then {next = world (k14 2) s13 b3}
+      (told (λ (n : ℕ). world (k14 n) s13 b3) (kept reply 2786 2 replies)
+      (client-arrives _ out room (fragment-came 7 2 reply 2 6 (omega arith)) u2-long uuids)) (came 7 refl)
+      over)))))))
+
+  plays-closed : Plays (world (k14 2) s13 b3) (closed message reply out) (world k15 s14 b3)
+  unfolding opened
+  plays-closed =
+      then {next = world k15 s13 b3} (client-times _ out room Ack 13 uuids) tt
+      (then {next = world k15 s14 b3} (server-arrives _ out room (empty-came 0 7 8 (omega arith)) v3-long uuids) (came 8 refl)
+      (refused {next = world k15 s14 b3} (server-arrives _ out room (fragment-came 0 0 message 0 1 (omega arith)) v3-long uuids) refl
+      (refused {next = world k15 s14 b3} (client-arrives _ out room (fragment-came 7 2 reply 1 5 (omega arith)) u3-long uuids) refl
+      over)))
+
+  pub plays-lossy : Plays (before clientSlots serverSlots) (lossy message reply out) (world k15 s14 b3)
+  plays-lossy =
+      joined (asked message reply out) _ plays-asked
+      (joined (askedAgain message reply out) _ plays-asked-again
+      (joined (answered message reply out) _ plays-answered
+      (joined (answeredAgain message reply out) (closed message reply out) plays-answered-again plays-closed)))

@@ -1,0 +1,116 @@
+-- What a run computes with: what unfolds one of these unfolds all that its line names.
+use Rattle.words.specs.Choice
+use Rattle.flags.specs.Flags
+use Rattle.bodies.specs.Fack as FackBody
+use Rattle.incoming.specs.Slots
+use Rattle.outgoing.specs.Message
+use Rattle.outgoing.specs.Sending
+use Rattle.fragments.specs.Judgement
+use Rattle.fragments.specs.Slots as Buffer
+use Rattle.timers.specs.Tickets
+use Rattle.facks.specs.Mask
+use Rattle.grounds.specs.Order
+use Rattle.grounds.specs.Entry
+use Rattle.grounds.specs.Fragment
+use Rattle.grounds.specs.Fack
+use Rattle.grounds.specs.Timing
+use Rattle.calls.specs.Sent
+use Rattle.client_record.specs.States as ClientStates
+use Rattle.client_record.specs.Rules as ClientRules
+use Rattle.client_record.specs.Record as ClientRecord
+use Rattle.client_table.specs.Events as ClientEvents
+use Rattle.client_table.specs.Arrival as ClientArrival
+use Rattle.client_table.specs.Local as ClientLocal
+use Rattle.client_steps.specs.Plan as ClientPlan
+use Rattle.client_steps.specs.Rows as ClientRows
+use Rattle.client_arrivals.specs.Rows as ClientArrivalRows
+use Rattle.client_arrivals.specs.Table as ClientArrivalTable
+use Rattle.server_record.specs.States as ServerStates
+use Rattle.server_record.specs.Rules as ServerRules
+use Rattle.server_record.specs.Record as ServerRecord
+use Rattle.server_table.specs.Events as ServerEvents
+use Rattle.server_table.specs.Table as ServerTable
+use Rattle.server_table.specs.Arrival as ServerArrival
+use Rattle.server_table.specs.Local as ServerLocal
+use Rattle.server_steps.specs.Plan as ServerPlan
+use Rattle.server_steps.specs.Rows as ServerRows
+use Rattle.server_arrivals.specs.Rows as ServerArrivalRows
+use Rattle.server_arrivals.specs.Table as ServerArrivalTable
+use Rattle.client.specs.Sending as ClientSending
+use Rattle.client.specs.Machine as ClientMachine
+use Rattle.server.specs.Sending as ServerSending
+use Rattle.server.specs.Machine as ServerMachine
+use Rattle.history.specs.Steps
+
+-- What both sides judge by.
+unfoldable pub shared : Unit {0}
+unfolding Choice.choose Choice.both Choice.either
+    Flags.hasFlag Flags.withFlag
+    FackBody.fackGround FackBody.fackBy FackBody.fackReading
+    Slots.slotSound Slots.sound Slots.contiguous Slots.complete Slots.cleared Slots.slotsWith Slots.lastWith Slots.stored
+    Message.fragments Message.flagsOf
+    Sending.nextSerial Sending.oneMore Sending.afterSend Sending.sendsLast Sending.afterPing Sending.acknowledgedTo Sending.firstToSend
+    Sending.rewound Sending.inByte Sending.messageOf Sending.started Sending.replied Sending.noMessage Sending.bounded Sending.hasMessage
+    Sending.hasNothing
+    Judgement.held Judgement.heldAbove Judgement.aboveLast Judgement.otherLast Judgement.lastBelowHeld Judgement.contradicts
+    Buffer.storing
+    Tickets.usedUp Tickets.nextTicket Tickets.armedAfresh Tickets.armedWith Tickets.off Tickets.sound Tickets.timerSound
+    Mask.lastContiguous Mask.maskOf
+    Order.first Order.refuseIf Order.groundOf
+    Entry.lentGround Entry.sameMessage Entry.transmitLent Entry.entryGround
+    Fragment.isLast Fragment.wantsFack Fragment.fragmentGround Fragment.putGround
+    Fack.acknowledgedBy Fack.fackCountGround Fack.fackBodyGround
+    Timing.lateGround Timing.ticketGround
+    Sent.sentHeader
+shared = tt
+
+-- The client's tables.
+unfoldable pub clientTables : Unit {0}
+unfolding ClientStates.mayStart ClientStates.isQueued ClientStates.isSending ClientStates.isActive ClientStates.isDispatched
+    ClientStates.isWaiting ClientStates.isAckPending
+    ClientRules.countsSound ClientRules.messageRule ClientRules.outgoingSound ClientRules.timersSound ClientRules.sound
+    ClientRecord.fresh ClientRecord.waiting ClientRecord.ackPending ClientRecord.unarmed
+    ClientEvents.serverEvent ClientEvents.eventOf ClientEvents.byEvent ClientEvents.sideGround ClientEvents.hasRow ClientEvents.arms
+    ClientArrival.numberGround ClientArrival.pduGround ClientArrival.completes ClientArrival.rowGround ClientArrival.tableGround
+    ClientArrival.arrivalGround
+    ClientLocal.startGround ClientLocal.transmitGround ClientLocal.namedTimer ClientLocal.namedBy ClientLocal.pings ClientLocal.timerGround
+    ClientPlan.refused ClientPlan.accepted ClientPlan.withOutgoing ClientPlan.withWaits
+    ClientRows.nextNumber ClientRows.started ClientRows.startPlan ClientRows.transmitted ClientRows.transmitPlan ClientRows.pinged
+    ClientRows.waitPlan ClientRows.ackPlan ClientRows.timerRow ClientRows.timerPlan
+    ClientArrivalRows.acknowledged ClientArrivalRows.fackPlan ClientArrivalRows.putRecord ClientArrivalRows.withIncoming
+    ClientArrivalRows.putNotice ClientArrivalRows.fackFor ClientArrivalRows.withResends ClientArrivalRows.putPlan
+    ClientArrivalRows.responsePlan ClientArrivalRows.workingPlan ClientArrivalRows.resent ClientArrivalRows.nocallPlan
+    ClientArrivalTable.arrivalRow ClientArrivalTable.arrivalPlan
+clientTables = tt
+
+-- The server's tables.
+unfoldable pub serverTables : Unit {0}
+unfolding ServerStates.neverCalled ServerStates.isFresh ServerStates.isRunning ServerStates.isReplying ServerStates.isHeld
+    ServerRules.idleRule ServerRules.heldRule ServerRules.messageRule ServerRules.outgoingSound ServerRules.sound
+    ServerRecord.fresh ServerRecord.holding ServerRecord.unarmed
+    ServerEvents.clientEvent ServerEvents.eventOf ServerEvents.byEvent ServerEvents.sideGround
+    ServerTable.orderOf ServerTable.requestNewer ServerTable.requestIdle ServerTable.requestEqual ServerTable.requestRow
+    ServerTable.pingEqual ServerTable.pingRow ServerTable.whereReplied ServerTable.replyRow ServerTable.fackRow ServerTable.ackRow
+    ServerTable.rowOf
+    ServerArrival.requestGround ServerArrival.oldGround ServerArrival.rowGround ServerArrival.agree ServerArrival.sameCall
+    ServerArrival.callGround ServerArrival.slotGround ServerArrival.pduGround ServerArrival.tableGround ServerArrival.orderFor
+    ServerArrival.rowFor ServerArrival.arrivalGround
+    ServerLocal.repeats ServerLocal.holds ServerLocal.transmitGround ServerLocal.timerGround ServerLocal.replyGround
+    ServerPlan.refused ServerPlan.accepted ServerPlan.withOutgoing
+    ServerRows.answered ServerRows.replyPlan ServerRows.settled ServerRows.transmitted ServerRows.transmitPlan ServerRows.rewinding
+    ServerRows.replayHeld ServerRows.replayPlan ServerRows.timerPlan
+    ServerArrivalRows.callOf ServerArrivalRows.begun ServerArrivalRows.withIncoming ServerArrivalRows.putState ServerArrivalRows.putNotice
+    ServerArrivalRows.fackFor ServerArrivalRows.putPlan ServerArrivalRows.requestPlan ServerArrivalRows.beginPlan
+    ServerArrivalRows.workingPlan ServerArrivalRows.nocallPlan ServerArrivalRows.ackPlan
+    ServerArrivalTable.arrivalRow ServerArrivalTable.arrivalPlan
+serverTables = tt
+
+-- The events, and all of these.
+unfoldable pub opened : Unit {0}
+unfolding shared clientTables serverTables
+    ClientSending.pduHeader ClientSending.sentOut
+    ClientMachine.outcomeOf ClientMachine.sending ClientMachine.starting ClientMachine.planOf ClientMachine.acted ClientMachine.arriving
+    ServerSending.replyHeader ServerSending.echoed ServerSending.echoHeader
+    ServerMachine.outcomeOf ServerMachine.replying ServerMachine.planOf
+    Steps.bytesLent Steps.ownAfter Steps.sentAfter Steps.dispatchesAfter Steps.startStep Steps.replyStep Steps.step Steps.answerTo
+opened = tt

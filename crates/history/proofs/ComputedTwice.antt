@@ -1,0 +1,207 @@
+-- The second run, event by event.
+use Prim.Native.Nat.{ℕ, _<_, _≤_}
+use mathlib.Core.Bool.{true}
+use mathlib.Core.List.{List, [], _∷_}
+use mathlib.Core.Path.{_≡_, refl, _∙_}
+use native.Mathlib.Omega.{arith}
+use lib.ListN.{length, take}
+use Rattle.words.specs.Number.{number}
+use Rattle.bodies.specs.Fack.{fackBytes, fackSent}
+use Rattle.calls.specs.Sent.{sentHeader}
+use Rattle.incoming.specs.declared.Last.the-variants.{At}
+use Rattle.incoming.specs.Slots.{missing, cleared}
+use Rattle.fragments.specs.Slots.{filled}
+use Rattle.fragments.proofs.PartLaws.{parts-joined}
+use Rattle.fragments.proofs.PutLaws.{filled-length}
+use Rattle.outgoing.specs.Message.{fragmentOf}
+use Rattle.timers.specs.declared.Timer.the-variants.{Off, Armed}
+use Rattle.client_record.specs.declared.State.the-variants.{SendFrags, Dispatched, Complete}
+use Rattle.client_table.specs.declared.TimerKind.the-variants.{Wait}
+use Rattle.client.specs.HandUp.{handsUp as clientHandsUp}
+use Rattle.client.proofs.Growing.{hands-joined}
+use Rattle.server_record.specs.declared.Idle.the-variants.{Repeatable}
+use Rattle.server_record.specs.declared.State.the-variants.{Idle, Running, Replying}
+use Rattle.server_record.specs.Rules.{sound as serverSound}
+use Rattle.server.specs.HandUp.{handsUp as serverHandsUp}
+use Rattle.history.specs.Fairness.{Typed}
+use Rattle.history.specs.Runs.{before, activity, asking, question, firstReply, secondReply, questionPdu, pingPdu, clientFackPdu, fackPdu, replyPdu, nocallPdu, runOnce, runAgain, twice}
+use Rattle.history.proofs.Holding.{empty-holding, holding-whole}
+use Rattle.history.proofs.StartStep.{cleared-none}
+use Rattle.history.proofs.ComputedOpen.{opened}
+use Rattle.history.proofs.ComputedLaws.{Plays, told, came, over, then, refused, joined, Uuids, Carried, carried}
+use Rattle.history.proofs.ComputedParts.{put}
+use Rattle.history.proofs.ComputedClient.{client-transmits, client-times, client-arrives}
+use Rattle.history.proofs.ComputedServer.{server-transmits, server-arrives}
+use Rattle.history.proofs.ComputedSides.{ClientSide, ServerSide, Books, world, held, holds, nothing, sends, clientIn, serverIn}
+
+uuids : Uuids activity asking
+uuids = record { activity-16 = refl; object-16 = refl; interface-16 = refl }
+
+typed : Typed asking
+typed = record { object = refl; interface = refl; version = omega arith; operation = omega arith }
+
+-- The run's PDUs arrive as they were written.
+came-with : (boot kind flags1 serial : ℕ) (body : List ℕ) → (boot < 65536) × (kind ≤ 10) × (serial < 65536) → length body ≤ 1392
+    → Carried (sentHeader kind flags1 serial activity boot 0 asking 0) body
+came-with boot kind flags1 serial body small short = carried kind flags1 serial activity boot 0 asking 0 body typed refl (omega arith) short
+
+module _ (clientSlots serverSlots out : List ℕ) (clientRoom : length clientSlots ≡ 44544) (serverRoom : length serverSlots ≡ 44544)
+    (room : length out ≡ 1472) where
+  -- The server's slot buffer after each put, and the client's.
+  abbrev v1 : List ℕ
+  v1 = filled 0 question serverSlots
+
+  v1-long : length v1 ≡ 44544
+  v1-long = filled-length 0 question serverSlots ∙ serverRoom
+
+  abbrev v2 : List ℕ
+  v2 = filled 0 question v1
+
+  v2-long : length v2 ≡ 44544
+  v2-long = filled-length 0 question v1 ∙ v1-long
+
+  abbrev u1 : List ℕ
+  u1 = filled 0 secondReply clientSlots
+
+  u1-long : length u1 ≡ 44544
+  u1-long = filled-length 0 secondReply clientSlots ∙ clientRoom
+
+  -- The first n PDUs of all that the client has sent, and the server.
+  abbrev clientSent : ℕ → List (List ℕ)
+  clientSent n = take n (questionPdu 1 ∷ pingPdu 2 ∷ questionPdu 3 ∷ clientFackPdu ∷ [])
+
+  abbrev serverSent : ℕ → List (List ℕ)
+  serverSent n = take n (fackPdu 1 ∷ replyPdu firstReply ∷ nocallPdu ∷ fackPdu 3 ∷ replyPdu secondReply ∷ [])
+
+  -- The client after each of its events.
+  abbrev k0 : ClientSide
+  k0 = record { client = before clientSlots serverSlots .client; slots = clientSlots; sent = clientSent 0 }
+
+  abbrev k1 : ClientSide
+  k1 = record { client = clientIn asking SendFrags (sends 3 1 0 0 0) nothing 0 0 5 Off Off; slots = clientSlots; sent = clientSent 0 }
+
+  abbrev k2 : ClientSide
+  k2 = record { client = clientIn asking Dispatched (sends 3 1 1 0 1) nothing 0 0 6 (Armed 6) Off; slots = clientSlots; sent = clientSent 1 }
+
+  abbrev k3 : ClientSide
+  k3 = record { client = clientIn asking Dispatched (sends 3 1 1 1 1) nothing 0 0 6 (Armed 6) Off; slots = clientSlots; sent = clientSent 1 }
+
+  abbrev k4 : ClientSide
+  k4 = record { client = clientIn asking Dispatched (sends 3 1 1 1 2) nothing 1 0 7 (Armed 7) Off; slots = clientSlots; sent = clientSent 2 }
+
+  abbrev k5 : ClientSide
+  k5 = record { client = clientIn asking SendFrags (sends 3 1 0 1 2) nothing 1 1 7 Off Off; slots = clientSlots; sent = clientSent 2 }
+
+  abbrev k6 : ClientSide
+  k6 = record { client = clientIn asking Dispatched (sends 3 1 1 1 3) nothing 1 1 8 (Armed 8) Off; slots = clientSlots; sent = clientSent 3 }
+
+  abbrev k7 : ClientSide
+  k7 = record { client = clientIn asking Complete (sends 3 1 1 1 3) (holds (held 2) missing missing (At 0)) 0 1 8 Off Off; slots = u1; sent = clientSent 4 }
+
+  -- The server after each of its events.
+  abbrev s0 : ServerSide
+  s0 = record { server = before clientSlots serverSlots .server; slots = serverSlots; sent = serverSent 0 }
+
+  abbrev s1 : ServerSide
+  s1 = record { server = serverIn asking Running (sends 0 0 0 0 0) (holds (held 3) missing missing (At 0)) 100 Off; slots = v1; sent = serverSent 1 }
+
+  abbrev s2 : ServerSide
+  s2 = record { server = serverIn asking Replying (sends 1 1 0 0 0) (holds (held 3) missing missing (At 0)) 100 Off; slots = v1; sent = serverSent 1 }
+
+  abbrev s3 : ServerSide
+  s3 = record { server = serverIn asking (Idle Repeatable) (sends 1 1 1 0 1) (holds (held 3) missing missing (At 0)) 100 Off; slots = v1; sent = serverSent 2 }
+
+  abbrev s4 : ServerSide
+  s4 = record { server = serverIn asking (Idle Repeatable) (sends 1 1 1 0 1) (holds (held 3) missing missing (At 0)) 100 Off; slots = v1; sent = serverSent 3 }
+
+  abbrev s5 : ServerSide
+  s5 = record { server = serverIn asking Running (sends 0 0 0 0 0) (holds (held 3) missing missing (At 0)) 100 Off; slots = v2; sent = serverSent 4 }
+
+  abbrev s6 : ServerSide
+  s6 = record { server = serverIn asking Replying (sends 2 1 0 0 0) (holds (held 3) missing missing (At 0)) 100 Off; slots = v2; sent = serverSent 4 }
+
+  abbrev s7 : ServerSide
+  s7 = record { server = serverIn asking (Idle Repeatable) (sends 2 1 1 0 1) (holds (held 3) missing missing (At 0)) 100 Off; slots = v2; sent = serverSent 5 }
+
+  -- What is on record: nothing, the start, the first dispatch of these bytes, its reply, the second dispatch, its reply.
+  abbrev b0 : Books
+  b0 = record { starts = []; dispatches = []; replies = [] }
+
+  abbrev b1 : Books
+  b1 = record { starts = record { number = 0; idempotent = true; message = question } ∷ []; dispatches = []; replies = [] }
+
+  abbrev b2 : List ℕ → Books
+  b2 bytes = record { starts = b1 .starts; dispatches = record { number = 0; bytes = bytes } ∷ []; replies = [] }
+
+  abbrev b3 : Books
+  b3 = record { starts = b1 .starts; dispatches = b2 question .dispatches; replies = record { number = 0; message = firstReply } ∷ [] }
+
+  abbrev b4 : List ℕ → Books
+  b4 bytes = record {
+    starts = b1 .starts;
+    dispatches = record { number = 0; bytes = question } ∷ record { number = 0; bytes = bytes } ∷ [];
+    replies = b3 .replies;
+  }
+
+  abbrev b5 : Books
+  b5 = record {
+    starts = b1 .starts;
+    dispatches = b4 question .dispatches;
+    replies = record { number = 0; message = firstReply } ∷ record { number = 0; message = secondReply } ∷ [];
+  }
+
+  -- What the server hands up at each dispatch is the request,
+  question-whole : (slots : List ℕ) → length slots ≡ 44544 → serverHandsUp (s1 .server) (filled 0 question slots) ≡ question
+  unfolding opened serverHandsUp fragmentOf
+  question-whole slots long =
+      parts-joined (serverSound (s1 .server)) (s1 .server .incoming) (filled 0 question slots) refl
+      ∙ holding-whole (s1 .server .incoming) (filled 0 question slots) question
+      (put question 3 0 refl cleared slots 0 (empty-holding cleared slots question cleared-none) refl refl long (omega arith) (omega arith) refl)
+      refl (filled-length 0 question slots ∙ long) refl
+
+  -- and what the client does, the second reply.
+  pub reply-whole : clientHandsUp (k7 .client) u1 ≡ secondReply
+  unfolding opened fragmentOf
+  reply-whole =
+      hands-joined (k7 .client) u1 refl
+      ∙ holding-whole (k7 .client .incoming) u1 secondReply
+      (put secondReply 2 0 refl cleared clientSlots 0 (empty-holding cleared clientSlots secondReply cleared-none) refl refl clientRoom (omega arith)
+      (omega arith) refl)
+      refl u1-long refl
+
+  -- The story, stage by stage.
+  plays-once : Plays (world k0 s0 b0) (runOnce out) (world k3 s3 b3)
+  unfolding opened fackBytes number fragmentOf
+  plays-once =
+      then {next = world k1 s0 b1} (record { answered = refl; leaves = refl }) (record { typed = typed; whole = refl })
+      (then {next = world k2 s0 b1} (client-transmits _ out room question 3 refl uuids) refl
+      (then {next = world k2 s1 (b2 question)}
+      (told (λ (bytes : List ℕ). world k2 s1 (b2 bytes)) (question-whole serverSlots serverRoom)
+      (server-arrives _ out room (came-with 0 0 32 1 question (omega arith) (omega arith)) serverRoom uuids)) (came 0 refl)
+      (then {next = world k3 s1 (b2 question)}
+      (client-arrives _ out room (came-with 7 9 0 0 (fackBytes (fackSent 1 0)) (omega arith) (omega arith)) clientRoom uuids) (came 0 refl)
+      (then {next = world k3 s2 b3} (record { answered = refl; leaves = refl }) refl
+      (then {next = world k3 s3 b3} (server-transmits _ out room firstReply 1 refl uuids) refl
+      over)))))
+
+  plays-again : Plays (world k3 s3 b3) (runAgain out) (world k7 s7 b5)
+  unfolding opened fackBytes number fragmentOf
+  plays-again =
+      then {next = world k4 s3 b3} (client-times _ out room Wait 6 uuids) tt
+      (then {next = world k4 s4 b3} (server-arrives _ out room (came-with 0 1 32 2 [] (omega arith) (omega arith)) v1-long uuids) (came 1 refl)
+      (then {next = world k5 s4 b3} (client-arrives _ out room (came-with 7 5 0 1 [] (omega arith) (omega arith)) clientRoom uuids) (came 2 refl)
+      (then {next = world k6 s4 b3} (client-transmits _ out room question 3 refl uuids) refl
+      (then {next = world k6 s5 (b4 question)}
+      (told (λ (bytes : List ℕ). world k6 s5 (b4 bytes)) (question-whole v1 v1-long)
+      (server-arrives _ out room (came-with 0 0 32 3 question (omega arith) (omega arith)) v1-long uuids)) (came 2 refl)
+      (then {next = world k6 s6 b5} (record { answered = refl; leaves = refl }) refl
+      (then {next = world k6 s7 b5} (server-transmits _ out room secondReply 2 refl uuids) refl
+      (then {next = world k7 s7 b5}
+      (client-arrives _ out room (came-with 7 2 0 1 secondReply (omega arith) (omega arith)) clientRoom uuids) (came 4 refl)
+      (refused {next = world k7 s7 b5} (client-times _ out room Wait 8 uuids) refl
+      (refused {next = world k7 s7 b5}
+      (server-arrives _ out room (came-with 0 9 32 3 (fackBytes (fackSent 1 0)) (omega arith) (omega arith)) v2-long uuids) refl
+      over)))))))))
+
+  pub plays-twice : Plays (before clientSlots serverSlots) (twice out) (world k7 s7 b5)
+  plays-twice = joined (runOnce out) (runAgain out) plays-once plays-again
