@@ -1,20 +1,15 @@
 -- A fresh world is as every world is known to be.
-use Prim.Native.Nat.{ℕ, _≤_}
-use mathlib.Core.Bool.{Bool, true, false, false≢true}
+use Prim.Native.Nat.{ℕ}
+use mathlib.Core.Bool.{Bool, true, false≢true}
 use mathlib.Core.List.{List, []}
-use mathlib.Core.Path.{_≡_, refl, sym, ap, subst, _∙_}
-use lib.Dec.{ltb, leb}
-use lib.ListN.{length, getD}
+use mathlib.Core.Path.{_≡_, sym, ap, subst, _∙_}
 use native.Mathlib.Omega.{arith}
 use borrow.Author.Tests.{le-leb, eq-eqb}
-use Rattle.words.specs.Choice.{choose, both}
 use Rattle.words.proofs.Tests.{both-hold}
 use Rattle.fragments.specs.Judgement.{held}
 use Rattle.fragments.proofs.PutLaws.{none-held}
 use Rattle.incoming.specs.declared.Incoming.{Incoming}
-use Rattle.incoming.specs.declared.Last.{Last}
-use Rattle.incoming.specs.declared.Last.the-variants.{Unknown}
-use Rattle.incoming.specs.Slots.{missing, lastSound, soundFrom, sound as incomingSound, within}
+use Rattle.incoming.specs.Slots.{missing, lastSound, soundFrom, sound as incomingSound}
 use Rattle.incoming.proofs.SlotLaws.{sound-all}
 use Rattle.outgoing.specs.declared.Outgoing.{Outgoing}
 use Rattle.outgoing.specs.Sending.{bounded, hasNothing}
@@ -24,17 +19,14 @@ use Rattle.timers.specs.declared.Timer.the-variants.{Off}
 use Rattle.timers.specs.Tickets.{timerSound}
 use Rattle.timers.proofs.TimerLaws.{off-sound}
 use Rattle.client_record.specs.declared.State.{State as ClientState}
-use Rattle.client_record.specs.declared.State.the-variants.{Queued}
 use Rattle.client_record.specs.declared.Client.{Client}
 use Rattle.client_record.specs.States.{isQueued, isWaiting, isAckPending}
-use Rattle.client_record.specs.Rules.{outgoingSound as clientOutgoing, messageRule as clientRule, timersSound, sound as clientSound}
+use Rattle.client_record.specs.Rules.{outgoingSound as clientOutgoing, messageRule as clientRule, timersSound}
 use Rattle.client_record.proofs.RuleLaws.{rules-hold as client-rules, counts-hold}
-use Rattle.server_record.specs.declared.Idle.the-variants.{Fresh as NeverCalled}
 use Rattle.server_record.specs.declared.State.{State as ServerState}
-use Rattle.server_record.specs.declared.State.the-variants.{Idle}
 use Rattle.server_record.specs.declared.Server.{Server}
 use Rattle.server_record.specs.States.{neverCalled, isFresh, isRunning, isHeld}
-use Rattle.server_record.specs.Rules.{outgoingSound as serverOutgoing, idleRule, messageRule as serverRule, sound as serverSound}
+use Rattle.server_record.specs.Rules.{outgoingSound as serverOutgoing, idleRule, messageRule as serverRule}
 use Rattle.server_record.proofs.RuleLaws.{rules-hold as server-rules}
 use Rattle.history.specs.Lists.{In}
 use Rattle.history.specs.World.{Started, Dispatched, Replied, World}

@@ -16,13 +16,14 @@ use Rattle.client.specs.Machine.{starting}
 use Rattle.client.proofs.Growing.{transmit-grows, timer-grows, arrive-grows}
 use Rattle.history.specs.Lists.{andThen}
 use Rattle.history.specs.World.{Started, World}
-use Rattle.history.specs.Events.{Lent, Own, Event, Start, ClientTransmit, ClientArrive, ClientTimer, ServerArrive, ServerTransmit, ServerTimer, Reply, Fault}
+use Rattle.history.specs.Events.{Lent, Event, Start, ClientTransmit, ClientArrive, ClientTimer, ServerArrive, ServerTransmit, ServerTimer, Reply, Fault}
 use Rattle.history.specs.Steps.{isDone, bytesLent, ownAfter, startStep, replyStep, step, answerTo, run}
 use Rattle.history.specs.Fairness.{Premise, Fair}
 use Rattle.history.specs.Claim.{handedUp}
 use Rattle.history.proofs.Invariant.{Inv}
 use Rattle.history.proofs.Refused.{refused-same}
-use Rattle.history.proofs.ClientSteps.{client-transmit-inv, client-timer-inv, client-arrive-inv}
+use Rattle.history.proofs.ClientEvents.{client-transmit-inv, client-timer-inv}
+use Rattle.history.proofs.ClientArrivals.{client-arrive-inv}
 use Rattle.history.proofs.StartStep.{started-inv}
 use Rattle.history.proofs.ServerEvents.{server-transmit-inv, server-fault-inv, server-timer-inv, replied-inv}
 use Rattle.history.proofs.ServerArrivals.{server-arrive-inv}

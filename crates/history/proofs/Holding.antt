@@ -1,16 +1,16 @@
 -- What a receiver holds of one message.
-use Prim.Native.Nat.{ℕ, _+_, _-_, _*_, _<_, _≤_}
+use Prim.Native.Nat.{ℕ, _+_, _-_, _<_, _≤_}
 use mathlib.Core.Bool.{Bool, true, false, false≢true, true≢false}
 use mathlib.Core.List.{List}
 use mathlib.Core.Logic.{_⊎_, inl, inr}
 use mathlib.Core.Path.{_≡_, refl, sym, ap, _∙_}
 use native.Mathlib.Omega.{arith}
-use lib.Dec.{ltb, eqb}
+use lib.Dec.{eqb}
 use lib.ListN.{length, getD, List·getD-eq-default}
 use native.Mathlib.Decide.{decLt}
 use borrow.Author.Tests.{eqb-true, eqb-false, eq-eqb, ltb-true, lt-ltb}
 use Rattle.words.specs.Choice.{choose, both, either}
-use Rattle.words.proofs.Tests.{choose-true, choose-false, either-false}
+use Rattle.words.proofs.Tests.{either-false}
 use Rattle.flags.specs.Flags.{lastFragment, fragment, idempotent, hasFlag, withFlag}
 use Rattle.incoming.specs.declared.Slot.{Slot}
 use Rattle.incoming.specs.declared.Last.{Last}
@@ -18,12 +18,12 @@ use Rattle.incoming.specs.declared.Last.the-variants.{Unknown, At}
 use Rattle.incoming.specs.declared.Incoming.{Incoming}
 use Rattle.incoming.specs.Slots.{missing, allTo, sound, contiguous, complete, lastWith, stored}
 use Rattle.outgoing.specs.Message.{fragments, fragmentOf, flagsOf}
-use Rattle.outgoing.proofs.OutgoingLaws.{fragments-range, fragments-reach, fragment-most}
-use Rattle.fragments.specs.Judgement.{held, anyHeld, heldAbove, aboveLast, otherLast, lastBelowHeld, contradicts}
-use Rattle.fragments.specs.Slots.{stretch, bytesOf, filled}
+use Rattle.outgoing.proofs.OutgoingLaws.{fragments-reach, fragment-most}
+use Rattle.fragments.specs.Judgement.{held, heldAbove, aboveLast, otherLast, lastBelowHeld, contradicts}
+use Rattle.fragments.specs.Slots.{bytesOf, filled}
 use Rattle.fragments.specs.Joined.{joined}
-use Rattle.fragments.proofs.BufferLaws.{Carries, filled-here, filled-other, joined-front, joined-whole}
-use Rattle.fragments.proofs.PutLaws.{stored-length, stored-slot-same, stored-slot-other, stored-held-same, stored-held-other, held-told, none-above}
+use Rattle.fragments.proofs.BufferLaws.{Carries, filled-here, filled-other, joined-whole}
+use Rattle.fragments.proofs.PutLaws.{stored-slot-same, stored-slot-other, stored-held-same, stored-held-other, held-told, none-above}
 use Rattle.grounds.specs.Fragment.{isLast}
 
 -- A fragment of a message: one of its numbers, marked last where it is the last, with its bytes.

@@ -12,14 +12,12 @@ use Rattle.client_record.specs.States.{isQueued}
 use Rattle.client_record.specs.Rules.{sound as clientSound}
 use Rattle.client_table.specs.declared.Event.the-variants.{Response as ResponseEvent}
 use Rattle.client_table.specs.Events.{eventOf as clientEventOf}
-use Rattle.server_record.specs.declared.Idle.{Idle}
 use Rattle.server_record.specs.declared.Idle.the-variants.{Fresh, Spent, Repeatable}
-use Rattle.server_record.specs.declared.Reply.{Reply}
 use Rattle.server_record.specs.declared.Reply.the-variants.{Data, Fault}
 use Rattle.server_record.specs.declared.State.{State}
 use Rattle.server_record.specs.declared.State.the-variants.{Idle as IdleState, Collect, Running, Replying, Held}
 use Rattle.server_record.specs.declared.Server.{Server}
-use Rattle.server_record.specs.States.{isFresh, isRunning}
+use Rattle.server_record.specs.States.{isFresh}
 use Rattle.server_record.specs.Rules.{sound as serverSound}
 use Rattle.server_table.specs.declared.Event.the-variants.{Request as RequestEvent}
 use Rattle.server_table.specs.Events.{eventOf as serverEventOf}

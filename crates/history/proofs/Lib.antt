@@ -6,9 +6,14 @@ pub mod Invariant
 pub mod Beginning
 pub mod Refused
 pub mod ClientSteps
+pub mod ClientSends
+pub mod ClientEvents
+pub mod ClientArrivals
 pub mod StartStep
 pub mod ServerSteps
+pub mod ServerSends
 pub mod ServerEvents
+pub mod ServerPuts
 pub mod ServerArrivals
 pub mod Histories
 pub mod Tickets

@@ -2,9 +2,9 @@
 use Prim.Native.Nat.{ℕ, _+_, _≤_, _<_}
 use mathlib.Core.Bool.{Bool, true, false}
 use mathlib.Core.List.{List}
-use mathlib.Core.Path.{_≡_, refl, sym, ap, subst, _∙_}
+use mathlib.Core.Path.{_≡_, refl, sym, ap, subst}
 use native.Mathlib.Omega.{arith}
-use lib.ListN.{length, take, getD}
+use lib.ListN.{length}
 use Rattle.words.proofs.Place.{placed-front}
 use Rattle.answers.specs.declared.Answer.the-variants.{Done}
 use Rattle.calls.specs.declared.Call.{Call}
@@ -16,7 +16,7 @@ use Rattle.pdu.specs.Header.{headerOf, headerBytes, datagram, bodyOf}
 use Rattle.reader.specs.declared.Reading.{Reading}
 use Rattle.reader.specs.Reading.{orderIs, reading}
 use Rattle.writer.proofs.Returns.{Sized, length-datagram}
-use Rattle.writer.proofs.RoundTrip.{Fits, accepted, read-written, body-written, accepted-reading}
+use Rattle.writer.proofs.RoundTrip.{Fits, read-written, body-written, accepted-reading}
 use Rattle.history.specs.Lists.{In, andThen}
 use Rattle.history.specs.World.{Started, Replied}
 use Rattle.history.specs.Steps.{sentAfter}

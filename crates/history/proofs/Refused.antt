@@ -2,14 +2,13 @@
 use Prim.Native.Nat.{ℕ}
 use mathlib.Core.Bool.{Bool, true, false, false≢true}
 use mathlib.Core.List.{List}
-use mathlib.Core.Path.{_≡_, refl, sym, ap, _∙_}
+use mathlib.Core.Path.{_≡_, refl, ap}
 use lib.Dec.{eqb}
 use borrow.Author.Tests.{eqb-true}
 use Rattle.words.specs.Choice.{choose}
 use Rattle.words.proofs.Tests.{choose-false}
 use Rattle.answers.specs.declared.Answer.{Answer}
 use Rattle.answers.specs.declared.Answer.the-variants.{Done}
-use Rattle.answers.specs.declared.Ground.the-variants.{Pass}
 use Rattle.answers.specs.Number.{numberOf}
 use Rattle.calls.specs.declared.Notice.the-variants.{Nothing as Untold}
 use Rattle.calls.specs.declared.Sent.the-variants.{Nothing}
@@ -18,7 +17,6 @@ use Rattle.timers.specs.declared.Timer.the-variants.{Off, Armed}
 use Rattle.timers.specs.Tickets.{armedWith}
 use Rattle.grounds.specs.Order.{refuseIf, groundOf}
 use Rattle.grounds.proofs.PassLaws.{answer-passes}
-use Rattle.client_table.specs.declared.TimerKind.{TimerKind}
 use Rattle.client_table.specs.declared.TimerKind.the-variants.{Wait, Ack}
 use Rattle.client_table.specs.Local.{namedTimer}
 use Rattle.client.specs.declared.Outcome.{Outcome as ClientOutcome}

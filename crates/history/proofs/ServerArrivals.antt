@@ -1,50 +1,37 @@
--- An arriving PDU keeps what is known of the world: the server puts only fragments of its call, and dispatches it whole.
-use Prim.Native.Nat.{ℕ, _+_, _≤_, _<_}
+-- Every row of a PDU that arrives at the server keeps what is known of the world.
+use Prim.Native.Nat.{ℕ, _≤_}
 use mathlib.Core.Bool.{Bool, true, false, false≢true}
 use mathlib.Core.List.{List, []}
 use mathlib.Core.Logic.{_⊎_, inl, inr}
 use mathlib.Core.Path.{_≡_, refl, sym, ap, subst, _∙_}
 use native.Mathlib.Omega.{arith}
-use lib.Dec.{eqb}
 use lib.ListN.{length}
-use borrow.Author.Tests.{eqb-true, eqb-false}
-use Rattle.words.specs.Choice.{choose, both}
+use Rattle.words.specs.Choice.{choose}
 use Rattle.answers.specs.declared.Answer.the-variants.{Done, OldCall, NoRow, Repeated}
 use Rattle.answers.specs.declared.Ground.{Ground}
 use Rattle.answers.specs.declared.Ground.the-variants.{Pass}
-use Rattle.calls.specs.declared.Notice.{Notice}
-use Rattle.calls.specs.declared.Notice.the-variants.{Nothing as Untold, Dispatch}
+use Rattle.calls.specs.declared.Notice.the-variants.{Nothing as Untold}
 use Rattle.flags.specs.Flags.{idempotent, hasFlag}
-use Rattle.fragments.specs.Judgement.{held, contradicts}
-use Rattle.fragments.specs.Slots.{filled, storing}
-use Rattle.fragments.specs.Joined.{parts}
-use Rattle.fragments.proofs.PutLaws.{stored-length, stored-sound, filled-length}
-use Rattle.fragments.proofs.PartLaws.{parts-joined}
-use Rattle.incoming.specs.declared.Incoming.{Incoming}
-use Rattle.incoming.specs.Slots.{complete, cleared, stored, sound as incomingSound}
-use Rattle.incoming.proofs.SlotLaws.{cleared-sound, cleared-length}
-use Rattle.outgoing.specs.Sending.{noMessage, bounded, hasNothing, acknowledgedTo}
+use Rattle.fragments.specs.Judgement.{held}
+use Rattle.fragments.specs.Slots.{storing}
+use Rattle.outgoing.specs.Sending.{acknowledgedTo}
 use Rattle.pdu.specs.declared.Header.{Header}
 use Rattle.pdu.specs.Header.{bodyOf}
 use Rattle.reader.specs.Reading.{reading}
 use Rattle.writer.proofs.Returns.{Sized}
 use Rattle.writer.proofs.RoundTrip.{body-short}
-use Rattle.timers.proofs.TimerLaws.{off-sound}
 use Rattle.grounds.specs.Entry.{lentGround}
-use Rattle.grounds.specs.Fragment.{isLast, wantsFack, bodyLength}
+use Rattle.grounds.specs.Fragment.{bodyLength}
 use Rattle.grounds.proofs.PassLaws.{refusal-stops}
-use Rattle.grounds.proofs.GroundLaws.{lent-passes, body-length}
+use Rattle.grounds.proofs.GroundLaws.{lent-passes}
 use Rattle.server_record.specs.declared.Idle.the-variants.{Repeatable}
 use Rattle.server_record.specs.declared.State.{State}
 use Rattle.server_record.specs.declared.Reply.{Reply}
 use Rattle.server_record.specs.declared.Reply.the-variants.{Data, Fault}
-use Rattle.server_record.specs.declared.State.the-variants.{Idle as IdleState, Collect, Running, Replying, Held}
-use Rattle.server_record.specs.declared.Server.{Server}
+use Rattle.server_record.specs.declared.State.the-variants.{Idle as IdleState, Replying, Held}
 use Rattle.server_record.specs.States.{isFresh, isRunning, isHeld}
-use Rattle.server_record.specs.Rules.{sound, outgoingSound, messageRule}
-use Rattle.server_record.specs.Record.{unarmed}
-use Rattle.server_record.proofs.StateLaws.{HeldWith, held-state}
-use Rattle.server_record.proofs.RuleLaws.{rules-told, rules-hold}
+use Rattle.server_record.specs.Rules.{sound}
+use Rattle.server_record.proofs.StateLaws.{held-state}
 use Rattle.server_table.specs.declared.Event.the-variants.{Request as RequestEvent}
 use Rattle.server_table.specs.declared.Order.the-variants.{Equal, Newer}
 use Rattle.server_table.specs.declared.Row.{Row}
@@ -52,304 +39,25 @@ use Rattle.server_table.specs.declared.Row.the-variants.{Old, Missing, Repeat, 
 use Rattle.server_table.specs.Events.{eventOf}
 use Rattle.server_table.specs.Arrival.{oldGround, rowGround, orderFor, rowFor}
 use Rattle.server_table.proofs.TableLaws.{newer-told, equal-told, begin-told, put-told, replay-told, acknowledge-told, finish-told}
-use Rattle.server_arrivals.specs.Rows.{callOf, begun, withIncoming, putState, putNotice, fackFor, putPlan, requestPlan, beginPlan, workingPlan, nocallPlan, fackPlan, ackPlan}
+use Rattle.server_arrivals.specs.Rows.{begun, putPlan, requestPlan, beginPlan, workingPlan, nocallPlan, fackPlan, ackPlan}
 use Rattle.server_arrivals.specs.Table.{arrivalRow, arrivalPlan}
-use Rattle.server_arrivals.proofs.ArrivalLaws.{put-sound, fack-sound, ack-sound}
+use Rattle.server_arrivals.proofs.ArrivalLaws.{fack-sound, ack-sound}
 use Rattle.server_steps.specs.declared.Plan.{Plan}
 use Rattle.server_steps.specs.Plan.{accepted, withOutgoing}
 use Rattle.server_steps.specs.Rows.{rewinding, replayHeld, replayPlan}
 use Rattle.server_steps.proofs.StepLaws.{replay-sound}
-use Rattle.server.specs.HandUp.{handsUp}
-use Rattle.server.specs.Machine.{outcomeOf, sending, planOf, acted, arriving}
+use Rattle.server.specs.Machine.{sending, planOf, acted, arriving}
 use Rattle.server.proofs.Judging.{CanArrive, begin-fits, put-fits, fack-fits, arrival-passes}
 use Rattle.server.proofs.Accepting.{arrive-accepted}
-use Rattle.history.specs.Lists.{In, andThen}
-use Rattle.history.specs.World.{Started, Dispatched, Replied, World}
-use Rattle.history.specs.Steps.{lastDispatched, dispatchesAfter, serverStep}
+use Rattle.history.specs.Lists.{In}
+use Rattle.history.specs.World.{World}
+use Rattle.history.specs.Steps.{serverStep}
 use Rattle.history.specs.Fairness.{Typed}
-use Rattle.history.specs.Claim.{times, NeverFall}
-use Rattle.history.proofs.ListLaws.{in-before, in-added, in-grown, all-grown, last-dispatched, times-same, times-other, times-none, rises-on}
-use Rattle.history.proofs.Holding.{PartOf, Holding, Single, empty-holding, put-holding, holding-whole}
 use Rattle.history.proofs.Network.{Request, Response, read-sized}
-use Rattle.history.proofs.Invariant.{CalledStart, Collecting, unanswered, hasData, ServerInv, CallInv, Inv}
-use Rattle.history.proofs.ServerSteps.{past, past-called, GoesOn, goes-on, answers, ofCall, others-sent, rewinding-goes-on, spent-goes-on, stays-goes-on, planned}
-use Rattle.history.proofs.StartStep.{cleared-none}
-
--- A record that has begun keeps its rules.
-begun-sound : (s : Server) (h : Header) → sound (begun s h) ≡ true
-unfolding begun outgoingSound messageRule bounded hasNothing noMessage both choose isHeld
-begun-sound s h = rules-hold (begun s h) (record { count = refl; outgoing = refl; incoming = cleared-sound; timer = off-sound false (s .tickets) })
-
--- How a request comes to begin: it is newer, or equal with the bit set in IDLE repeatable.
-abbrev Begins : Server → Header → Type 0
-Begins s h =
-    ((isFresh (s .state) ≡ true) ⊎ (s .number < h .number))
-    ⊎ ((s .number ≡ h .number) × ((s .state ≡ IdleState Repeatable) × (hasFlag idempotent (h .flags1) ≡ true)))
-
--- A request that begins.
-module _ (s : Server) (slots : List ℕ) (starts : List Started) (dispatches : List Dispatched) (replies : List Replied)
-    (inv : ServerInv s slots starts dispatches replies) (h : Header) (body : List ℕ) (request : Request starts h body) where
-  -- What is on record of a number not below one that is newer is not there.
-  newer-none : (fresh : Bool) → isFresh (s .state) ≡ fresh → (fresh ≡ true) ⊎ (s .number < h .number) → (k : ℕ) → isFresh (s .state) ≡ false
-      → k ≤ s .number → k < h .number
-  newer-none fresh e (inl f) k old most = absurd (false≢true (sym old ∙ e ∙ f))
-  newer-none fresh e (inr above) k old most = omega arith
-
-  bounded-by : Begins s h → (k : ℕ) → isFresh (s .state) ≡ false → k ≤ s .number → k ≤ h .number
-  bounded-by (inl newer) k old most = let below = newer-none (isFresh (s .state)) refl newer k old most in omega arith
-  bounded-by (inr equal) k old most = rw (← equal .0) most
-
-  -- A call not marked idempotent was not dispatched before it begins,
-  first-time : Begins s h → hasFlag idempotent (h .flags1) ≡ false → (d : Dispatched) → In d dispatches → d .number ≡ h .number → ⊥
-  first-time (inl newer) e d m n =
-      let old = inv .dispatched d m in
-      let below = newer-none (isFresh (s .state)) refl newer (d .number) (old .0) (old .1) in
-      omega arith
-  first-time (inr equal) e d m n = false≢true (sym e ∙ equal .1 .1)
-
-  -- and every reply to one that begins again was a single fragment.
-  all-single : Begins s h → (r : Replied) → In r replies → r .number ≡ h .number → Single (r .message)
-  all-single (inl newer) r m n =
-      let old = inv .answered r m in
-      let below = newer-none (isFresh (s .state)) refl newer (r .number) (old .0) (old .1) in
-      absurd (omega arith)
-  all-single (inr equal) r m n = inv .single (ap unanswered (equal .1 .0)) r m (n ∙ sym (equal .0))
-
-  pub begun-inv : Begins s h → ServerInv (begun s h) slots starts dispatches replies
-  unfolding begun callOf isFresh isRunning
-  begun-inv begins = record {
-    kept = begun-sound s h;
-    activity = inv .activity;
-    boot = inv .boot;
-    slotted = cleared-length;
-    dispatched = λ d m. (refl, bounded-by begins (d .number) (inv .dispatched d m .0) (inv .dispatched d m .1));
-    answered = λ r m. (refl, bounded-by begins (r .number) (inv .answered r m .0) (inv .answered r m .1));
-    called =
-        λ e.
-        record {
-          start = request .start;
-          started = request .started;
-          number = request .number;
-          mark = sym (request .mark);
-          typed =
-              record {
-                object = request .sized .object;
-                interface = request .sized .interface;
-                version = request .version;
-                operation = request .operation;
-              };
-          small = request .small;
-        };
-    collecting =
-        λ e.
-        record {
-          start = request .start;
-          started = request .started;
-          number = request .number;
-          holding = empty-holding cleared slots (request .start .message) cleared-none;
-          first = first-time begins;
-        };
-    running = λ e. absurd (false≢true (ap isRunning e));
-    single = λ e. all-single begins;
-    replying = λ e. absurd (false≢true e);
-  }
-
--- A request of the call is put in COLLECT.
-module _ (s : Server) (slots : List ℕ) (starts : List Started) (dispatches : List Dispatched) (replies : List Replied)
-    (inv : ServerInv s slots starts dispatches replies) (calls : CallInv starts dispatches replies) (state : s .state ≡ Collect)
-    (h : Header) (body : List ℕ) (request : Request starts h body) (mine : s .number ≡ h .number)
-    (whole : length slots ≡ 44544) (short : length body ≤ 1392) (small : h .fragment < 32)
-    (fits : contradicts (s .incoming) (h .fragment) (isLast (h .flags1)) ≡ false) where
-  collecting : Collecting s slots starts dispatches
-  collecting = inv .collecting state
-
-  -- It is a fragment of the message that is collected,
-  same-start : request .start ≡ collecting .start
-  same-start = calls .unique (request .start) (collecting .start) (request .started) (collecting .started) (request .number ∙ sym mine ∙ sym (collecting .number))
-
-  abbrev after : Incoming
-  after = stored (s .incoming) (h .fragment) (length body) (isLast (h .flags1))
-
-  after-sound : incomingSound after ≡ true
-  after-sound =
-      stored-sound (s .incoming) (h .fragment) (length body) (isLast (h .flags1)) (rules-told s (inv .kept) .incoming) (omega arith) short fits
-
-  -- so what is held then is of that message,
-  after-holds : Holding after (filled (h .fragment) body slots) (collecting .start .message)
-  after-holds =
-      put-holding (s .incoming) slots (collecting .start .message) (h .flags1) (h .fragment) body (collecting .holding) (rules-told s (inv .kept) .incoming)
-      (inv .slotted) whole (subst (λ (x : Started). PartOf (x .message) (h .flags1) (h .fragment) body) same-start (request .part)) small
-
-  -- and where all to the last is held it is handed up whole.
-  handed-whole : (t : Server) → sound t ≡ true → t .incoming ≡ after → complete after ≡ true
-      → handsUp t (filled (h .fragment) body slots) ≡ collecting .start .message
-  unfolding handsUp
-  handed-whole t kept same all =
-      ap (λ (m : Incoming). parts (sound t) m (filled (h .fragment) body slots)) same
-      ∙ parts-joined (sound t) after (filled (h .fragment) body slots) kept
-      ∙ holding-whole after (filled (h .fragment) body slots) (collecting .start .message) after-holds after-sound
-      (filled-length (h .fragment) body slots ∙ whole) all
-
-  -- The record after the put, by whether all is held.
-  abbrev putServer : Bool → Server
-  putServer all = withIncoming (unarmed s (putState all)) after
-
-  -- Not all is held: it goes on collecting.
-  collects : sound (putServer false) ≡ true → ServerInv (putServer false) (filled (h .fragment) body slots) starts dispatches replies
-  unfolding withIncoming unarmed putState choose isFresh isRunning
-  collects kept =
-      let called : isFresh (s .state) ≡ false = ap isFresh state in
-      let k = inv .called called in
-      record {
-        kept = kept;
-        activity = inv .activity;
-        boot = inv .boot;
-        slotted = stored-length (s .incoming) (h .fragment) (length body) (isLast (h .flags1)) ∙ inv .slotted;
-        dispatched = λ d m. (refl, inv .dispatched d m .1);
-        answered = λ r m. (refl, inv .answered r m .1);
-        called =
-            λ e.
-            record { start = k .start; started = k .started; number = k .number; mark = k .mark; typed = k .typed; small = k .small };
-        collecting =
-            λ e.
-            record {
-              start = collecting .start;
-              started = collecting .started;
-              number = collecting .number;
-              holding = after-holds;
-              first = collecting .first;
-            };
-        running = λ e. absurd (false≢true (ap isRunning e));
-        single = λ e. inv .single (ap unanswered state);
-        replying = λ e. absurd (false≢true e);
-      }
-
-  -- All is held: it is dispatched.
-  abbrev dispatch : List ℕ → Dispatched
-  dispatch bytes = record { number = h .number; bytes = bytes }
-
-  runs : (bytes : List ℕ) → sound (putServer true) ≡ true
-      → ServerInv (putServer true) (filled (h .fragment) body slots) starts (andThen dispatches (dispatch bytes)) replies
-  unfolding withIncoming unarmed putState choose isFresh isRunning
-  runs bytes kept =
-      let called : isFresh (s .state) ≡ false = ap isFresh state in
-      let k = inv .called called in
-      record {
-        kept = kept;
-        activity = inv .activity;
-        boot = inv .boot;
-        slotted = stored-length (s .incoming) (h .fragment) (length body) (isLast (h .flags1)) ∙ inv .slotted;
-        dispatched =
-            all-grown (λ (d : Dispatched). (false ≡ false) × (d .number ≤ s .number)) dispatches (dispatch bytes) (λ d m. (refl, inv .dispatched d m .1))
-            (refl, omega (arith, mine));
-        answered = λ r m. (refl, inv .answered r m .1);
-        called =
-            λ e.
-            record { start = k .start; started = k .started; number = k .number; mark = k .mark; typed = k .typed; small = k .small };
-        collecting = λ e. absurd (false≢true (sym (ap isRunning e)));
-        running = λ e. last-dispatched dispatches (dispatch bytes) ∙ sym mine;
-        single = λ e. inv .single (ap unanswered state);
-        replying = λ e. absurd (false≢true e);
-      }
-
-  -- The call's mark is that of its start,
-  call-mark : (t : Started) → In t starts → t .number ≡ h .number → t .idempotent ≡ s .call .idempotent
-  unfolding isFresh
-  call-mark t m e =
-      let k = inv .called (ap isFresh state) in
-      ap (λ (x : Started). x .idempotent) (calls .unique t (k .start) m (k .started) (e ∙ sym mine ∙ sym (k .number))) ∙ k .mark
-
-  -- so a number not marked idempotent is dispatched once,
-  dispatched-once : (bytes : List ℕ) (t : Started) → In t starts → t .idempotent ≡ false → times (t .number) (andThen dispatches (dispatch bytes)) ≤ 1
-  dispatched-once bytes t m mark = by-number (eqb (t .number) (h .number)) refl
-    where
-      by-number : (x : Bool) → eqb (t .number) (h .number) ≡ x → times (t .number) (andThen dispatches (dispatch bytes)) ≤ 1
-      by-number true e =
-          let same : t .number ≡ h .number = eqb-true (t .number) (h .number) e in
-          let none : times (t .number) dispatches ≡ 0 =
-          times-none dispatches (t .number)
-          (λ d k n. collecting .first (sym (call-mark t m same) ∙ mark) d k (n ∙ same ∙ sym mine)) in
-          let one = times-same dispatches (dispatch bytes) (t .number) same in
-          omega arith
-      by-number false e =
-          let other = times-other dispatches (dispatch bytes) (t .number) (eqb-false (t .number) (h .number) e) in
-          rw other (calls .once t m mark)
-
-  -- and the calls on record stay as they are known.
-  calls-dispatched : (bytes : List ℕ) → bytes ≡ collecting .start .message → CallInv starts (andThen dispatches (dispatch bytes)) replies
-  calls-dispatched bytes all = record {
-    unique = calls .unique;
-    once = dispatched-once bytes;
-    whole =
-        all-grown (λ (d : Dispatched). (t : Started) × (In t starts × ((t .number ≡ d .number) × (d .bytes ≡ t .message)))) dispatches (dispatch bytes)
-        (calls .whole) (collecting .start, (collecting .started, (collecting .number ∙ mine, all)));
-    rising = rises-on dispatches (dispatch bytes) (calls .rising) (λ d m. rw (← mine) (inv .dispatched d m .1));
-    alike = calls .alike;
-  }
-
-  -- Both ways the server and the calls are as they are known.
-  put-known : (all : Bool) → complete after ≡ all → sound (putServer all) ≡ true
-      → ServerInv (putServer all) (filled (h .fragment) body slots) starts
-      (dispatchesAfter dispatches (putNotice all) (h .number) (handsUp (putServer all) (filled (h .fragment) body slots))) replies
-      × CallInv starts (dispatchesAfter dispatches (putNotice all) (h .number) (handsUp (putServer all) (filled (h .fragment) body slots))) replies
-  unfolding putNotice dispatchesAfter choose withIncoming
-  put-known true e kept =
-      let bytes = handsUp (putServer true) (filled (h .fragment) body slots) in
-      (runs bytes kept, calls-dispatched bytes (handed-whole (putServer true) kept refl e))
-  put-known false e kept = (collects kept, calls)
-
--- A fack is no response, and does not speak of the record's call.
-fack-sends : (wanted : Bool) (serial : ℕ) → (answers (fackFor wanted serial) ≡ false) × (ofCall (fackFor wanted serial) ≡ false)
-unfolding fackFor choose
-fack-sends true serial = (refl, refl)
-fack-sends false serial = (refl, refl)
-
--- A world whose server put a request.
-put-inv : (w : World) → Inv w → (s : Server) → ServerInv s (w .serverSlots) (w .starts) (w .dispatches) (w .replies) → s .state ≡ Collect
-    → (h : Header) (body : List ℕ) → Request (w .starts) h body → s .number ≡ h .number → length (w .serverSlots) ≡ 44544 → length body ≤ 1392
-    → h .fragment < 32 → contradicts (s .incoming) (h .fragment) (isLast (h .flags1)) ≡ false → (out : List ℕ) → length out ≡ 1472
-    → Inv
-    (serverStep w (sending (requestPlan s (h .flags1) (h .serial) (h .fragment) (bodyLength body)) h [] out .outcome)
-    (sending (requestPlan s (h .flags1) (h .serial) (h .fragment) (bodyLength body)) h [] out .out)
-    (filled (h .fragment) body (w .serverSlots)) (h .number))
-unfolding requestPlan putPlan sending outcomeOf
-put-inv w inv s server state h body request mine whole short small fits out room =
-    subst
-    (λ (n : ℕ).
-    Inv
-    (serverStep w (sending (requestPlan s (h .flags1) (h .serial) (h .fragment) n) h [] out .outcome)
-    (sending (requestPlan s (h .flags1) (h .serial) (h .fragment) n) h [] out .out)
-    (filled (h .fragment) body (w .serverSlots)) (h .number)))
-    (sym (body-length body short))
-    (record {
-      client = inv .client;
-      server = known .0;
-      calls = known .1;
-      requests = inv .requests;
-      responses =
-          others-sent (w .serverSent) (Response (w .replies)) (putServer-of (complete m)) h out room (known .0 .activity) (request .sized .object)
-          (request .sized .interface) (inv .responses) (fackFor (wantsFack (h .flags1)) (h .serial)) [] (fack-sends (wantsFack (h .flags1)) (h .serial) .0)
-          (λ e. absurd (false≢true (sym (fack-sends (wantsFack (h .flags1)) (h .serial) .1) ∙ e)));
-    })
-  where
-    m : Incoming
-    m = stored (s .incoming) (h .fragment) (length body) (isLast (h .flags1))
-
-    putServer-of : Bool → Server
-    putServer-of all = withIncoming (unarmed s (putState all)) m
-
-    kept : sound (putServer-of (complete m)) ≡ true
-    kept =
-        unfold putPlan in
-        put-sound s (server .kept) m (h .flags1) (h .serial) state
-        (stored-sound (s .incoming) (h .fragment) (length body) (isLast (h .flags1)) (rules-told s (server .kept) .incoming) (omega arith) short fits)
-
-    known : ServerInv (putServer-of (complete m)) (filled (h .fragment) body (w .serverSlots)) (w .starts)
-        (dispatchesAfter (w .dispatches) (putNotice (complete m)) (h .number) (handsUp (putServer-of (complete m)) (filled (h .fragment) body (w .serverSlots)))) (w .replies)
-        × CallInv (w .starts)
-        (dispatchesAfter (w .dispatches) (putNotice (complete m)) (h .number) (handsUp (putServer-of (complete m)) (filled (h .fragment) body (w .serverSlots)))) (w .replies)
-    known =
-        put-known s (w .serverSlots) (w .starts) (w .dispatches) (w .replies) server (inv .calls) state h body request mine whole short small fits (complete m) refl kept
+use Rattle.history.proofs.Invariant.{unanswered, hasData, ServerInv, Inv}
+use Rattle.history.proofs.ServerSteps.{past, past-called, goes-on, rewinding-goes-on, spent-goes-on, stays-goes-on}
+use Rattle.history.proofs.ServerSends.{answers, ofCall, others-sent, planned}
+use Rattle.history.proofs.ServerPuts.{Begins, begun-inv, put-inv}
 
 -- The row of an arriving PDU that passed.
 module _ (w : World) (inv : Inv w) (h : Header) (body : List ℕ) (j : CanArrive (w .server) h) (whole : length (w .serverSlots) ≡ 44544)

@@ -20,14 +20,13 @@ use Rattle.server_record.specs.declared.Idle.the-variants.{Spent}
 use Rattle.server_record.specs.declared.Reply.{Reply}
 use Rattle.server_record.specs.declared.Reply.the-variants.{Data, Fault}
 use Rattle.server_record.specs.declared.State.{State}
-use Rattle.server_record.specs.declared.State.the-variants.{Idle as IdleState, Running, Replying, Held}
+use Rattle.server_record.specs.declared.State.the-variants.{Idle as IdleState, Running}
 use Rattle.server_record.specs.declared.Server.{Server}
-use Rattle.server_record.specs.States.{isFresh, isReplying, isHeld}
+use Rattle.server_record.specs.States.{isFresh}
 use Rattle.server_record.specs.Rules.{sound}
 use Rattle.server_record.specs.Record.{unarmed}
-use Rattle.server_record.proofs.StateLaws.{running-state, replying-state, HeldWith, held-state}
+use Rattle.server_record.proofs.StateLaws.{running-state, replying-state, held-state}
 use Rattle.server_steps.specs.declared.Send.the-variants.{Nothing, Fault as SendFault}
-use Rattle.server_steps.specs.declared.Plan.{Plan}
 use Rattle.server_steps.specs.Plan.{accepted, withOutgoing}
 use Rattle.server_steps.specs.Rows.{answered, replyPlan, settled, transmitted, transmitPlan, faultPlan, resendHeld, resendRow, timerRow, timerPlan}
 use Rattle.server_steps.proofs.StepLaws.{replied-sound, transmitted-sound, fault-sound, timer-sound}
@@ -37,13 +36,14 @@ use Rattle.server.proofs.Judging.{CanReply, reply-passes, transmit-passes, faul
 use Rattle.server.proofs.Accepting.{reply-accepted, transmit-accepted, fault-accepted, timer-accepted}
 use Rattle.history.specs.Lists.{In, andThen}
 use Rattle.history.specs.World.{Replied, World}
-use Rattle.history.specs.Steps.{isDone, lastDispatched, serverStep, replyStep}
+use Rattle.history.specs.Steps.{lastDispatched, serverStep, replyStep}
 use Rattle.history.specs.Fairness.{lastReplied}
 use Rattle.history.proofs.ListLaws.{in-before, in-added, in-grown, all-grown, last-replied}
 use Rattle.history.proofs.Holding.{Single}
-use Rattle.history.proofs.Network.{Response, Known, more-known}
-use Rattle.history.proofs.Invariant.{ClientHolds, nothing, fragments-of, ClientInv, CurrentReply, unanswered, hasData, ServerInv, CallInv, IsResponse, Inv}
-use Rattle.history.proofs.ServerSteps.{GoesOn, goes-on, answers, ofCall, others-sent, all-single, response-sent, settled-goes-on, transmitted-goes-on, resend-goes-on, transmitted-counts, planned}
+use Rattle.history.proofs.Network.{Response, more-known}
+use Rattle.history.proofs.Invariant.{ClientHolds, nothing, fragments-of, ClientInv, unanswered, hasData, ServerInv, IsResponse, Inv}
+use Rattle.history.proofs.ServerSteps.{goes-on, settled-goes-on, transmitted-goes-on, resend-goes-on}
+use Rattle.history.proofs.ServerSends.{answers, others-sent, all-single, response-sent, transmitted-counts, planned}
 
 -- Transmit.
 pub server-transmit-inv : (w : World) (message out : List ℕ) (number : ℕ) → Inv w → transmitting (w .server) message out .outcome .answer ≡ Done

@@ -1,11 +1,10 @@
 -- A start keeps what is known of the world.
 use Prim.Native.Nat.{ℕ, _+_, _≤_, _<_, _%_}
-use mathlib.Core.Bool.{Bool, true, false, false≢true, true≢false}
+use mathlib.Core.Bool.{Bool, true, false, false≢true}
 use mathlib.Core.List.{List}
 use mathlib.Core.Logic.{_⊎_, inl, inr}
 use mathlib.Core.Path.{_≡_, refl, sym, ap, subst, _∙_}
 use native.Mathlib.Omega.{arith}
-use lib.ListN.{length}
 use native.Mathlib.Decide.{decLt}
 use Rattle.words.specs.Choice.{choose, either}
 use Rattle.answers.specs.declared.Answer.the-variants.{Done}
@@ -13,7 +12,7 @@ use Rattle.answers.specs.declared.Ground.{Ground}
 use Rattle.answers.specs.declared.Ground.the-variants.{Pass}
 use Rattle.calls.specs.declared.Call.{Call}
 use Rattle.calls.specs.declared.Sent.the-variants.{Nothing as Unsent}
-use Rattle.fragments.specs.Judgement.{held, anyHeld}
+use Rattle.fragments.specs.Judgement.{held}
 use Rattle.fragments.proofs.PutLaws.{none-held}
 use Rattle.incoming.specs.Slots.{cleared}
 use Rattle.incoming.proofs.SlotLaws.{cleared-length}
@@ -21,23 +20,21 @@ use Rattle.outgoing.specs.Sending.{started as startedMessage, messageOf}
 use Rattle.pdu.specs.declared.Header.{Header}
 use Rattle.client_record.specs.declared.Client.{Client}
 use Rattle.client_record.specs.States.{isQueued}
-use Rattle.client_table.specs.Local.{startGround}
 use Rattle.client_steps.specs.Plan.{accepted}
 use Rattle.client_steps.specs.Rows.{nextNumber, started, startPlan}
 use Rattle.client_steps.proofs.StepLaws.{started-sound}
 use Rattle.client.specs.Machine.{outcomeOf, starting}
 use Rattle.client.proofs.Judging.{CanStart, start-passes}
 use Rattle.client.proofs.Accepting.{start-accepted}
-use Rattle.server_record.specs.declared.Server.{Server}
 use Rattle.history.specs.Lists.{In, andThen}
 use Rattle.history.specs.World.{Started, Dispatched, Replied, World}
-use Rattle.history.specs.Steps.{isDone, startStep}
-use Rattle.history.specs.Fairness.{Typed, FairStart}
+use Rattle.history.specs.Steps.{startStep}
+use Rattle.history.specs.Fairness.{FairStart}
 use Rattle.history.specs.Claim.{times}
 use Rattle.history.proofs.ListLaws.{in-before, in-added, in-grown, all-grown, last-started, times-none}
 use Rattle.history.proofs.Holding.{Empty}
-use Rattle.history.proofs.Network.{Request, Known, more-known}
-use Rattle.history.proofs.Invariant.{nothing, ClientInv, CalledStart, Collecting, ServerInv, CallInv, IsRequest, Inv}
+use Rattle.history.proofs.Network.{Request, more-known}
+use Rattle.history.proofs.Invariant.{nothing, ClientInv, ServerInv, CallInv, IsRequest, Inv}
 
 -- After a start nothing is held.
 pub cleared-none : Empty cleared

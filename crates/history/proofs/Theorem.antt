@@ -1,5 +1,5 @@
 -- The theorem over every list of events.
-use Prim.Native.Nat.{ℕ, zero, suc, _*_, _<_, _≤_}
+use Prim.Native.Nat.{ℕ, zero, suc, _*_, _≤_}
 use mathlib.Core.Bool.{Bool, true, false, false≢true}
 use mathlib.Core.List.{List, [], _++_, append-assoc}
 use mathlib.Core.Logic.{_⊎_, inl, inr}
@@ -8,7 +8,7 @@ use native.Mathlib.Omega.{arith}
 use borrow.Author.Tests.{leb-true}
 use Rattle.words.specs.Choice.{either}
 use Rattle.words.proofs.Tests.{both-true}
-use lib.ListN.{length, take, drop, take-append-drop}
+use lib.ListN.{drop, take-append-drop}
 use Rattle.fragments.specs.Judgement.{held}
 use Rattle.fragments.specs.Joined.{handedBelow, joined, Leads}
 use Rattle.fragments.proofs.BufferLaws.{joined-front}

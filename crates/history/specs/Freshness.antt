@@ -1,7 +1,7 @@
 -- Fresh: QUEUED or IDLE fresh, no number, counts 0, nothing held or armed, any ticket counter.
-use Prim.Native.Nat.{ℕ, _<_}
+use Prim.Native.Nat.{_<_}
 use mathlib.Core.Bool.{false}
-use mathlib.Core.List.{List, []}
+use mathlib.Core.List.{[]}
 use mathlib.Core.Path.{_≡_}
 use lib.ListN.{length}
 use Rattle.fragments.specs.Judgement.{anyHeld}

@@ -18,7 +18,7 @@ use Rattle.server.specs.declared.Outcome.{Outcome as ServerOutcome}
 use Rattle.server.specs.Machine.{replying, transmitting as serverTransmitting, timing as serverTiming, faulting, arriving as serverArriving}
 use Rattle.server.specs.HandUp.{handsUp}
 use Rattle.history.specs.Lists.{andThen}
-use Rattle.history.specs.World.{Started, Dispatched, Replied, World}
+use Rattle.history.specs.World.{Dispatched, World}
 use Rattle.history.specs.Events.{Lent, Own, Other, Event, Start, ClientTransmit, ClientArrive, ClientTimer, ServerArrive, ServerTransmit, ServerTimer, Reply, Fault}
 
 -- The answer is 0.

@@ -1,0 +1,243 @@
+-- An arriving PDU keeps what is known of the world: the client puts only fragments of one reply.
+use Prim.Native.Nat.{ℕ, _≤_, _<_}
+use mathlib.Core.Bool.{Bool, true, false, false≢true}
+use mathlib.Core.List.{List, []}
+use mathlib.Core.Logic.{_⊎_, inl, inr}
+use mathlib.Core.Path.{_≡_, refl, sym, ap, subst, _∙_}
+use native.Mathlib.Omega.{arith}
+use lib.Dec.{ltb}
+use lib.ListN.{length}
+use Rattle.words.specs.Choice.{choose}
+use Rattle.answers.specs.declared.Answer.the-variants.{Done}
+use Rattle.answers.specs.declared.Ground.{Ground}
+use Rattle.bodies.specs.Status.{statusReading}
+use Rattle.calls.specs.declared.Notice.the-variants.{Nothing as Untold, Fault as FaultNotice, Reject as RejectNotice, Cause}
+use Rattle.flags.specs.Flags.{idempotent}
+use Rattle.fragments.specs.Judgement.{held, contradicts}
+use Rattle.fragments.specs.Slots.{filled, storing}
+use Rattle.fragments.proofs.PutLaws.{stored-length, filled-length}
+use Rattle.incoming.specs.declared.Incoming.{Incoming}
+use Rattle.incoming.specs.Slots.{complete, stored, sound as incomingSound}
+use Rattle.pdu.specs.declared.Header.{Header}
+use Rattle.pdu.specs.Header.{datagram, bodyOf}
+use Rattle.reader.specs.Reading.{reading}
+use Rattle.writer.proofs.RoundTrip.{body-short}
+use Rattle.grounds.specs.Entry.{lentGround}
+use Rattle.grounds.specs.Fragment.{isLast, wantsFack, bodyLength}
+use Rattle.grounds.proofs.GroundLaws.{lent-passes, fragment-passes, put-passes, body-length}
+use Rattle.client_record.specs.declared.Client.{Client}
+use Rattle.client_record.specs.States.{isQueued, isActive, isDispatched}
+use Rattle.client_record.specs.Rules.{sound}
+use Rattle.client_record.specs.Record.{waiting, ackPending, unarmed}
+use Rattle.client_record.proofs.StateLaws.{dispatched-state, active-state}
+use Rattle.client_record.proofs.RuleLaws.{rules-told}
+use Rattle.client_table.specs.declared.Event.{Event}
+use Rattle.client_table.specs.declared.Event.the-variants.{Response as ResponseEvent, Fault, Reject, Working, Nocall, Fack as FackEvent, Foreign}
+use Rattle.client_table.specs.Events.{eventOf, byEvent, hasRow}
+use Rattle.client_steps.specs.declared.Send.the-variants.{Nothing}
+use Rattle.client_steps.specs.Plan.{refused, accepted, failed}
+use Rattle.client_arrivals.specs.Rows.{fackPlan, putRecord, withIncoming, fackFor, putPlan, responsePlan, workingPlan, resent, nocallPlan}
+use Rattle.client_arrivals.specs.Table.{arrivalRow, arrivalPlan}
+use Rattle.client_arrivals.proofs.ArrivalLaws.{nocall-puts-none}
+use Rattle.client.specs.Machine.{sending, planOf, acted, arriving}
+use Rattle.client.proofs.Judging.{CanArrive, arrival-passes}
+use Rattle.client.proofs.Accepting.{arrive-accepted}
+use Rattle.client.proofs.Keeping.{row-sound}
+use Rattle.history.specs.Lists.{In}
+use Rattle.history.specs.World.{Replied, World}
+use Rattle.history.specs.Steps.{clientStep}
+use Rattle.history.specs.Claim.{toldLast}
+use Rattle.history.proofs.Holding.{PartOf, Holding, Single, empty-holding, put-holding, other-empty}
+use Rattle.history.proofs.Network.{Request, Response}
+use Rattle.history.proofs.Invariant.{ClientHolds, nothing, fragments-of, ClientInv, Inv}
+use Rattle.history.proofs.ClientSteps.{GoesOn, goes-on, failed-goes-on, fack-goes-on, working-goes-on, nocall-goes-on}
+use Rattle.history.proofs.ClientSends.{asks, others-sent, planned}
+
+-- The client's holdings after a response that passed 16 and 17: fragments of one reply.
+module _ (number : ℕ) (m : Incoming) (slots : List ℕ) (replies : List Replied) (flags1 f : ℕ) (body : List ℕ)
+    (kept : incomingSound m ≡ true) (long : length (m .slots) ≡ 32) (whole : length slots ≡ 44544)
+    (alike : (r t : Replied) → In r replies → In t replies → r .number ≡ t .number → (r ≡ t) ⊎ (Single (r .message) ⊎ Single (t .message)))
+    (r : Replied) (given : In r replies) (mine : r .number ≡ number) (part : PartOf (r .message) flags1 f body)
+    (small : f < 32) (new : held m f ≡ false) (fits : contradicts m f (isLast flags1) ≡ false) where
+  -- What was held is of that reply,
+  same-reply : ClientHolds number m slots replies → Holding m slots (r .message)
+  same-reply (nothing e) = empty-holding m slots (r .message) e
+  same-reply (fragments-of t m′ n z h) = by-replies (alike t r m′ given (n ∙ sym mine))
+    where
+      by-replies : (t ≡ r) ⊎ (Single (t .message) ⊎ Single (r .message)) → Holding m slots (r .message)
+      by-replies (inl same) = subst (λ (x : Replied). Holding m slots (x .message)) same h
+      by-replies (inr one) =
+          empty-holding m slots (r .message) (other-empty m slots (t .message) (r .message) flags1 f body h part new fits one)
+
+  -- and so it is after the put.
+  put-holds : ClientHolds number m slots replies → ClientHolds number (stored m f (length body) (isLast flags1)) (filled f body slots) replies
+  put-holds h =
+      fragments-of r given mine (filled-length f body slots ∙ whole)
+      (put-holding m slots (r .message) flags1 f body (same-reply h) kept long whole part small)
+
+-- The state after a response: "last" is told exactly where all is held.
+put-told : (all idempotent : Bool) (c : Client) (m : Incoming) → toldLast (withIncoming (putRecord all idempotent c) m .state) ≡ true → all ≡ true
+unfolding withIncoming putRecord waiting ackPending unarmed choose
+put-told true idempotent c m e = refl
+put-told false idempotent c m e = absurd (false≢true e)
+
+put-started : (all idempotent : Bool) (c : Client) (m : Incoming) → isQueued (withIncoming (putRecord all idempotent c) m .state) ≡ false
+unfolding withIncoming putRecord waiting ackPending unarmed choose isQueued
+put-started true true c m = refl
+put-started true false c m = refl
+put-started false idempotent c m = refl
+
+-- The rest of the record stays.
+pub record SameCall (c d : Client) : Type 0 where
+  pub activity : d .activity ≡ c .activity
+  pub number : d .number ≡ c .number
+  pub call : d .call ≡ c .call
+  pub size : d .outgoing .length ≡ c .outgoing .length
+
+put-same : (all idempotent : Bool) (c : Client) (m : Incoming) → SameCall c (withIncoming (putRecord all idempotent c) m)
+unfolding withIncoming putRecord waiting ackPending unarmed choose
+put-same true true c m = record { activity = refl; number = refl; call = refl; size = refl }
+put-same true false c m = record { activity = refl; number = refl; call = refl; size = refl }
+put-same false idempotent c m = record { activity = refl; number = refl; call = refl; size = refl }
+
+-- The row of an arriving PDU that passed: what is known of the client stays known.
+module _ (w : World) (inv : Inv w) (h : Header) (body : List ℕ) (status : ℕ) (kept : sound (w .client) ≡ true) (whole : length (w .clientSlots) ≡ 44544)
+    (short : length body ≤ 1392) (known : eventOf (h .kind) ≡ ResponseEvent → Response (w .replies) h body) where
+  -- A response is put,
+  response-inv : CanArrive ResponseEvent (w .client) h (bodyLength body) → eventOf (h .kind) ≡ ResponseEvent
+      → ClientInv (responsePlan (w .client) (h .flags1) (h .serial) (h .fragment) (bodyLength body) .client) (filled (h .fragment) body (w .clientSlots)) (w .starts)
+      (w .replies)
+  unfolding responsePlan putPlan byEvent hasRow withIncoming arrivalRow
+  response-inv j e =
+      let c = w .client in
+      let m = stored (c .incoming) (h .fragment) (bodyLength body) (isLast (h .flags1)) in
+      let begun = active-state (c .state) (j .row) in
+      let same = put-same (complete m) (c .call .idempotent) c m in
+      let now = inv .client .current begun in
+      let from = known e in
+      let number = fragment-passes (h .flags1) (h .fragment) (j .number) in
+      let new = put-passes (c .incoming) (h .fragment) (isLast (h .flags1)) (j .fits) in
+      record {
+        kept = row-sound c h (bodyLength body) status kept (omega arith) ResponseEvent j;
+        activity = rw (same .activity) (inv .client .activity);
+        slotted = stored-length (c .incoming) (h .fragment) (bodyLength body) (isLast (h .flags1)) ∙ inv .client .slotted;
+        begun = λ s k. (put-started (complete m) (c .call .idempotent) c m, rw (same .number) (inv .client .begun s k .1));
+        current =
+            λ q.
+            record {
+              start = now .start;
+              started = now .started;
+              number = rw (same .number) (now .number);
+              mark = rw (same .call) (now .mark);
+              message = now .message;
+              size = rw (same .size) (now .size);
+              typed = rw (same .call) (now .typed);
+              small = rw (same .number) (now .small);
+            };
+        holds =
+            rw (same .number, body-length body short)
+            (put-holds (c .number) (c .incoming) (w .clientSlots) (w .replies) (h .flags1) (h .fragment) body (rules-told c kept .incoming)
+            (inv .client .slotted) whole (inv .calls .alike) (from .reply) (from .given) (from .number ∙ sym (j .mine)) (from .part) (omega arith) (new .0) (new .1)
+            (inv .client .holds));
+        told = put-told (complete m) (c .call .idempotent) c m;
+      }
+
+  other : (event : Event) → CanArrive event (w .client) h (bodyLength body) → isQueued (w .client .state) ≡ false
+      → GoesOn (w .client) (arrivalRow event (w .client) h (bodyLength body) status .client)
+      → ClientInv (arrivalRow event (w .client) h (bodyLength body) status .client) (w .clientSlots) (w .starts) (w .replies)
+  other event j begun g =
+      goes-on (w .client) (arrivalRow event (w .client) h (bodyLength body) status .client) (w .clientSlots) (w .starts) (w .replies) (inv .client) begun
+      (row-sound (w .client) h (bodyLength body) status kept (omega arith) event j) g
+
+  -- and every other row goes on with the call.
+  row-inv : (event : Event) → CanArrive event (w .client) h (bodyLength body) → eventOf (h .kind) ≡ event
+      → ClientInv (arrivalRow event (w .client) h (bodyLength body) status .client)
+      (storing (arrivalRow event (w .client) h (bodyLength body) status .put) (h .fragment) body (w .clientSlots)) (w .starts) (w .replies)
+  unfolding arrivalRow failed accepted fackPlan workingPlan responsePlan putPlan storing choose hasRow isQueued
+  row-inv ResponseEvent j e = response-inv j e
+  row-inv Fault j e = other Fault j (active-state (w .client .state) (j .row)) (failed-goes-on (w .client) (FaultNotice status))
+  row-inv Reject j e = other Reject j (active-state (w .client .state) (j .row)) (failed-goes-on (w .client) (RejectNotice status))
+  row-inv Working j e = other Working j (ap isQueued (dispatched-state (w .client .state) (j .row))) (working-goes-on (w .client))
+  row-inv Nocall j e =
+      subst
+      (λ (put : Bool). ClientInv (nocallPlan (w .client) .client) (storing put (h .fragment) body (w .clientSlots)) (w .starts) (w .replies))
+      (sym (nocall-puts-none (w .client)))
+      (other Nocall j (ap isQueued (dispatched-state (w .client .state) (j .row))) (nocall-goes-on (w .client)))
+  row-inv FackEvent j e = other FackEvent j (active-state (w .client .state) (j .row)) (fack-goes-on (w .client) (h .fragment) (active-state (w .client .state) (j .row)))
+  row-inv Foreign j e = absurd (false≢true (j .row))
+
+-- No row of an arriving PDU sends a request.
+fack-asks-none : (wanted : Bool) (serial : ℕ) → asks (fackFor wanted serial) ≡ false
+unfolding fackFor choose
+fack-asks-none true serial = refl
+fack-asks-none false serial = refl
+
+row-asks-none : (event : Event) (c : Client) (h : Header) (n status : ℕ) → asks (arrivalRow event c h n status .send) ≡ false
+unfolding arrivalRow responsePlan putPlan failed accepted workingPlan nocallPlan fackPlan refused choose
+row-asks-none ResponseEvent c h n status = fack-asks-none (wantsFack (h .flags1)) (h .serial)
+row-asks-none Fault c h n status = refl
+row-asks-none Reject c h n status = refl
+row-asks-none Working c h n status = refl
+row-asks-none Nocall c h n status = by-count (ltb (c .resends) 5)
+  where
+    by-count : (t : Bool) → asks (choose t (accepted (resent c) Nothing Untold) (failed c (Cause 2)) .send) ≡ false
+    by-count true = refl
+    by-count false = refl
+row-asks-none FackEvent c h n status = refl
+row-asks-none Foreign c h n status = refl
+
+-- A client that has a number has a call that was started.
+arrived-started : (event : Event) (c : Client) → hasRow event (isActive (c .state)) (isDispatched (c .state)) ≡ true → isQueued (c .state) ≡ false
+unfolding hasRow isQueued
+arrived-started ResponseEvent c e = active-state (c .state) e
+arrived-started Fault c e = active-state (c .state) e
+arrived-started Reject c e = active-state (c .state) e
+arrived-started Working c e = ap isQueued (dispatched-state (c .state) e)
+arrived-started Nocall c e = ap isQueued (dispatched-state (c .state) e)
+arrived-started FackEvent c e = active-state (c .state) e
+arrived-started Foreign c e = absurd (false≢true e)
+
+-- It still has one after the row.
+still : (event : Event) (c : Client) (h : Header) (n status : ℕ) → isQueued (c .state) ≡ false → isQueued (arrivalRow event c h n status .client .state) ≡ false
+unfolding arrivalRow responsePlan putPlan refused
+still ResponseEvent c h n status e =
+    let m = stored (c .incoming) (h .fragment) n (isLast (h .flags1)) in put-started (complete m) (c .call .idempotent) c m
+still Fault c h n status e = failed-goes-on c (FaultNotice status) .started
+still Reject c h n status e = failed-goes-on c (RejectNotice status) .started
+still Working c h n status e = working-goes-on c .started
+still Nocall c h n status e = nocall-goes-on c .started
+still FackEvent c h n status e = fack-goes-on c (h .fragment) e .started
+still Foreign c h n status e = e
+
+-- An arriving datagram keeps what is known of the world, where the server sent it and the buffer lent is the client's own.
+pub client-arrive-inv : (w : World) (datagram out : List ℕ) → Inv w → arriving (w .client) datagram (w .clientSlots) out .outcome .answer ≡ Done
+    → In datagram (w .serverSent)
+    → Inv
+    (clientStep w (arriving (w .client) datagram (w .clientSlots) out .outcome) (arriving (w .client) datagram (w .clientSlots) out .out)
+    (arriving (w .client) datagram (w .clientSlots) out .slots))
+unfolding arriving acted planOf arrivalPlan
+client-arrive-inv w datagram out inv done sent =
+    let c = w .client in
+    let lent = lentGround (length (w .clientSlots)) (length out) in
+    let r = reading datagram in
+    let body = bodyOf datagram in
+    let status = statusReading (r .little) body .status in
+    let n = bodyLength body in
+    let pass = arrive-accepted c datagram (w .clientSlots) out done in
+    let j = arrival-passes c lent r body pass in
+    let buffers = lent-passes (length (w .clientSlots)) (length out) (j .0 .buffers) in
+    let event = eventOf (r .header .kind) in
+    let next = row-inv w inv (r .header) body status (j .0 .kept) (buffers .0) (body-short datagram (j .0 .done))
+    (inv .responses datagram sent .told (j .0 .done)) event (j .1) refl in
+    let begun = arrived-started event c (j .1 .row) in
+    subst
+    (λ (x : Ground).
+    Inv
+    (clientStep w (sending (arrivalPlan x c (r .header) n status) [] out .outcome) (sending (arrivalPlan x c (r .header) n status) [] out .out)
+    (storing (arrivalPlan x c (r .header) n status .put) (r .header .fragment) body (w .clientSlots))))
+    (sym pass)
+    (planned w (arrivalRow event c (r .header) n status) [] out
+    (storing (arrivalRow event c (r .header) n status .put) (r .header .fragment) body (w .clientSlots)) inv next
+    (others-sent (w .clientSent) (Request (w .starts)) (arrivalRow event c (r .header) n status .client) out (buffers .1) (next .activity)
+    (next .current (still event c (r .header) n status begun) .typed) (inv .requests) (arrivalRow event c (r .header) n status .send) []
+    (row-asks-none event c (r .header) n status)))
