@@ -5,8 +5,7 @@ use mathlib.Core.List.{List, [], _++_, append-assoc}
 use mathlib.Core.Logic.{_⊎_, inl, inr}
 use mathlib.Core.Path.{_≡_, refl, sym, ap, subst, _∙_}
 use native.Mathlib.Omega.{arith}
-use borrow.Author.Tests.{leb-true}
-use Rattle.words.specs.Choice.{either}
+use borrow.Author.Tests.{eq-eqb}
 use Rattle.words.proofs.Tests.{both-true}
 use lib.ListN.{drop, take-append-drop}
 use Rattle.fragments.specs.Judgement.{held}
@@ -18,7 +17,8 @@ use Rattle.incoming.specs.Slots.{missing, allTo, contiguous, complete}
 use Rattle.incoming.proofs.SlotLaws.{count-held}
 use Rattle.timers.specs.declared.Timer.{Timer}
 use Rattle.timers.specs.declared.Timer.the-variants.{Off, Armed}
-use Rattle.timers.specs.Tickets.{off, sound as ticketSound, timerSound}
+use Rattle.timers.specs.Tickets.{armedWith, timerSound}
+use Rattle.timers.proofs.TimerLaws.{armed-most}
 use Rattle.client_record.specs.declared.State.{State}
 use Rattle.client_record.specs.declared.State.the-variants.{Queued, SendFrags, Dispatched as DispatchedState, ReceiveFrags, AckPending, Complete, Fault}
 use Rattle.client_record.specs.States.{isWaiting, isAckPending}
@@ -133,27 +133,28 @@ module _ (w : World) (inv : Inv w) where
       by-state Complete e f = complete-unarmed (w .client) (inv .client .kept) e
       by-state Fault e f = fault-unarmed (w .client) (inv .client .kept) e
 
--- An armed ticket is at most the counter.
-sound-most : (named : Bool) (timer : Timer) (tickets ticket : ℕ) → timerSound named timer tickets ≡ true → timer ≡ Armed ticket → ticket ≤ tickets
-unfolding timerSound ticketSound
-sound-most named timer tickets ticket kept e =
-    leb-true ticket tickets (subst (λ (t : Timer). ticketSound t tickets ≡ true) e (both-true (either named (off timer)) (ticketSound timer tickets) kept .1))
+-- An armed ticket is at most the counter: that of a timer,
+ticket-most : (named : Bool) (timer : Timer) (tickets ticket : ℕ) → timerSound named timer tickets ≡ true → timer ≡ Armed ticket → ticket ≤ tickets
+unfolding armedWith
+ticket-most named timer tickets ticket kept e =
+    armed-most named timer ticket tickets kept (ap (λ (t : Timer). armedWith t ticket) e ∙ eq-eqb ticket ticket refl)
 
-armed-most : (w : World) → Inv w → (timer : TimerOf) (ticket : ℕ) → timerIn w timer ≡ Armed ticket → ticket ≤ counterOf w timer
+-- and so of each timer of the world.
+armed-in-most : (w : World) → Inv w → (timer : TimerOf) (ticket : ℕ) → timerIn w timer ≡ Armed ticket → ticket ≤ counterOf w timer
 unfolding timerIn timersSound
-armed-most w inv (OfClient Wait) ticket e =
-    sound-most (isWaiting (w .client .state)) (w .client .wait) (w .client .tickets) ticket (both-true _ _ (rules-told (w .client) (inv .client .kept) .timers) .0) e
-armed-most w inv (OfClient Ack) ticket e =
-    sound-most (isAckPending (w .client .state)) (w .client .ack) (w .client .tickets) ticket (both-true _ _ (rules-told (w .client) (inv .client .kept) .timers) .1) e
-armed-most w inv OfServer ticket e =
-    sound-most (isHeld (w .server .state)) (w .server .resend) (w .server .tickets) ticket (server-rules-told (w .server) (inv .server .kept) .timer) e
+armed-in-most w inv (OfClient Wait) ticket e =
+    ticket-most (isWaiting (w .client .state)) (w .client .wait) (w .client .tickets) ticket (both-true _ _ (rules-told (w .client) (inv .client .kept) .timers) .0) e
+armed-in-most w inv (OfClient Ack) ticket e =
+    ticket-most (isAckPending (w .client .state)) (w .client .ack) (w .client .tickets) ticket (both-true _ _ (rules-told (w .client) (inv .client .kept) .timers) .1) e
+armed-in-most w inv OfServer ticket e =
+    ticket-most (isHeld (w .server .state)) (w .server .resend) (w .server .tickets) ticket (server-rules-told (w .server) (inv .server .kept) .timer) e
 
 -- A ticket that was armed and is no longer never is again.
 gone-tickets : (w : World) (events : List Event) → Inv w → Fair w events → GoneTickets w events
 unfolding GoneTickets
 gone-tickets w events inv fair before between after split timer ticket armed gone now =
     let earlier = run-inv w before inv (fair-append w before (between ++ after) (subst (Fair w) split fair) .0) in
-    let most = armed-most (run w before) earlier timer ticket armed in
+    let most = armed-in-most (run w before) earlier timer ticket armed in
     let counts = run-counts (run w before) between timer in
     let middle : run w (before ++ between) ≡ run (run w before) between = run-append w before between in
     let end : run w events ≡ run (run w (before ++ between)) after =
