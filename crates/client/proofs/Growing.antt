@@ -14,7 +14,8 @@ use Rattle.calls.specs.declared.Call.{Call}
 use Rattle.calls.specs.declared.Notice.the-variants.{Fault as FaultNotice, Reject as RejectNotice}
 use Rattle.incoming.specs.Slots.{stored}
 use Rattle.fragments.specs.Slots.{filled, storing}
-use Rattle.fragments.specs.Joined.{joined, Leads}
+use Rattle.fragments.specs.Joined.{Leads}
+use Rattle.fragments.proofs.BufferLaws.{joined}
 use Rattle.fragments.proofs.PutLaws.{leads-refl, put-grows}
 use Rattle.fragments.proofs.PartLaws.{parts-joined, parts-none}
 use Rattle.outgoing.specs.Sending.{sendsLast}

@@ -30,7 +30,7 @@ use Rattle.server_record.specs.Rules.{outgoingSound as serverOutgoing, idleRule
 use Rattle.server_record.proofs.RuleLaws.{rules-hold as server-rules}
 use Rattle.history.specs.Lists.{In}
 use Rattle.history.specs.World.{Started, Dispatched, Replied, World}
-use Rattle.history.specs.Claim.{toldLast, NeverFall}
+use Rattle.history.specs.Claim.{NeverFall}
 use Rattle.history.specs.Freshness.{NothingHeld, NothingSent, FreshClient, FreshServer, Fresh}
 use Rattle.history.proofs.Holding.{Empty}
 use Rattle.history.proofs.Invariant.{nothing, ClientInv, unanswered, hasData, ServerInv, CallInv, Inv}
@@ -79,7 +79,6 @@ client-fresh c slots starts replies f none = record {
   begun = λ s m. absurd (subst (In s) none m);
   current = λ e. absurd (false≢true (sym e ∙ ap isQueued (f .state)));
   holds = nothing (held-empty (c .incoming) (f .incoming));
-  told = λ e. absurd (false≢true (sym (ap toldLast (f .state)) ∙ e));
 }
 
 -- a fresh server
@@ -117,6 +116,7 @@ calls-fresh starts dispatches replies s d r = record {
   once = λ a m. absurd (subst (In a) s m);
   whole = λ a m. absurd (subst (In a) d m);
   rising = subst NeverFall (sym d) tt;
+  replied = λ a m. absurd (subst (In a) r m);
   alike = λ a b m. absurd (subst (In a) r m);
 }
 
@@ -128,4 +128,5 @@ fresh-inv w f = record {
   calls = calls-fresh (w .starts) (w .dispatches) (w .replies) (f .starts) (f .dispatches) (f .replies);
   requests = λ d m. absurd (subst (In d) (f .clientSent) m);
   responses = λ d m. absurd (subst (In d) (f .serverSent) m);
+  completed = λ c m. absurd (subst (In c) (f .completions) m);
 }

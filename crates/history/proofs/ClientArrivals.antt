@@ -17,7 +17,7 @@ use Rattle.fragments.specs.Judgement.{held, contradicts}
 use Rattle.fragments.specs.Slots.{filled, storing}
 use Rattle.fragments.proofs.PutLaws.{stored-length, filled-length}
 use Rattle.incoming.specs.declared.Incoming.{Incoming}
-use Rattle.incoming.specs.Slots.{complete, stored, sound as incomingSound}
+use Rattle.incoming.specs.Slots.{allTo, contiguous, complete, stored, sound as incomingSound}
 use Rattle.pdu.specs.declared.Header.{Header}
 use Rattle.pdu.specs.Header.{datagram, bodyOf}
 use Rattle.reader.specs.Reading.{reading}
@@ -36,7 +36,7 @@ use Rattle.client_table.specs.declared.Event.the-variants.{Response as Response
 use Rattle.client_table.specs.Events.{eventOf, byEvent, hasRow}
 use Rattle.client_steps.specs.declared.Send.the-variants.{Nothing}
 use Rattle.client_steps.specs.Plan.{refused, accepted, failed}
-use Rattle.client_arrivals.specs.Rows.{fackPlan, putRecord, withIncoming, fackFor, putPlan, responsePlan, workingPlan, resent, nocallPlan}
+use Rattle.client_arrivals.specs.Rows.{putNotice, fackPlan, putRecord, withIncoming, fackFor, putPlan, responsePlan, workingPlan, resent, nocallPlan}
 use Rattle.client_arrivals.specs.Table.{arrivalRow, arrivalPlan}
 use Rattle.client_arrivals.proofs.ArrivalLaws.{nocall-puts-none}
 use Rattle.client.specs.Machine.{sending, planOf, acted, arriving}
@@ -44,14 +44,19 @@ use Rattle.client.proofs.Judging.{CanArrive, arrival-passes}
 use Rattle.client.proofs.Accepting.{arrive-accepted}
 use Rattle.client.proofs.Keeping.{row-sound}
 use Rattle.history.specs.Lists.{In}
-use Rattle.history.specs.World.{Replied, World}
-use Rattle.history.specs.Steps.{clientStep}
-use Rattle.history.specs.Claim.{toldLast}
-use Rattle.history.proofs.Holding.{PartOf, Holding, Single, empty-holding, put-holding, other-empty}
+use Rattle.history.specs.World.{Started, Completed, Replied, World}
+use Rattle.history.specs.Steps.{completionsAfter}
+use Rattle.history.specs.Claim.{WholeReply}
+use Rattle.history.proofs.Holding.{PartOf, Empty, holding-whole, Holding, Single, empty-holding, put-holding, other-empty}
 use Rattle.history.proofs.Network.{Request, Response}
-use Rattle.history.proofs.Invariant.{ClientHolds, nothing, fragments-of, ClientInv, Inv}
+use Rattle.history.proofs.Invariant.{ClientHolds, nothing, fragments-of, ClientInv, Inv, clientStep}
 use Rattle.history.proofs.ClientSteps.{GoesOn, goes-on, failed-goes-on, fack-goes-on, working-goes-on, nocall-goes-on}
-use Rattle.history.proofs.ClientSends.{asks, others-sent, planned}
+use Rattle.history.proofs.ClientSends.{asks, others-sent, planned, none-told}
+use Rattle.history.proofs.ListLaws.{tellsLast, completed-more}
+use Rattle.client.specs.HandUp.{handsUp}
+use Rattle.client.proofs.Growing.{hands-joined}
+use Rattle.incoming.specs.declared.Last.{Last}
+use Rattle.calls.specs.declared.Notice.{Notice}
 
 -- The client's holdings after a response that passed 16 and 17: fragments of one reply.
 module _ (number : ℕ) (m : Incoming) (slots : List ℕ) (replies : List Replied) (flags1 f : ℕ) (body : List ℕ)
@@ -75,12 +80,48 @@ module _ (number : ℕ) (m : Incoming) (slots : List ℕ) (replies : List Replie
       fragments-of r given mine (filled-length f body slots ∙ whole)
       (put-holding m slots (r .message) flags1 f body (same-reply h) kept long whole part small)
 
--- The state after a response: "last" is told exactly where all is held.
-put-told : (all idempotent : Bool) (c : Client) (m : Incoming) → toldLast (withIncoming (putRecord all idempotent c) m .state) ≡ true → all ≡ true
-unfolding withIncoming putRecord waiting ackPending unarmed choose
-put-told true idempotent c m e = refl
-put-told false idempotent c m e = absurd (false≢true e)
+-- Where nothing is held, not all is.
+empty-unfinished : (m : Incoming) → Empty m → complete m ≡ false
+unfolding complete
+empty-unfinished m e = ap (λ (l : Last). allTo l (contiguous m)) (e .last)
 
+-- Where all is held, what is handed up is the whole of one reply,
+whole-handed : (c : Client) (slots : List ℕ) (starts : List Started) (replies : List Replied) → ClientInv c slots starts replies → complete (c .incoming) ≡ true
+    → WholeReply replies (record { number = c .number; bytes = handsUp c slots })
+whole-handed c slots starts replies inv all = by-holds (inv .holds)
+  where
+    by-holds : ClientHolds (c .number) (c .incoming) slots replies → WholeReply replies (record { number = c .number; bytes = handsUp c slots })
+    by-holds (nothing e) = absurd (false≢true (sym (empty-unfinished (c .incoming) e) ∙ all))
+    by-holds (fragments-of r m n whole h) =
+        record {
+          reply = r;
+          given = m;
+          number = n;
+          whole =
+              hands-joined c slots (inv .kept)
+              ∙ holding-whole (c .incoming) slots (r .message) h (rules-told c (inv .kept) .incoming) whole all;
+        }
+
+-- so it is where "last" is told of such a record.
+completed-known : (w : World) → Inv w → (c : Client) (slots : List ℕ) → ClientInv c slots (w .starts) (w .replies) → (notice : Notice)
+    → (tellsLast notice ≡ true → complete (c .incoming) ≡ true) → (x : Completed)
+    → In x (completionsAfter (w .completions) notice (c .number) (handsUp c slots)) → WholeReply (w .replies) x
+completed-known w inv c slots next notice all = by-notice (tellsLast notice) refl
+  where
+    by-notice : (t : Bool) → tellsLast notice ≡ t → (x : Completed) → In x (completionsAfter (w .completions) notice (c .number) (handsUp c slots))
+        → WholeReply (w .replies) x
+    by-notice true e =
+        completed-more (WholeReply (w .replies)) (w .completions) notice (c .number) (handsUp c slots) (inv .completed)
+        (whole-handed c slots (w .starts) (w .replies) next (all e))
+    by-notice false e = none-told w inv notice (c .number) (handsUp c slots) e
+
+-- A response tells "last" where all is held.
+notice-told : (all : Bool) (count : ℕ) → tellsLast (putNotice all count) ≡ true → all ≡ true
+unfolding putNotice choose
+notice-told true count e = refl
+notice-told false count e = absurd (false≢true e)
+
+-- After a response the call was started.
 put-started : (all idempotent : Bool) (c : Client) (m : Incoming) → isQueued (withIncoming (putRecord all idempotent c) m .state) ≡ false
 unfolding withIncoming putRecord waiting ackPending unarmed choose isQueued
 put-started true true c m = refl
@@ -139,7 +180,6 @@ module _ (w : World) (inv : Inv w) (h : Header) (body : List ℕ) (status : ℕ)
             (put-holds (c .number) (c .incoming) (w .clientSlots) (w .replies) (h .flags1) (h .fragment) body (rules-told c kept .incoming)
             (inv .client .slotted) whole (inv .calls .alike) (from .reply) (from .given) (from .number ∙ sym (j .mine)) (from .part) (omega arith) (new .0) (new .1)
             (inv .client .holds));
-        told = put-told (complete m) (c .call .idempotent) c m;
       }
 
   other : (event : Event) → CanArrive event (w .client) h (bodyLength body) → isQueued (w .client .state) ≡ false
@@ -197,6 +237,23 @@ arrived-started Nocall c e = ap isQueued (dispatched-state (c .state) e)
 arrived-started FackEvent c e = active-state (c .state) e
 arrived-started Foreign c e = absurd (false≢true e)
 
+-- A row that tells "last" leaves all held.
+row-tells : (event : Event) (c : Client) (h : Header) (n status : ℕ) → tellsLast (arrivalRow event c h n status .notice) ≡ true
+    → complete (arrivalRow event c h n status .client .incoming) ≡ true
+unfolding arrivalRow responsePlan putPlan withIncoming failed accepted workingPlan nocallPlan fackPlan refused choose
+row-tells ResponseEvent c h n status e =
+    let m = stored (c .incoming) (h .fragment) n (isLast (h .flags1)) in notice-told (complete m) (contiguous m) e
+row-tells Fault c h n status e = absurd (false≢true e)
+row-tells Reject c h n status e = absurd (false≢true e)
+row-tells Working c h n status e = absurd (false≢true e)
+row-tells Nocall c h n status e = absurd (false≢true (sym (by-count (ltb (c .resends) 5)) ∙ e))
+  where
+    by-count : (t : Bool) → tellsLast (choose t (accepted (resent c) Nothing Untold) (failed c (Cause 2)) .notice) ≡ false
+    by-count true = refl
+    by-count false = refl
+row-tells FackEvent c h n status e = absurd (false≢true e)
+row-tells Foreign c h n status e = absurd (false≢true e)
+
 -- It still has one after the row.
 still : (event : Event) (c : Client) (h : Header) (n status : ℕ) → isQueued (c .state) ≡ false → isQueued (arrivalRow event c h n status .client .state) ≡ false
 unfolding arrivalRow responsePlan putPlan refused
@@ -238,6 +295,9 @@ client-arrive-inv w datagram out inv done sent =
     (sym pass)
     (planned w (arrivalRow event c (r .header) n status) [] out
     (storing (arrivalRow event c (r .header) n status .put) (r .header .fragment) body (w .clientSlots)) inv next
+    (completed-known w inv (arrivalRow event c (r .header) n status .client)
+    (storing (arrivalRow event c (r .header) n status .put) (r .header .fragment) body (w .clientSlots)) next (arrivalRow event c (r .header) n status .notice)
+    (row-tells event c (r .header) n status))
     (others-sent (w .clientSent) (Request (w .starts)) (arrivalRow event c (r .header) n status .client) out (buffers .1) (next .activity)
     (next .current (still event c (r .header) n status begun) .typed) (inv .requests) (arrivalRow event c (r .header) n status .send) []
     (row-asks-none event c (r .header) n status)))

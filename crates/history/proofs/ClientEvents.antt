@@ -29,16 +29,18 @@ use Rattle.client.proofs.Judging.{transmit-passes, timer-passes}
 use Rattle.client.proofs.Accepting.{transmit-accepted, timer-accepted}
 use Rattle.history.specs.Lists.{In}
 use Rattle.history.specs.World.{Started, World}
-use Rattle.history.specs.Steps.{sentAfter, clientStep}
-use Rattle.history.specs.Fairness.{lastStarted}
+use Rattle.history.specs.Steps.{sentAfter}
+use Rattle.history.specs.Fairness.{OfLastStart}
 use Rattle.history.proofs.Network.{Request, Known}
-use Rattle.history.proofs.Invariant.{CurrentStart, IsRequest, Inv}
+use Rattle.history.proofs.Invariant.{CurrentStart, IsRequest, Inv, clientStep}
 use Rattle.history.proofs.ClientSteps.{GoesOn, goes-on, transmitted-goes-on, timer-goes-on}
-use Rattle.history.proofs.ClientSends.{asks, others-sent, request-sent, transmitted-counts, planned}
+use Rattle.history.proofs.ClientSends.{asks, others-sent, request-sent, transmitted-counts, planned, none-told}
+use Rattle.history.proofs.ListLaws.{tellsLast}
+use Rattle.client.specs.HandUp.{handsUp}
 
 -- Transmit keeps what is known of the world.
 pub client-transmit-inv : (w : World) (message out : List ℕ) → Inv w → transmitting (w .client) message out .outcome .answer ≡ Done
-    → message ≡ lastStarted (w .starts)
+    → OfLastStart (w .starts) message
     → Inv (clientStep w (transmitting (w .client) message out .outcome) (transmitting (w .client) message out .out) (w .clientSlots))
 unfolding transmitting transmitPlan accepted sentOut
 client-transmit-inv w message out inv done lent =
@@ -53,6 +55,7 @@ client-transmit-inv w message out inv done lent =
     (sym pass)
     (planned w (transmitPlan Pass c) message out (w .clientSlots) inv
     (goes-on c (transmitted last c) (w .clientSlots) (w .starts) (w .replies) (inv .client) begun (transmitted-sound c (j .kept) (j .row) (j .free)) g)
+    (none-told w inv Untold (transmitted last c .number) (handsUp (transmitted last c) (w .clientSlots)) refl)
     (request-sent c (w .starts) (w .replies) message now (inv .client .activity) (j .kept) (j .row) lent (transmitted last c) g
     (transmitted-counts last c .0) (transmitted-counts last c .1) (w .clientSent) out (j .buffer) (inv .requests)))
   where
@@ -68,6 +71,16 @@ timer-asks-none Wait c = by-count (ltb (c .waits) 5)
     by-count true = refl
     by-count false = refl
 timer-asks-none AckKind c = refl
+
+-- nor does it tell "last".
+timer-tells-none : (kind : TimerKind) (c : Client) → tellsLast (timerRow kind c .notice) ≡ false
+unfolding timerRow waitPlan ackPlan failed accepted choose
+timer-tells-none Wait c = by-count (ltb (c .waits) 5)
+  where
+    by-count : (t : Bool) → tellsLast (choose t (accepted (pinged c) Ping Untold) (failed c (Cause 1)) .notice) ≡ false
+    by-count true = refl
+    by-count false = refl
+timer-tells-none AckKind c = refl
 
 -- A timer has a row where a call was started.
 named-started : (kind : TimerKind) (s : State) → namedBy kind s ≡ true → isQueued s ≡ false
@@ -98,5 +111,6 @@ client-timer-inv w kind ticket out inv done =
     (sym pass)
     (planned w (timerRow kind c) [] out (w .clientSlots) inv
     (goes-on c d (w .clientSlots) (w .starts) (w .replies) (inv .client) begun (timer-sound c (j .kept) kind (j .row) (j .free)) g)
+    (none-told w inv (timerRow kind c .notice) (d .number) (handsUp d (w .clientSlots)) (timer-tells-none kind c))
     (goes-on-sent c d (w .starts) (inv .client .current begun) (inv .client .activity) g (w .clientSent) out (j .buffer) (inv .requests)
     (timerRow kind c .send) [] (timer-asks-none kind c)))

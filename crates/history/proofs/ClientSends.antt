@@ -40,13 +40,16 @@ use Rattle.server_table.specs.declared.Event.{Event as ServerEvent}
 use Rattle.server_table.specs.declared.Event.the-variants.{Request as RequestEvent, Ping as PingEvent, Ack as AckEvent, Fack as FackServerEvent, Foreign as ForeignEvent}
 use Rattle.server_table.specs.Events.{eventOf as serverEventOf, clientEvent}
 use Rattle.history.specs.Lists.{In, andThen}
-use Rattle.history.specs.World.{Started, Replied, World}
-use Rattle.history.specs.Steps.{sentAfter, clientStep}
-use Rattle.history.specs.Fairness.{lastStarted, Typed}
-use Rattle.history.proofs.ListLaws.{all-grown}
+use Rattle.history.specs.Claim.{WholeReply}
+use Rattle.calls.specs.declared.Notice.{Notice}
+use Rattle.client.specs.HandUp.{handsUp}
+use Rattle.history.specs.World.{Completed, Started, Replied, World}
+use Rattle.history.specs.Steps.{sentAfter, completionsAfter}
+use Rattle.history.specs.Fairness.{OfLastStart, Typed}
+use Rattle.history.proofs.ListLaws.{all-grown, tellsLast, none-completed}
 use Rattle.history.proofs.Holding.{PartOf, flags-last, flags-mark}
 use Rattle.history.proofs.Network.{Request, Known, other-known, same-known, posted-sent, call-sized, call-fits}
-use Rattle.history.proofs.Invariant.{CurrentStart, ClientInv, IsRequest, Inv}
+use Rattle.history.proofs.Invariant.{CurrentStart, ClientInv, IsRequest, Inv, clientStep}
 use Rattle.history.proofs.ClientSteps.{GoesOn}
 
 -- Only transmit sends a request.
@@ -106,7 +109,7 @@ module _ (before : List (List ℕ)) (P : Header → List ℕ → Type 0) (c : Cl
 
 -- A request that transmit sends is a fragment of the last start's message.
 module _ (c : Client) (starts : List Started) (replies : List Replied) (message : List ℕ) (now : CurrentStart c starts)
-    (activity : length (c .activity) ≡ 16) (kept : sound c ≡ true) (row : isSending (c .state) ≡ true) (lent : message ≡ lastStarted starts) where
+    (activity : length (c .activity) ≡ 16) (kept : sound c ≡ true) (row : isSending (c .state) ≡ true) (lent : OfLastStart starts message) where
   unsent : c .outgoing .sent < c .outgoing .count
   unsent =
       unsent-told (c .outgoing)
@@ -130,7 +133,7 @@ module _ (c : Client) (starts : List Started) (replies : List Replied) (message 
       record {
         below = rw (← count-is) unsent;
         last = flags-last (c .outgoing .count) (c .outgoing .sent) (c .call .idempotent) unsent ∙ ap (eqb (c .outgoing .sent + 1)) count-is;
-        bytes = ap (λ (m : List ℕ). fragmentOf m (c .outgoing .sent)) (lent ∙ now .message);
+        bytes = ap (λ (m : List ℕ). fragmentOf m (c .outgoing .sent)) (now .message message lent);
       }
 
   -- The header of the next request, with a serial.
@@ -186,16 +189,23 @@ unfolding transmitted withOutgoing waiting afterSend nextSerial choose
 transmitted-counts true c = (refl, omega arith)
 transmitted-counts false c = (refl, omega arith)
 
--- A world whose client made a step by a plan.
+-- A world whose client made a step by a plan: what it has sent is known, and what it told complete is whole.
 pub planned : (w : World) (plan : Plan) (message out slots : List ℕ) → Inv w → ClientInv (plan .client) slots (w .starts) (w .replies)
+    → ((c : Completed) → In c (completionsAfter (w .completions) (plan .notice) (plan .client .number) (handsUp (plan .client) slots)) → WholeReply (w .replies) c)
     → ((d : List ℕ) → In d (sentAfter (w .clientSent) (sentOut (plan .send) (plan .client) message out .sent) (sentOut (plan .send) (plan .client) message out .out))
     → Known IsRequest (Request (w .starts)) d)
     → Inv (clientStep w (sending plan message out .outcome) (sending plan message out .out) slots)
 unfolding sending outcomeOf
-planned w plan message out slots inv client requests = record {
+planned w plan message out slots inv client completed requests = record {
   client = client;
   server = inv .server;
   calls = inv .calls;
   requests = requests;
   responses = inv .responses;
+  completed = completed;
 }
+
+-- A plan that does not tell "last" completes nothing.
+pub none-told : (w : World) → Inv w → (notice : Notice) (n : ℕ) (bytes : List ℕ) → tellsLast notice ≡ false → (c : Completed)
+    → In c (completionsAfter (w .completions) notice n bytes) → WholeReply (w .replies) c
+none-told w inv notice n bytes e c m = inv .completed c (subst (In c) (none-completed (w .completions) notice n bytes e) m)

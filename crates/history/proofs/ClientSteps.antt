@@ -1,8 +1,8 @@
 -- What is known of the client stays known at the rows that go on with its call.
 use Prim.Native.Nat.{ℕ}
-use mathlib.Core.Bool.{Bool, true, false, false≢true}
+use mathlib.Core.Bool.{Bool, true, false}
 use mathlib.Core.List.{List}
-use mathlib.Core.Path.{_≡_, refl, ap}
+use mathlib.Core.Path.{_≡_, refl}
 use lib.Dec.{ltb}
 use lib.ListN.{length}
 use Rattle.words.specs.Choice.{choose}
@@ -13,7 +13,7 @@ use Rattle.client_record.specs.declared.Client.{Client}
 use Rattle.client_record.specs.States.{isQueued}
 use Rattle.client_record.specs.Rules.{sound}
 use Rattle.client_record.specs.Record.{waiting, unarmed}
-use Rattle.client_record.proofs.StateLaws.{ack-pending-state, waiting-state}
+use Rattle.client_record.proofs.StateLaws.{waiting-state}
 use Rattle.client_table.specs.declared.TimerKind.{TimerKind}
 use Rattle.client_table.specs.declared.TimerKind.the-variants.{Wait, Ack as AckKind}
 use Rattle.client_table.specs.Local.{namedBy}
@@ -22,10 +22,9 @@ use Rattle.client_steps.specs.Plan.{accepted, withOutgoing, withWaits, failed}
 use Rattle.client_steps.specs.Rows.{transmitted, pinged, waitPlan, ackPlan, timerRow}
 use Rattle.client_arrivals.specs.Rows.{acknowledged, fackPlan, withResends, workingPlan, resent, nocallPlan}
 use Rattle.history.specs.World.{Started, Replied}
-use Rattle.history.specs.Claim.{toldLast}
 use Rattle.history.proofs.Invariant.{ClientInv}
 
--- A client that goes on with its call: the call, what is held and the message's length stay, and "last" is not told anew.
+-- A client that goes on with its call: the call, what is held and the message's length stay.
 pub record GoesOn (c d : Client) : Type 0 where
   pub activity : d .activity ≡ c .activity
   pub number : d .number ≡ c .number
@@ -33,7 +32,6 @@ pub record GoesOn (c d : Client) : Type 0 where
   pub incoming : d .incoming ≡ c .incoming
   pub size : d .outgoing .length ≡ c .outgoing .length
   pub started : isQueued (d .state) ≡ false
-  pub told : toldLast (d .state) ≡ true → toldLast (c .state) ≡ true
 
 -- What is known of it stays known.
 pub goes-on : (c d : Client) (slots : List ℕ) (starts : List Started) (replies : List Replied) → ClientInv c slots starts replies
@@ -57,7 +55,6 @@ goes-on c d slots starts replies inv begun kept g = record {
         small = rw (g .number) (now .small);
       };
   holds = rw (g .number, g .incoming) (inv .holds);
-  told = λ e. rw (g .incoming) (inv .told (g .told e));
 }
 
 -- The rows that go on with a call: transmit,
@@ -70,7 +67,6 @@ transmitted-goes-on true c e = record {
   incoming = refl;
   size = refl;
   started = refl;
-  told = λ t. absurd (false≢true t);
 }
 transmitted-goes-on false c e = record {
   activity = refl;
@@ -79,7 +75,6 @@ transmitted-goes-on false c e = record {
   incoming = refl;
   size = refl;
   started = e;
-  told = λ t. t;
 }
 
 -- a call that fails,
@@ -92,7 +87,6 @@ failed-goes-on c notice = record {
   incoming = refl;
   size = refl;
   started = refl;
-  told = λ t. absurd (false≢true t);
 }
 
 -- a timer,
@@ -108,7 +102,6 @@ timer-goes-on Wait c named = by-count (ltb (c .waits) 5)
       incoming = refl;
       size = refl;
       started = waiting-state (c .state) named .0;
-      told = λ t. t;
     }
     by-count false = failed-goes-on c (Cause 1)
 timer-goes-on AckKind c named = record {
@@ -118,7 +111,6 @@ timer-goes-on AckKind c named = record {
   incoming = refl;
   size = refl;
   started = refl;
-  told = λ t. ap toldLast (ack-pending-state (c .state) named);
 }
 
 -- fack,
@@ -131,7 +123,6 @@ fack-goes-on c g e = record {
   incoming = refl;
   size = refl;
   started = e;
-  told = λ t. t;
 }
 
 -- working
@@ -144,7 +135,6 @@ working-goes-on c = record {
   incoming = refl;
   size = refl;
   started = refl;
-  told = λ t. absurd (false≢true t);
 }
 
 -- and nocall.
@@ -160,6 +150,5 @@ nocall-goes-on c = by-count (ltb (c .resends) 5)
       incoming = refl;
       size = refl;
       started = refl;
-      told = λ t. absurd (false≢true t);
     }
     by-count false = failed-goes-on c (Cause 2)

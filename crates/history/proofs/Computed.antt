@@ -9,7 +9,7 @@ use Rattle.server_record.specs.declared.Idle.the-variants.{Spent, Repeatable}
 use Rattle.server_record.specs.declared.State.the-variants.{Idle}
 use Rattle.history.specs.World.{World}
 use Rattle.history.specs.Freshness.{Fresh}
-use Rattle.history.specs.Claim.{handedUp}
+use Rattle.history.specs.Claim.{replyHandedUp}
 use Rattle.history.specs.Runs.{Story, Ran, before, lossy, twice, question, secondReply, exampleMessage, exampleReply, zeros}
 use Rattle.history.proofs.ComputedOpen.{opened}
 use Rattle.history.proofs.ComputedLaws.{Plays}
@@ -44,19 +44,22 @@ before-fresh clientSlots serverSlots = record {
   starts = refl;
   dispatches = refl;
   replies = refl;
+  completions = refl;
 }
 
 -- What a story that was played shows.
-ran : {w after : World} {story : Story} {handed : List ℕ} → Fresh w → Plays w story after → handedUp after ≡ handed
+ran : {w after : World} {story : Story} {handed : List ℕ} → Fresh w → Plays w story after
+    → after .completions ≡ record { number = 0; bytes = handed } ∷ [] → replyHandedUp after ≡ handed
     → Ran w story (after .client .state) (after .server .state) (after .dispatches) handed
-ran fresh plays handed = record {
+ran fresh plays told handed = record {
   fresh = fresh;
   fair = plays .fair;
   answers = plays .answers;
   client-ends = ap (λ (v : World). v .client .state) (plays .ends);
   server-ends = ap (λ (v : World). v .server .state) (plays .ends);
   dispatched = ap (λ (v : World). v .dispatches) (plays .ends);
-  hands-up = ap handedUp (plays .ends) ∙ handed;
+  completed = ap (λ (v : World). v .completions) (plays .ends) ∙ told;
+  hands-up = ap replyHandedUp (plays .ends) ∙ handed;
 }
 
 -- The first, for every request of 2,785 bytes and every reply of 2,786: the call is COMPLETE and the server spent, there is one
@@ -65,7 +68,7 @@ pub lossy-ran : (message reply clientSlots serverSlots out : List ℕ) → lengt
     → length serverSlots ≡ 44544 → length out ≡ 1472
     → Ran (before clientSlots serverSlots) (lossy message reply out) Complete (Idle Spent) (record { number = 0; bytes = message } ∷ []) reply
 lossy-ran message reply clientSlots serverSlots out asks replies clientRoom serverRoom room =
-    ran (before-fresh clientSlots serverSlots) (plays-lossy message reply clientSlots serverSlots out asks replies clientRoom serverRoom room)
+    ran (before-fresh clientSlots serverSlots) (plays-lossy message reply clientSlots serverSlots out asks replies clientRoom serverRoom room) refl
     (lossy-reply message reply clientSlots serverSlots out asks replies clientRoom serverRoom room)
 
 -- So it is of the bytes written out.
@@ -86,5 +89,5 @@ pub twice-ran : (clientSlots serverSlots out : List ℕ) → length clientSlots 
     → Ran (before clientSlots serverSlots) (twice out) Complete (Idle Repeatable)
     (record { number = 0; bytes = question } ∷ record { number = 0; bytes = question } ∷ []) secondReply
 twice-ran clientSlots serverSlots out clientRoom serverRoom room =
-    ran (before-fresh clientSlots serverSlots) (plays-twice clientSlots serverSlots out clientRoom serverRoom room)
+    ran (before-fresh clientSlots serverSlots) (plays-twice clientSlots serverSlots out clientRoom serverRoom room) refl
     (twice-reply clientSlots serverSlots out clientRoom serverRoom room)

@@ -27,7 +27,9 @@ use Rattle.client.specs.Sending.{pduHeader, requestSent, emptySent, fackSent, s
 use Rattle.client.specs.Machine.{outcomeOf, sending, transmitting, timing, planOf, acted, arriving}
 use Rattle.history.specs.World.{World}
 use Rattle.history.specs.Events.{Own, ClientTransmit, ClientArrive, ClientTimer}
-use Rattle.history.specs.Steps.{sentAfter, bytesLent, ownAfter, clientStep, step, answerTo}
+use Rattle.history.specs.Steps.{sentAfter, completionsAfter, bytesLent, ownAfter, happens, step, answerTo}
+use Rattle.client.specs.HandUp.{handsUp}
+use Rattle.history.proofs.Invariant.{clientStep}
 use Rattle.history.proofs.ComputedLaws.{Makes, Uuids, posted, Carried}
 
 -- What the client sends, as it stands in the world: nothing, or one PDU.
@@ -62,6 +64,7 @@ clientLeft w plan message slots = record {
   starts = w .starts;
   dispatches = w .dispatches;
   replies = w .replies;
+  completions = completionsAfter (w .completions) (plan .notice) (plan .client .number) (handsUp (plan .client) slots);
 }
 
 abbrev clientDone : World → Plan → List ℕ → List ℕ → List ℕ → World
@@ -80,6 +83,7 @@ client-left w plan message out slots z room = λ i. record {
   starts = w .starts;
   dispatches = w .dispatches;
   replies = w .replies;
+  completions = completionsAfter (w .completions) (plan .notice) (plan .client .number) (handsUp (plan .client) slots);
 }
 
 -- The plan of a transmit of n bytes, of a timer event, and of an arriving PDU.
@@ -98,7 +102,7 @@ module _ (w : World) (out : List ℕ) (room : length out ≡ 1472) where
       → Uuids (clientTransmit (w .client) n .client .activity) (clientTransmit (w .client) n .client .call)
       → Makes w (ClientTransmit message out) (numberOf (clientTransmit (w .client) n .answer))
       (clientLeft w (clientTransmit (w .client) n) message (w .clientSlots))
-  unfolding step answerTo transmitting sending outcomeOf
+  unfolding step answerTo happens transmitting sending outcomeOf
   client-transmits message n whole z = record {
     answered = λ i. numberOf (transmitPlan (transmitGround (w .client) (whole i) (room i)) (w .client) .answer);
     leaves =
@@ -111,7 +115,7 @@ module _ (w : World) (out : List ℕ) (room : length out ≡ 1472) where
       → Uuids (clientTime (w .client) kind ticket .client .activity) (clientTime (w .client) kind ticket .client .call)
       → Makes w (ClientTimer kind ticket out) (numberOf (clientTime (w .client) kind ticket .answer))
       (clientLeft w (clientTime (w .client) kind ticket) [] (w .clientSlots))
-  unfolding step answerTo timing sending outcomeOf
+  unfolding step answerTo happens timing sending outcomeOf
   client-times kind ticket z = record {
     answered = λ i. numberOf (timerPlan (timerGround (w .client) kind ticket (room i)) kind (w .client) .answer);
     leaves =
@@ -125,7 +129,7 @@ module _ (w : World) (out : List ℕ) (room : length out ≡ 1472) where
       → Makes w (ClientArrive (datagram h body) Own out) (numberOf (clientArrival (w .client) h body .answer))
       (clientLeft w (clientArrival (w .client) h body) []
       (storing (clientArrival (w .client) h body .put) (h .fragment) body (w .clientSlots)))
-  unfolding step answerTo arriving acted sending outcomeOf bytesLent ownAfter
+  unfolding step answerTo happens arriving acted sending outcomeOf bytesLent ownAfter
   client-arrives {h} {body} c whole z =
       let read = read-written h body (c .fits) (c .known) (c .plain) (c .short) in
       let rest = body-written h body (c .fits .sized) in

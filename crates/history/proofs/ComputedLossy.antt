@@ -11,6 +11,7 @@ use Rattle.incoming.specs.declared.Incoming.{Incoming}
 use Rattle.incoming.specs.Slots.{missing, cleared}
 use Rattle.fragments.specs.Slots.{filled}
 use Rattle.fragments.proofs.PartLaws.{parts-joined}
+use Rattle.fragments.proofs.BufferLaws.{joined as joinedParts}
 use Rattle.fragments.proofs.PutLaws.{filled-length}
 use Rattle.outgoing.specs.declared.Outgoing.{Outgoing}
 use Rattle.outgoing.specs.Message.{fragmentOf, flagsOf}
@@ -223,18 +224,26 @@ module _ (message reply clientSlots serverSlots out : List ℕ) (asks : length m
   abbrev s14 : ServerSide
   s14 = serverAt (Idle Spent) (sends 2786 3 3 0 6) all 102 Off v3 8
 
-  -- What is on record: nothing, the start, the dispatch of these bytes, the reply.
+  -- What is on record: nothing, the start, the dispatch of these bytes, the reply, the completion with these bytes.
   abbrev b0 : Books
-  b0 = record { starts = []; dispatches = []; replies = [] }
+  b0 = record { starts = []; dispatches = []; replies = []; completions = [] }
 
   abbrev b1 : Books
-  b1 = record { starts = record { number = 0; idempotent = false; message = message } ∷ []; dispatches = []; replies = [] }
+  b1 = record { starts = record { number = 0; idempotent = false; message = message } ∷ []; dispatches = []; replies = []; completions = [] }
 
   abbrev b2 : List ℕ → Books
-  b2 bytes = record { starts = b1 .starts; dispatches = record { number = 0; bytes = bytes } ∷ []; replies = [] }
+  b2 bytes = record { starts = b1 .starts; dispatches = record { number = 0; bytes = bytes } ∷ []; replies = []; completions = [] }
 
   abbrev b3 : Books
-  b3 = record { starts = b1 .starts; dispatches = b2 message .dispatches; replies = record { number = 0; message = reply } ∷ [] }
+  b3 = record { starts = b1 .starts; dispatches = b2 message .dispatches; replies = record { number = 0; message = reply } ∷ []; completions = [] }
+
+  abbrev b4 : List ℕ → Books
+  b4 bytes = record {
+    starts = b1 .starts;
+    dispatches = b2 message .dispatches;
+    replies = b3 .replies;
+    completions = record { number = 0; bytes = bytes } ∷ [];
+  }
 
   -- What the server hands up when all is held is the request,
   request-whole : serverHandsUp (s5 .server) v3 ≡ message
@@ -250,12 +259,11 @@ module _ (message reply clientSlots serverSlots out : List ℕ) (asks : length m
       refl refl v2-long (omega arith) (omega arith) refl)
       refl v3-long refl
 
-  -- and what the client does, the reply.
-  pub reply-whole : clientHandsUp (k15 .client) u3 ≡ reply
+  -- and what the client does, the reply: where "last" is told,
+  reply-joined : joinedParts (k15 .client .incoming) u3 ≡ reply
   unfolding opened
-  reply-whole =
-      hands-joined (k15 .client) u3 refl
-      ∙ holding-whole (k15 .client .incoming) u3 reply
+  reply-joined =
+      holding-whole (k15 .client .incoming) u3 reply
       (put reply 2786 2 replies (k12 1392 .client .incoming) u2 6
       (put reply 2786 0 replies (k11 1392 .client .incoming) u1 4
       (put reply 2786 1 replies cleared clientSlots 4 (empty-holding cleared clientSlots reply cleared-none)
@@ -263,6 +271,15 @@ module _ (message reply clientSlots serverSlots out : List ℕ) (asks : length m
       refl refl u1-long (omega arith) (omega arith) refl)
       refl refl u2-long (omega arith) (omega arith) refl)
       refl u3-long refl
+
+  reply-told : clientHandsUp (k14 2 .client) u3 ≡ reply
+  unfolding opened
+  reply-told = hands-joined (k14 2 .client) u3 refl ∙ reply-joined
+
+  -- and at the end.
+  pub reply-whole : clientHandsUp (k15 .client) u3 ≡ reply
+  unfolding opened
+  reply-whole = hands-joined (k15 .client) u3 refl ∙ reply-joined
 
   -- The story, stage by stage.
   plays-asked : Plays (world k0 s0 b0) (asked message reply out) (world k4 (s2 1392) b1)
@@ -316,7 +333,7 @@ module _ (message reply clientSlots serverSlots out : List ℕ) (asks : length m
       (then {next = world k13 s9 b3} (client-times _ out room Wait 11 uuids) tt
       over))))))
 
-  plays-answered-again : Plays (world k13 s9 b3) (answeredAgain message reply out) (world (k14 2) s13 b3)
+  plays-answered-again : Plays (world k13 s9 b3) (answeredAgain message reply out) (world (k14 2) s13 (b4 reply))
   unfolding opened
   plays-answered-again =
       then {next = world k13 s10 b3} (server-arrives _ out room (empty-came 0 1 8 (omega arith)) v3-long uuids) (came 7 refl)
@@ -326,21 +343,22 @@ module _ (message reply clientSlots serverSlots out : List ℕ) (asks : length m
       (refused {next = world k13 s13 b3} (server-times _ out room 101 uuids) refl
       (refused {next = world k13 s13 b3} (client-arrives _ out room (fragment-came 7 2 reply 0 4 (omega arith)) u2-long uuids) refl
       (refused {next = world k13 s13 b3} (record { answered = refl; leaves = refl }) refl
-      (then {next = world (k14 2) s13 b3}
-      (told (λ (n : ℕ). world (k14 n) s13 b3) (kept reply 2786 2 replies)
-      (client-arrives _ out room (fragment-came 7 2 reply 2 6 (omega arith)) u2-long uuids)) (came 7 refl)
+      (then {next = world (k14 2) s13 (b4 reply)}
+      (told (λ (bytes : List ℕ). world (k14 2) s13 (b4 bytes)) reply-told
+      (told (λ (n : ℕ). world (k14 n) s13 (b4 (clientHandsUp (k14 n .client) u3))) (kept reply 2786 2 replies)
+      (client-arrives _ out room (fragment-came 7 2 reply 2 6 (omega arith)) u2-long uuids))) (came 7 refl)
       over)))))))
 
-  plays-closed : Plays (world (k14 2) s13 b3) (closed message reply out) (world k15 s14 b3)
+  plays-closed : Plays (world (k14 2) s13 (b4 reply)) (closed message reply out) (world k15 s14 (b4 reply))
   unfolding opened
   plays-closed =
-      then {next = world k15 s13 b3} (client-times _ out room Ack 13 uuids) tt
-      (then {next = world k15 s14 b3} (server-arrives _ out room (empty-came 0 7 8 (omega arith)) v3-long uuids) (came 8 refl)
-      (refused {next = world k15 s14 b3} (server-arrives _ out room (fragment-came 0 0 message 0 1 (omega arith)) v3-long uuids) refl
-      (refused {next = world k15 s14 b3} (client-arrives _ out room (fragment-came 7 2 reply 1 5 (omega arith)) u3-long uuids) refl
+      then {next = world k15 s13 (b4 reply)} (client-times _ out room Ack 13 uuids) tt
+      (then {next = world k15 s14 (b4 reply)} (server-arrives _ out room (empty-came 0 7 8 (omega arith)) v3-long uuids) (came 8 refl)
+      (refused {next = world k15 s14 (b4 reply)} (server-arrives _ out room (fragment-came 0 0 message 0 1 (omega arith)) v3-long uuids) refl
+      (refused {next = world k15 s14 (b4 reply)} (client-arrives _ out room (fragment-came 7 2 reply 1 5 (omega arith)) u3-long uuids) refl
       over)))
 
-  pub plays-lossy : Plays (before clientSlots serverSlots) (lossy message reply out) (world k15 s14 b3)
+  pub plays-lossy : Plays (before clientSlots serverSlots) (lossy message reply out) (world k15 s14 (b4 reply))
   plays-lossy =
       joined (asked message reply out) _ plays-asked
       (joined (askedAgain message reply out) _ plays-asked-again

@@ -90,12 +90,12 @@ unfolding ServerStates.neverCalled ServerStates.isFresh ServerStates.isRunning S
     ServerRecord.fresh ServerRecord.holding ServerRecord.unarmed
     ServerEvents.clientEvent ServerEvents.eventOf ServerEvents.byEvent ServerEvents.sideGround
     ServerTable.orderOf ServerTable.requestNewer ServerTable.requestIdle ServerTable.requestEqual ServerTable.requestRow
-    ServerTable.pingEqual ServerTable.pingRow ServerTable.whereReplied ServerTable.replyRow ServerTable.fackRow ServerTable.ackRow
+    ServerTable.pingEqual ServerTable.pingRow ServerTable.whereReplied ServerTable.acknowledgementRow ServerTable.fackRow ServerTable.ackRow
     ServerTable.rowOf
     ServerArrival.requestGround ServerArrival.oldGround ServerArrival.rowGround ServerArrival.agree ServerArrival.sameCall
     ServerArrival.callGround ServerArrival.slotGround ServerArrival.pduGround ServerArrival.tableGround ServerArrival.orderFor
     ServerArrival.rowFor ServerArrival.arrivalGround
-    ServerLocal.repeats ServerLocal.holds ServerLocal.transmitGround ServerLocal.timerGround ServerLocal.replyGround
+    ServerLocal.runsAgain ServerLocal.armsResend ServerLocal.transmitGround ServerLocal.timerGround ServerLocal.replyGround
     ServerPlan.refused ServerPlan.accepted ServerPlan.withOutgoing
     ServerRows.answered ServerRows.replyPlan ServerRows.settled ServerRows.transmitted ServerRows.transmitPlan ServerRows.rewinding
     ServerRows.replayHeld ServerRows.replayPlan ServerRows.timerPlan
@@ -112,5 +112,5 @@ unfolding shared clientTables serverTables
     ClientMachine.outcomeOf ClientMachine.sending ClientMachine.starting ClientMachine.planOf ClientMachine.acted ClientMachine.arriving
     ServerSending.replyHeader ServerSending.echoed ServerSending.echoHeader
     ServerMachine.outcomeOf ServerMachine.replying ServerMachine.planOf
-    Steps.bytesLent Steps.ownAfter Steps.sentAfter Steps.dispatchesAfter Steps.startStep Steps.replyStep Steps.step Steps.answerTo
+    Steps.bytesLent Steps.ownAfter Steps.sentAfter Steps.dispatchesAfter Steps.completionsAfter Steps.happens Steps.step Steps.answerTo
 opened = tt

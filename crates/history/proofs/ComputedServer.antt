@@ -27,7 +27,8 @@ use Rattle.server.specs.HandUp.{handsUp}
 use Rattle.fragments.specs.Slots.{storing}
 use Rattle.history.specs.World.{World}
 use Rattle.history.specs.Events.{Own, ServerTransmit, ServerArrive, ServerTimer}
-use Rattle.history.specs.Steps.{sentAfter, dispatchesAfter, bytesLent, ownAfter, serverStep, step, answerTo}
+use Rattle.history.specs.Steps.{sentAfter, dispatchesAfter, bytesLent, ownAfter, happens, step, answerTo}
+use Rattle.history.proofs.Invariant.{serverStep}
 use Rattle.history.proofs.ComputedLaws.{Makes, Uuids, posted, Carried}
 
 -- What the server sends, as it stands in the world: nothing, or one PDU; h is the header of the PDU answered.
@@ -66,6 +67,7 @@ serverLeft w plan h message slots number = record {
   starts = w .starts;
   dispatches = dispatchesAfter (w .dispatches) (plan .notice) number (handsUp (plan .server) slots);
   replies = w .replies;
+  completions = w .completions;
 }
 
 abbrev serverDone : World → Plan → Header → List ℕ → List ℕ → List ℕ → ℕ → World
@@ -85,6 +87,7 @@ server-left w plan h message out slots number z y room = λ i. record {
   starts = w .starts;
   dispatches = dispatchesAfter (w .dispatches) (plan .notice) number (handsUp (plan .server) slots);
   replies = w .replies;
+  completions = w .completions;
 }
 
 -- The plan of a transmit of n bytes, of a timer event, and of an arriving PDU.
@@ -103,7 +106,7 @@ module _ (w : World) (out : List ℕ) (room : length out ≡ 1472) where
       → Uuids (serverTransmit (w .server) n .server .activity) (serverTransmit (w .server) n .server .call)
       → Makes w (ServerTransmit message out) (numberOf (serverTransmit (w .server) n .answer))
       (serverLeft w (serverTransmit (w .server) n) blank message (w .serverSlots) (w .server .number))
-  unfolding step answerTo transmitting sending outcomeOf blank echoed
+  unfolding step answerTo happens transmitting sending outcomeOf blank echoed
   server-transmits message n whole z = record {
     answered = λ i. numberOf (transmitPlan (transmitGround (w .server) (whole i) (room i)) (w .server) .answer);
     leaves =
@@ -116,7 +119,7 @@ module _ (w : World) (out : List ℕ) (room : length out ≡ 1472) where
   pub server-times : (ticket : ℕ) → Uuids (serverTime (w .server) ticket .server .activity) (serverTime (w .server) ticket .server .call)
       → Makes w (ServerTimer ticket out) (numberOf (serverTime (w .server) ticket .answer))
       (serverLeft w (serverTime (w .server) ticket) blank [] (w .serverSlots) (w .server .number))
-  unfolding step answerTo timing sending outcomeOf blank echoed
+  unfolding step answerTo happens timing sending outcomeOf blank echoed
   server-times ticket z = record {
     answered = λ i. numberOf (timerPlan (timerGround (w .server) ticket (room i)) (w .server) .answer);
     leaves =
@@ -130,7 +133,7 @@ module _ (w : World) (out : List ℕ) (room : length out ≡ 1472) where
       → Uuids (serverArrival (w .server) h body .server .activity) (serverArrival (w .server) h body .server .call)
       → Makes w (ServerArrive (datagram h body) Own out) (numberOf (serverArrival (w .server) h body .answer))
       (serverLeft w (serverArrival (w .server) h body) h [] (storing (serverArrival (w .server) h body .put) (h .fragment) body (w .serverSlots)) (h .number))
-  unfolding step answerTo arriving acted sending outcomeOf bytesLent ownAfter echoed
+  unfolding step answerTo happens arriving acted sending outcomeOf bytesLent ownAfter echoed
   server-arrives {h} {body} c whole z =
       let read = read-written h body (c .fits) (c .known) (c .plain) (c .short) in
       let rest = body-written h body (c .fits .sized) in

@@ -15,7 +15,7 @@ use Rattle.client_record.specs.declared.Client.{Client}
 use Rattle.client_record.specs.declared.State.{State as ClientState}
 use Rattle.server_record.specs.declared.Server.{Server}
 use Rattle.server_record.specs.declared.State.{State as ServerState}
-use Rattle.history.specs.World.{World, Started, Dispatched, Replied}
+use Rattle.history.specs.World.{World, Started, Dispatched, Replied, Completed}
 use Rattle.history.specs.Runs.{activity}
 
 -- A side: its record, its slot buffer and what it has sent.
@@ -34,6 +34,7 @@ pub record Books : Type 0 where
   pub starts : List Started
   pub dispatches : List Dispatched
   pub replies : List Replied
+  pub completions : List Completed
 
 abbrev pub world : ClientSide → ServerSide → Books → World
 world c s b = record {
@@ -46,6 +47,7 @@ world c s b = record {
   starts = b .starts;
   dispatches = b .dispatches;
   replies = b .replies;
+  completions = b .completions;
 }
 
 -- The fragments 0 to 2 held or missing, and the known last.

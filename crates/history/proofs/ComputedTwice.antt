@@ -123,24 +123,26 @@ module _ (clientSlots serverSlots out : List ℕ) (clientRoom : length clientSlo
   abbrev s7 : ServerSide
   s7 = record { server = serverIn asking (Idle Repeatable) (sends 2 1 1 0 1) (holds (held 3) missing missing (At 0)) 100 Off; slots = v2; sent = serverSent 5 }
 
-  -- What is on record: nothing, the start, the first dispatch of these bytes, its reply, the second dispatch, its reply.
+  -- What is on record: nothing, the start, the first dispatch of these bytes, its reply, the second dispatch, its reply, the completion with
+  -- these bytes.
   abbrev b0 : Books
-  b0 = record { starts = []; dispatches = []; replies = [] }
+  b0 = record { starts = []; dispatches = []; replies = []; completions = [] }
 
   abbrev b1 : Books
-  b1 = record { starts = record { number = 0; idempotent = true; message = question } ∷ []; dispatches = []; replies = [] }
+  b1 = record { starts = record { number = 0; idempotent = true; message = question } ∷ []; dispatches = []; replies = []; completions = [] }
 
   abbrev b2 : List ℕ → Books
-  b2 bytes = record { starts = b1 .starts; dispatches = record { number = 0; bytes = bytes } ∷ []; replies = [] }
+  b2 bytes = record { starts = b1 .starts; dispatches = record { number = 0; bytes = bytes } ∷ []; replies = []; completions = [] }
 
   abbrev b3 : Books
-  b3 = record { starts = b1 .starts; dispatches = b2 question .dispatches; replies = record { number = 0; message = firstReply } ∷ [] }
+  b3 = record { starts = b1 .starts; dispatches = b2 question .dispatches; replies = record { number = 0; message = firstReply } ∷ []; completions = [] }
 
   abbrev b4 : List ℕ → Books
   b4 bytes = record {
     starts = b1 .starts;
     dispatches = record { number = 0; bytes = question } ∷ record { number = 0; bytes = bytes } ∷ [];
     replies = b3 .replies;
+    completions = [];
   }
 
   abbrev b5 : Books
@@ -148,6 +150,15 @@ module _ (clientSlots serverSlots out : List ℕ) (clientRoom : length clientSlo
     starts = b1 .starts;
     dispatches = b4 question .dispatches;
     replies = record { number = 0; message = firstReply } ∷ record { number = 0; message = secondReply } ∷ [];
+    completions = [];
+  }
+
+  abbrev b6 : List ℕ → Books
+  b6 bytes = record {
+    starts = b1 .starts;
+    dispatches = b5 .dispatches;
+    replies = b5 .replies;
+    completions = record { number = 0; bytes = bytes } ∷ [];
   }
 
   -- What the server hands up at each dispatch is the request,
@@ -184,7 +195,7 @@ module _ (clientSlots serverSlots out : List ℕ) (clientRoom : length clientSlo
       (then {next = world k3 s3 b3} (server-transmits _ out room firstReply 1 refl uuids) refl
       over)))))
 
-  plays-again : Plays (world k3 s3 b3) (runAgain out) (world k7 s7 b5)
+  plays-again : Plays (world k3 s3 b3) (runAgain out) (world k7 s7 (b6 secondReply))
   unfolding opened fackBytes number fragmentOf
   plays-again =
       then {next = world k4 s3 b3} (client-times _ out room Wait 6 uuids) tt
@@ -196,12 +207,13 @@ module _ (clientSlots serverSlots out : List ℕ) (clientRoom : length clientSlo
       (server-arrives _ out room (came-with 0 0 32 3 question (omega arith) (omega arith)) v1-long uuids)) (came 2 refl)
       (then {next = world k6 s6 b5} (record { answered = refl; leaves = refl }) refl
       (then {next = world k6 s7 b5} (server-transmits _ out room secondReply 2 refl uuids) refl
-      (then {next = world k7 s7 b5}
-      (client-arrives _ out room (came-with 7 2 0 1 secondReply (omega arith) (omega arith)) clientRoom uuids) (came 4 refl)
-      (refused {next = world k7 s7 b5} (client-times _ out room Wait 8 uuids) refl
-      (refused {next = world k7 s7 b5}
+      (then {next = world k7 s7 (b6 secondReply)}
+      (told (λ (bytes : List ℕ). world k7 s7 (b6 bytes)) reply-whole
+      (client-arrives _ out room (came-with 7 2 0 1 secondReply (omega arith) (omega arith)) clientRoom uuids)) (came 4 refl)
+      (refused {next = world k7 s7 (b6 secondReply)} (client-times _ out room Wait 8 uuids) refl
+      (refused {next = world k7 s7 (b6 secondReply)}
       (server-arrives _ out room (came-with 0 9 32 3 (fackBytes (fackSent 1 0)) (omega arith) (omega arith)) v2-long uuids) refl
       over)))))))))
 
-  pub plays-twice : Plays (before clientSlots serverSlots) (twice out) (world k7 s7 b5)
+  pub plays-twice : Plays (before clientSlots serverSlots) (twice out) (world k7 s7 (b6 secondReply))
   plays-twice = joined (runOnce out) (runAgain out) plays-once plays-again

@@ -17,10 +17,10 @@ use Rattle.client.proofs.Growing.{transmit-grows, timer-grows, arrive-grows}
 use Rattle.history.specs.Lists.{andThen}
 use Rattle.history.specs.World.{Started, World}
 use Rattle.history.specs.Events.{Lent, Event, Start, ClientTransmit, ClientArrive, ClientTimer, ServerArrive, ServerTransmit, ServerTimer, Reply, Fault}
-use Rattle.history.specs.Steps.{isDone, bytesLent, ownAfter, startStep, replyStep, step, answerTo, run}
+use Rattle.history.specs.Steps.{isDone, bytesLent, ownAfter, happens, answerTo, step, run}
 use Rattle.history.specs.Fairness.{Premise, Fair}
-use Rattle.history.specs.Claim.{handedUp}
-use Rattle.history.proofs.Invariant.{Inv}
+use Rattle.history.specs.Claim.{replyHandedUp}
+use Rattle.history.proofs.Invariant.{Inv, startStep}
 use Rattle.history.proofs.Refused.{refused-same}
 use Rattle.history.proofs.ClientEvents.{client-transmit-inv, client-timer-inv}
 use Rattle.history.proofs.ClientArrivals.{client-arrive-inv}
@@ -30,7 +30,7 @@ use Rattle.history.proofs.ServerArrivals.{server-arrive-inv}
 
 -- An event that is answered 0 and keeps its premise,
 accepted-inv : (w : World) (e : Event) → Inv w → answerTo w e ≡ Done → Premise w e → Inv (step w e)
-unfolding step answerTo bytesLent ownAfter
+unfolding step answerTo happens bytesLent ownAfter
 accepted-inv w (Start call n message) inv done fair = started-inv w call n message inv done fair
 accepted-inv w (ClientTransmit message out) inv done fair = client-transmit-inv w message out inv done fair
 accepted-inv w (ClientArrive datagram lent out) inv done fair =
@@ -78,20 +78,19 @@ pub record OneMore (before after : List Started) : Type 0 where
 -- A start that is answered 0 is on record then,
 start-more : (w : World) (call : Call) (n : ℕ) (message : List ℕ) → starting (w .client) call n .answer ≡ Done
     → OneMore (w .starts) (startStep w (starting (w .client) call n) (call .idempotent) message .starts)
-unfolding startStep
 start-more w call n message done =
     let new : Started = record { number = starting (w .client) call n .client .number; idempotent = call .idempotent; message = message } in
     record { start = new; is = choose-true (isDone (starting (w .client) call n .answer)) (andThen (w .starts) new) (w .starts) (ap isDone done) }
 
 -- and no other event changes the starts.
 step-starts : (w : World) (e : Event) → (step w e .starts ≡ w .starts) ⊎ OneMore (w .starts) (step w e .starts)
-unfolding step answerTo replyStep
+unfolding step answerTo happens
 step-starts w (Start call n message) = by-answer (done-or-not (starting (w .client) call n .answer))
   where
     by-answer : Dec (starting (w .client) call n .answer ≡ Done)
         → (step w (Start call n message) .starts ≡ w .starts) ⊎ OneMore (w .starts) (step w (Start call n message) .starts)
-    by-answer (yes done) = unfold step in inr (start-more w call n message done)
-    by-answer (no other) = unfold answerTo in inl (ap (λ (v : World). v .starts) (refused-same w (Start call n message) other))
+    by-answer (yes done) = unfold step happens in inr (start-more w call n message done)
+    by-answer (no other) = unfold answerTo happens in inl (ap (λ (v : World). v .starts) (refused-same w (Start call n message) other))
 step-starts w (ClientTransmit message out) = inl refl
 step-starts w (ClientArrive datagram lent out) = inl refl
 step-starts w (ClientTimer kind ticket out) = inl refl
@@ -116,32 +115,32 @@ run-starts w (e ∷ es) = by-step (step-starts w e) (run-starts (step w e) es)
     by-step (inr more) h = let longer = more-length (w .starts) (step w e .starts) more in omega arith
 
 -- What the client hands up before an event that starts no call leads what it hands up after it.
-accepted-grows : (w : World) (e : Event) → answerTo w e ≡ Done → Premise w e → OneMore (w .starts) (step w e .starts) ⊎ Leads (handedUp w) (handedUp (step w e))
-unfolding step answerTo bytesLent ownAfter replyStep
+accepted-grows : (w : World) (e : Event) → answerTo w e ≡ Done → Premise w e → OneMore (w .starts) (step w e .starts) ⊎ Leads (replyHandedUp w) (replyHandedUp (step w e))
+unfolding step answerTo happens bytesLent ownAfter
 accepted-grows w (Start call n message) done fair = inl (start-more w call n message done)
 accepted-grows w (ClientTransmit message out) done fair = inr (transmit-grows (w .client) message out (w .clientSlots))
 accepted-grows w (ClientArrive datagram lent out) done fair =
     inr
-    (subst (λ (l : Lent). Leads (handedUp w) (handedUp (step w (ClientArrive datagram l out)))) (sym (fair .own))
+    (subst (λ (l : Lent). Leads (replyHandedUp w) (replyHandedUp (step w (ClientArrive datagram l out)))) (sym (fair .own))
     (arrive-grows (w .client) datagram (w .clientSlots) out))
 accepted-grows w (ClientTimer kind ticket out) done fair = inr (timer-grows (w .client) kind ticket out (w .clientSlots))
-accepted-grows w (ServerArrive datagram lent out) done fair = inr (leads-refl (handedUp w))
-accepted-grows w (ServerTransmit message out) done fair = inr (leads-refl (handedUp w))
-accepted-grows w (ServerTimer ticket out) done fair = inr (leads-refl (handedUp w))
-accepted-grows w (Reply n message) done fair = inr (leads-refl (handedUp w))
-accepted-grows w (Fault status out) done fair = inr (leads-refl (handedUp w))
+accepted-grows w (ServerArrive datagram lent out) done fair = inr (leads-refl (replyHandedUp w))
+accepted-grows w (ServerTransmit message out) done fair = inr (leads-refl (replyHandedUp w))
+accepted-grows w (ServerTimer ticket out) done fair = inr (leads-refl (replyHandedUp w))
+accepted-grows w (Reply n message) done fair = inr (leads-refl (replyHandedUp w))
+accepted-grows w (Fault status out) done fair = inr (leads-refl (replyHandedUp w))
 
-step-grows : (w : World) (e : Event) → (answerTo w e ≡ Done → Premise w e) → OneMore (w .starts) (step w e .starts) ⊎ Leads (handedUp w) (handedUp (step w e))
+step-grows : (w : World) (e : Event) → (answerTo w e ≡ Done → Premise w e) → OneMore (w .starts) (step w e .starts) ⊎ Leads (replyHandedUp w) (replyHandedUp (step w e))
 step-grows w e fair = by-answer (done-or-not (answerTo w e))
   where
-    by-answer : Dec (answerTo w e ≡ Done) → OneMore (w .starts) (step w e .starts) ⊎ Leads (handedUp w) (handedUp (step w e))
+    by-answer : Dec (answerTo w e ≡ Done) → OneMore (w .starts) (step w e .starts) ⊎ Leads (replyHandedUp w) (replyHandedUp (step w e))
     by-answer (yes done) = accepted-grows w e done (fair done)
-    by-answer (no other) = inr (subst (λ (v : World). Leads (handedUp w) (handedUp v)) (sym (refused-same w e other)) (leads-refl (handedUp w)))
+    by-answer (no other) = inr (subst (λ (v : World). Leads (replyHandedUp w) (replyHandedUp v)) (sym (refused-same w e other)) (leads-refl (replyHandedUp w)))
 
 -- While no start goes on record it only grows.
-pub run-grows : (w : World) (events : List Event) → Fair w events → run w events .starts ≡ w .starts → Leads (handedUp w) (handedUp (run w events))
+pub run-grows : (w : World) (events : List Event) → Fair w events → run w events .starts ≡ w .starts → Leads (replyHandedUp w) (replyHandedUp (run w events))
 unfolding run
-run-grows w [] fair same = leads-refl (handedUp w)
+run-grows w [] fair same = leads-refl (replyHandedUp w)
 run-grows w (e ∷ es) fair same = by-starts (step-starts w e) (step-grows w e (fair .0)) (run-grows (step w e) es (fair .1))
   where
     none-more : OneMore (w .starts) (step w e .starts) → ⊥
@@ -152,9 +151,9 @@ run-grows w (e ∷ es) fair same = by-starts (step-starts w e) (step-grows w e (
         omega arith
 
     by-starts : (step w e .starts ≡ w .starts) ⊎ OneMore (w .starts) (step w e .starts)
-        → OneMore (w .starts) (step w e .starts) ⊎ Leads (handedUp w) (handedUp (step w e))
-        → (run (step w e) es .starts ≡ step w e .starts → Leads (handedUp (step w e)) (handedUp (run (step w e) es)))
-        → Leads (handedUp w) (handedUp (run (step w e) es))
+        → OneMore (w .starts) (step w e .starts) ⊎ Leads (replyHandedUp w) (replyHandedUp (step w e))
+        → (run (step w e) es .starts ≡ step w e .starts → Leads (replyHandedUp (step w e)) (replyHandedUp (run (step w e) es)))
+        → Leads (replyHandedUp w) (replyHandedUp (run (step w e) es))
     by-starts (inr more) grows rest = absurd (none-more more)
     by-starts (inl stay) (inl more) rest = absurd (none-more more)
     by-starts (inl stay) (inr grows) rest = leads-trans grows (rest (same ∙ sym stay))

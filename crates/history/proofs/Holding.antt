@@ -21,8 +21,7 @@ use Rattle.outgoing.specs.Message.{fragments, fragmentOf, flagsOf}
 use Rattle.outgoing.proofs.OutgoingLaws.{fragments-reach, fragment-most}
 use Rattle.fragments.specs.Judgement.{held, heldAbove, aboveLast, otherLast, lastBelowHeld, contradicts}
 use Rattle.fragments.specs.Slots.{bytesOf, filled}
-use Rattle.fragments.specs.Joined.{joined}
-use Rattle.fragments.proofs.BufferLaws.{Carries, filled-here, filled-other, joined-whole}
+use Rattle.fragments.proofs.BufferLaws.{joined, Carries, filled-here, filled-other, joined-whole}
 use Rattle.fragments.proofs.PutLaws.{stored-slot-same, stored-slot-other, stored-held-same, stored-held-other, held-told, none-above}
 use Rattle.grounds.specs.Fragment.{isLast}
 

@@ -6,7 +6,6 @@ use mathlib.Core.Logic.{_⊎_}
 use mathlib.Core.Path.{_≡_}
 use lib.ListN.{length}
 use Rattle.incoming.specs.declared.Incoming.{Incoming}
-use Rattle.incoming.specs.Slots.{complete}
 use Rattle.client_record.specs.declared.Client.{Client}
 use Rattle.client_record.specs.States.{isQueued}
 use Rattle.client_record.specs.Rules.{sound as clientSound}
@@ -21,11 +20,13 @@ use Rattle.server_record.specs.States.{isFresh}
 use Rattle.server_record.specs.Rules.{sound as serverSound}
 use Rattle.server_table.specs.declared.Event.the-variants.{Request as RequestEvent}
 use Rattle.server_table.specs.Events.{eventOf as serverEventOf}
+use Rattle.client.specs.declared.Outcome.{Outcome as ClientOutcome}
+use Rattle.server.specs.declared.Outcome.{Outcome as ServerOutcome}
 use Rattle.history.specs.Lists.{In}
-use Rattle.history.specs.World.{Started, Dispatched, Replied, World}
-use Rattle.history.specs.Steps.{lastDispatched}
-use Rattle.history.specs.Fairness.{lastStarted, lastReplied, Typed}
-use Rattle.history.specs.Claim.{times, toldLast, NeverFall}
+use Rattle.history.specs.World.{Started, Dispatched, Replied, Completed, World}
+use Rattle.history.specs.Steps.{lastDispatched, clientWorld, serverWorld, clientStarted, serverReplied}
+use Rattle.history.specs.Fairness.{OfLastStart, OfLastReply, Typed}
+use Rattle.history.specs.Claim.{times, DispatchOf, WholeReply, NeverFall}
 use Rattle.history.proofs.Holding.{Holding, Empty, Single}
 use Rattle.history.proofs.Network.{Request, Response, Known}
 
@@ -35,7 +36,7 @@ pub record CurrentStart (c : Client) (starts : List Started) : Type 0 where
   pub started : In start starts
   pub number : start .number ≡ c .number
   pub mark : start .idempotent ≡ c .call .idempotent
-  pub message : lastStarted starts ≡ start .message
+  pub message : (m : List ℕ) → OfLastStart starts m → m ≡ start .message
   pub size : length (start .message) ≡ c .outgoing .length
   pub typed : Typed (c .call)
   pub small : c .number < 4294967296
@@ -54,7 +55,6 @@ pub record ClientInv (c : Client) (slots : List ℕ) (starts : List Started) (re
   pub begun : (s : Started) → In s starts → (isQueued (c .state) ≡ false) × (s .number ≤ c .number)
   pub current : isQueued (c .state) ≡ false → CurrentStart c starts
   pub holds : ClientHolds (c .number) (c .incoming) slots replies
-  pub told : toldLast (c .state) ≡ true → complete (c .incoming) ≡ true
 
 -- The server's call is one that was started.
 pub record CalledStart (s : Server) (starts : List Started) : Type 0 where
@@ -72,6 +72,11 @@ pub record Collecting (s : Server) (slots : List ℕ) (starts : List Started) (d
   pub number : start .number ≡ s .number
   pub holding : Holding (s .incoming) slots (start .message)
   pub first : s .call .idempotent ≡ false → (d : Dispatched) → In d dispatches → d .number ≡ s .number → ⊥
+
+-- In RUNNING the last dispatch is the server's call.
+pub record LastRun (s : Server) (dispatches : List Dispatched) : Type 0 where
+  pub last : lastDispatched dispatches ≡ s .number
+  pub ran : DispatchOf dispatches (s .number)
 
 -- Where a reply can still be given to the server's number: COLLECT, RUNNING, IDLE repeatable.
 abbrev pub unanswered : State → Bool
@@ -97,7 +102,7 @@ pub record CurrentReply (s : Server) (replies : List Replied) : Type 0 where
   pub reply : Replied
   pub given : In reply replies
   pub number : reply .number ≡ s .number
-  pub message : lastReplied replies ≡ reply .message
+  pub message : (m : List ℕ) → OfLastReply replies m → m ≡ reply .message
   pub size : length (reply .message) ≡ s .outgoing .length
   pub others : (r : Replied) → In r replies → r .number ≡ s .number → (r ≡ reply) ⊎ Single (r .message)
 
@@ -111,7 +116,7 @@ pub record ServerInv (s : Server) (slots : List ℕ) (starts : List Started) (di
   pub answered : (r : Replied) → In r replies → (isFresh (s .state) ≡ false) × (r .number ≤ s .number)
   pub called : isFresh (s .state) ≡ false → CalledStart s starts
   pub collecting : s .state ≡ Collect → Collecting s slots starts dispatches
-  pub running : s .state ≡ Running → lastDispatched dispatches ≡ s .number
+  pub running : s .state ≡ Running → LastRun s dispatches
   pub single : unanswered (s .state) ≡ true → (r : Replied) → In r replies → r .number ≡ s .number → Single (r .message)
   pub replying : hasData (s .state) ≡ true → CurrentReply s replies
 
@@ -121,6 +126,7 @@ pub record CallInv (starts : List Started) (dispatches : List Dispatched) (repli
   pub once : (s : Started) → In s starts → s .idempotent ≡ false → times (s .number) dispatches ≤ 1
   pub whole : (d : Dispatched) → In d dispatches → (s : Started) × (In s starts × ((s .number ≡ d .number) × (d .bytes ≡ s .message)))
   pub rising : NeverFall dispatches
+  pub replied : (r : Replied) → In r replies → DispatchOf dispatches (r .number)
   pub alike : (r t : Replied) → In r replies → In t replies → r .number ≡ t .number → (r ≡ t) ⊎ (Single (r .message) ⊎ Single (t .message))
 
 -- What the server takes for a request, and the client for a response.
@@ -137,3 +143,18 @@ pub record Inv (w : World) : Type 0 where
   pub calls : CallInv (w .starts) (w .dispatches) (w .replies)
   pub requests : (d : List ℕ) → In d (w .clientSent) → Known IsRequest (Request (w .starts)) d
   pub responses : (d : List ℕ) → In d (w .serverSent) → Known IsResponse (Response (w .replies)) d
+  pub completed : (c : Completed) → In c (w .completions) → WholeReply (w .replies) c
+
+-- The world after a step of the client that is no start, after a start, after a step of the server that is no reply, and after a
+-- reply.
+abbrev pub clientStep : World → ClientOutcome → List ℕ → List ℕ → World
+clientStep w r out slots = clientWorld w r out slots (w .starts)
+
+abbrev pub startStep : World → ClientOutcome → Bool → List ℕ → World
+startStep w r idempotent message = clientStarted w r idempotent message .world
+
+abbrev pub serverStep : World → ServerOutcome → List ℕ → List ℕ → ℕ → World
+serverStep w r out slots number = serverWorld w r out slots number (w .replies)
+
+abbrev pub replyStep : World → ServerOutcome → List ℕ → World
+replyStep w r message = serverReplied w r message .world

@@ -1,7 +1,7 @@
 -- A refused event leaves the whole world as it was, and so does a late timer.
 use Prim.Native.Nat.{ℕ}
 use mathlib.Core.Bool.{Bool, true, false, false≢true}
-use mathlib.Core.List.{List}
+use mathlib.Core.List.{List, []}
 use mathlib.Core.Path.{_≡_, refl, ap}
 use lib.Dec.{eqb}
 use borrow.Author.Tests.{eqb-true}
@@ -25,6 +25,7 @@ use Rattle.client.proofs.Judging.{timer-passes as client-timer-passes}
 use Rattle.client.proofs.Accepting.{timer-accepted as client-timer-accepted}
 use Rattle.client.proofs.Refusals.{start-refused, transmit-refused as client-transmit-refused, timer-refused as client-timer-refused, arrive-refused as client-arrive-refused}
 use Rattle.server.specs.declared.Outcome.{Outcome as ServerOutcome}
+use Rattle.client.specs.HandUp.{handsUp as clientHandsUp}
 use Rattle.server.specs.HandUp.{handsUp}
 use Rattle.server.specs.Machine.{replying, transmitting as serverTransmitting, timing as serverTiming, faulting, arriving as serverArriving}
 use Rattle.server.proofs.Judging.{timer-passes as server-timer-passes}
@@ -32,9 +33,10 @@ use Rattle.server.proofs.Accepting.{timer-accepted as server-timer-accepted}
 use Rattle.server.proofs.Refusals.{reply-refused, transmit-refused as server-transmit-refused, fault-refused, timer-refused as server-timer-refused, arrive-refused as server-arrive-refused}
 use Rattle.history.specs.World.{Started, Replied, World}
 use Rattle.history.specs.Events.{Lent, Own, Other, Event, Start, ClientTransmit, ClientArrive, ClientTimer, ServerArrive, ServerTransmit, ServerTimer, Reply, Fault}
-use Rattle.history.specs.Steps.{isDone, bytesLent, ownAfter, sentAfter, dispatchesAfter, lastDispatched, clientStep, serverStep, startStep, replyStep, step, answerTo}
+use Rattle.history.specs.Steps.{isDone, bytesLent, ownAfter, sentAfter, dispatchesAfter, completionsAfter, lastDispatched, happens, answerTo, noticeOf, step}
+use Rattle.history.proofs.Invariant.{clientStep, startStep, serverStep, replyStep}
 use Rattle.history.specs.Lists.{andThen}
-use Rattle.history.specs.Claim.{TimerOf, OfClient, OfServer, timerIn, timerEvent}
+use Rattle.history.specs.Claim.{TimerOf, OfClient, OfServer, timerIn, timerEvent, ChangesNothing}
 
 -- An answer that is not Done is not 0.
 not-zero : (a : Answer) → (a ≡ Done → ⊥) → isDone a ≡ false
@@ -52,10 +54,10 @@ same-own Own own left e = e
 same-own (Other bytes) own left e = refl
 
 -- A client that stays, sends nothing and leaves its buffer changes nothing,
-client-same : (w : World) (r : ClientOutcome) (out slots : List ℕ) → r .client ≡ w .client → r .sent ≡ Nothing → slots ≡ w .clientSlots
-    → clientStep w r out slots ≡ w
-unfolding sentAfter
-client-same w r out slots p q e = λ i. record {
+client-same : (w : World) (r : ClientOutcome) (out slots : List ℕ) → r .client ≡ w .client → r .sent ≡ Nothing → r .notice ≡ Untold
+    → slots ≡ w .clientSlots → clientStep w r out slots ≡ w
+unfolding sentAfter completionsAfter
+client-same w r out slots p q u e = λ i. record {
   client = p i;
   server = w .server;
   clientSlots = e i;
@@ -65,6 +67,7 @@ client-same w r out slots p q e = λ i. record {
   starts = w .starts;
   dispatches = w .dispatches;
   replies = w .replies;
+  completions = completionsAfter (w .completions) (u i) (r .client .number) (clientHandsUp (r .client) slots);
 }
 
 -- nor does such a server that tells nothing,
@@ -81,13 +84,14 @@ server-same w r out slots number p q u e = λ i. record {
   starts = w .starts;
   dispatches = dispatchesAfter (w .dispatches) (u i) number (handsUp (r .server) slots);
   replies = w .replies;
+  completions = w .completions;
 }
 
 -- a start that is not on record
 start-same : (w : World) (r : ClientOutcome) (idempotent : Bool) (message : List ℕ) → (r .answer ≡ Done → ⊥) → r .client ≡ w .client
-    → startStep w r idempotent message ≡ w
-unfolding startStep
-start-same w r idempotent message other p =
+    → r .sent ≡ Nothing → r .notice ≡ Untold → startStep w r idempotent message ≡ w
+unfolding sentAfter completionsAfter
+start-same w r idempotent message other p q u =
     let new : Started = record { number = r .client .number; idempotent = idempotent; message = message } in
     let none = choose-false (isDone (r .answer)) (andThen (w .starts) new) (w .starts) (not-zero (r .answer) other) in
     λ i. record {
@@ -95,17 +99,19 @@ start-same w r idempotent message other p =
       server = w .server;
       clientSlots = w .clientSlots;
       serverSlots = w .serverSlots;
-      clientSent = w .clientSent;
+      clientSent = sentAfter (w .clientSent) (q i) [];
       serverSent = w .serverSent;
       starts = none i;
       dispatches = w .dispatches;
       replies = w .replies;
+      completions = completionsAfter (w .completions) (u i) (r .client .number) (clientHandsUp (r .client) (w .clientSlots));
     }
 
 -- or a reply that is not.
-reply-same : (w : World) (r : ServerOutcome) (message : List ℕ) → (r .answer ≡ Done → ⊥) → r .server ≡ w .server → replyStep w r message ≡ w
-unfolding replyStep
-reply-same w r message other p =
+reply-same : (w : World) (r : ServerOutcome) (message : List ℕ) → (r .answer ≡ Done → ⊥) → r .server ≡ w .server → r .sent ≡ Nothing
+    → r .notice ≡ Untold → replyStep w r message ≡ w
+unfolding sentAfter dispatchesAfter
+reply-same w r message other p q u =
     let new : Replied = record { number = lastDispatched (w .dispatches); message = message } in
     let none = choose-false (isDone (r .answer)) (andThen (w .replies) new) (w .replies) (not-zero (r .answer) other) in
     λ i. record {
@@ -114,28 +120,29 @@ reply-same w r message other p =
       clientSlots = w .clientSlots;
       serverSlots = w .serverSlots;
       clientSent = w .clientSent;
-      serverSent = w .serverSent;
+      serverSent = sentAfter (w .serverSent) (q i) [];
       starts = w .starts;
-      dispatches = w .dispatches;
+      dispatches = dispatchesAfter (w .dispatches) (u i) (w .server .number) (handsUp (r .server) (w .serverSlots));
       replies = none i;
+      completions = w .completions;
     }
 
 -- So an event that is not answered 0 leaves the whole world as it was.
 pub refused-same : (w : World) (e : Event) → (answerTo w e ≡ Done → ⊥) → step w e ≡ w
-unfolding step answerTo
+unfolding step answerTo happens
 refused-same w (Start call n message) other =
     let same = start-refused (w .client) call n other in
-    start-same w (starting (w .client) call n) (call .idempotent) message other (same .client)
+    start-same w (starting (w .client) call n) (call .idempotent) message other (same .client) (same .sent) (same .notice)
 refused-same w (ClientTransmit message out) other =
     let same = client-transmit-refused (w .client) message out other .outcome in
-    client-same w (clientTransmitting (w .client) message out .outcome) _ (w .clientSlots) (same .client) (same .sent) refl
+    client-same w (clientTransmitting (w .client) message out .outcome) _ (w .clientSlots) (same .client) (same .sent) (same .notice) refl
 refused-same w (ClientArrive datagram lent out) other =
     let same = client-arrive-refused (w .client) datagram (bytesLent lent (w .clientSlots)) out other in
     client-same w (clientArriving (w .client) datagram (bytesLent lent (w .clientSlots)) out .outcome) _ _ (same .outcome .client) (same .outcome .sent)
-    (same-own lent (w .clientSlots) _ (same .stored))
+    (same .outcome .notice) (same-own lent (w .clientSlots) _ (same .stored))
 refused-same w (ClientTimer kind ticket out) other =
     let same = client-timer-refused (w .client) kind ticket out other .outcome in
-    client-same w (clientTiming (w .client) kind ticket out .outcome) _ (w .clientSlots) (same .client) (same .sent) refl
+    client-same w (clientTiming (w .client) kind ticket out .outcome) _ (w .clientSlots) (same .client) (same .sent) (same .notice) refl
 refused-same w (ServerArrive datagram lent out) other =
     let same = server-arrive-refused (w .server) datagram (bytesLent lent (w .serverSlots)) out other in
     server-same w (serverArriving (w .server) datagram (bytesLent lent (w .serverSlots)) out .outcome) _ _ _ (same .outcome .server) (same .outcome .sent)
@@ -148,7 +155,7 @@ refused-same w (ServerTimer ticket out) other =
     server-same w (serverTiming (w .server) ticket out .outcome) _ (w .serverSlots) _ (same .server) (same .sent) (same .notice) refl
 refused-same w (Reply n message) other =
     let same = reply-refused (w .server) n other in
-    reply-same w (replying (w .server) n) message other (same .server)
+    reply-same w (replying (w .server) n) message other (same .server) (same .sent) (same .notice)
 refused-same w (Fault status out) other =
     let same = fault-refused (w .server) status out other .outcome in
     server-same w (faulting (w .server) status out .outcome) _ (w .serverSlots) _ (same .server) (same .sent) (same .notice) refl
@@ -162,7 +169,7 @@ armed-is (Armed held) ticket e = ap Armed (eqb-true held ticket e)
 -- A timer event that is answered 0 has the armed ticket,
 pub acted-armed : (w : World) (timer : TimerOf) (ticket : ℕ) (out : List ℕ) → answerTo w (timerEvent timer ticket out) ≡ Done
     → timerIn w timer ≡ Armed ticket
-unfolding answerTo timerEvent timerIn namedTimer
+unfolding answerTo happens timerEvent timerIn namedTimer
 acted-armed w (OfClient Wait) ticket out done =
     armed-is (w .client .wait) ticket (client-timer-passes (w .client) Wait ticket _ (client-timer-accepted (w .client) Wait ticket out done) .armed)
 acted-armed w (OfClient Ack) ticket out done =
@@ -170,7 +177,20 @@ acted-armed w (OfClient Ack) ticket out done =
 acted-armed w OfServer ticket out done =
     armed-is (w .server .resend) ticket (server-timer-passes (w .server) ticket _ (server-timer-accepted (w .server) ticket out done) .armed)
 
--- so a late one leaves the whole world as it was.
-pub late-same : (w : World) (timer : TimerOf) (ticket : ℕ) (out : List ℕ) → (timerIn w timer ≡ Armed ticket → ⊥) → step w (timerEvent timer ticket out) ≡ w
-late-same w timer ticket out late =
-    refused-same w (timerEvent timer ticket out) (λ done. late (acted-armed w timer ticket out done))
+-- and a refused one tells nothing,
+timer-untold : (w : World) (timer : TimerOf) (ticket : ℕ) (out : List ℕ) → (answerTo w (timerEvent timer ticket out) ≡ Done → ⊥)
+    → noticeOf w (timerEvent timer ticket out) ≡ Untold
+unfolding answerTo noticeOf happens timerEvent
+timer-untold w (OfClient kind) ticket out other = client-timer-refused (w .client) kind ticket out other .outcome .notice
+timer-untold w OfServer ticket out other = server-timer-refused (w .server) ticket out other .outcome .notice
+
+-- so a late one changes nothing.
+pub late-nothing : (w : World) (timer : TimerOf) (ticket : ℕ) (out : List ℕ) → (timerIn w timer ≡ Armed ticket → ⊥)
+    → ChangesNothing w (timerEvent timer ticket out)
+late-nothing w timer ticket out late =
+    let other : answerTo w (timerEvent timer ticket out) ≡ Done → ⊥ = λ done. late (acted-armed w timer ticket out done) in
+    record {
+      refused = other;
+      untold = timer-untold w timer ticket out other;
+      same = refused-same w (timerEvent timer ticket out) other;
+    }

@@ -51,10 +51,9 @@ use Rattle.server.proofs.Judging.{CanArrive, begin-fits, put-fits, fack-fits, a
 use Rattle.server.proofs.Accepting.{arrive-accepted}
 use Rattle.history.specs.Lists.{In}
 use Rattle.history.specs.World.{World}
-use Rattle.history.specs.Steps.{serverStep}
 use Rattle.history.specs.Fairness.{Typed}
 use Rattle.history.proofs.Network.{Request, Response, read-sized}
-use Rattle.history.proofs.Invariant.{unanswered, hasData, ServerInv, Inv}
+use Rattle.history.proofs.Invariant.{unanswered, hasData, ServerInv, Inv, serverStep}
 use Rattle.history.proofs.ServerSteps.{past, past-called, goes-on, rewinding-goes-on, spent-goes-on, stays-goes-on}
 use Rattle.history.proofs.ServerSends.{answers, ofCall, others-sent, planned}
 use Rattle.history.proofs.ServerPuts.{Begins, begun-inv, put-inv}

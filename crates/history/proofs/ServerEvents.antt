@@ -35,19 +35,20 @@ use Rattle.server.specs.Machine.{outcomeOf, replying, sending, transmitting, ti
 use Rattle.server.proofs.Judging.{CanReply, reply-passes, transmit-passes, fault-passes, timer-passes}
 use Rattle.server.proofs.Accepting.{reply-accepted, transmit-accepted, fault-accepted, timer-accepted}
 use Rattle.history.specs.Lists.{In, andThen}
+use Rattle.history.specs.Claim.{DispatchOf}
 use Rattle.history.specs.World.{Replied, World}
-use Rattle.history.specs.Steps.{lastDispatched, serverStep, replyStep}
-use Rattle.history.specs.Fairness.{lastReplied}
+use Rattle.history.specs.Steps.{lastDispatched, sentAfter, dispatchesAfter}
+use Rattle.history.specs.Fairness.{OfLastReply}
 use Rattle.history.proofs.ListLaws.{in-before, in-added, in-grown, all-grown, last-replied}
 use Rattle.history.proofs.Holding.{Single}
 use Rattle.history.proofs.Network.{Response, more-known}
-use Rattle.history.proofs.Invariant.{ClientHolds, nothing, fragments-of, ClientInv, unanswered, hasData, ServerInv, IsResponse, Inv}
+use Rattle.history.proofs.Invariant.{ClientHolds, nothing, fragments-of, ClientInv, unanswered, hasData, ServerInv, IsResponse, Inv, serverStep, replyStep}
 use Rattle.history.proofs.ServerSteps.{goes-on, settled-goes-on, transmitted-goes-on, resend-goes-on}
 use Rattle.history.proofs.ServerSends.{answers, others-sent, all-single, response-sent, transmitted-counts, planned}
 
 -- Transmit.
 pub server-transmit-inv : (w : World) (message out : List ℕ) (number : ℕ) → Inv w → transmitting (w .server) message out .outcome .answer ≡ Done
-    → message ≡ lastReplied (w .replies)
+    → OfLastReply (w .replies) message
     → Inv (serverStep w (transmitting (w .server) message out .outcome) (transmitting (w .server) message out .out) (w .serverSlots) number)
 unfolding transmitting transmitPlan accepted sentOut isFresh
 server-transmit-inv w message out number inv done lent =
@@ -146,7 +147,7 @@ module _ (w : World) (inv : Inv w) (n : ℕ) (message : List ℕ) (can : CanRepl
 
   -- It is given to the server's number,
   to-number : lastDispatched (w .dispatches) ≡ w .server .number
-  to-number = inv .server .running running
+  to-number = inv .server .running running .last
 
   -- to which every earlier reply was a single fragment.
   earlier : (r : Replied) → In r (w .replies) → r .number ≡ w .server .number → Single (r .message)
@@ -203,7 +204,6 @@ module _ (w : World) (inv : Inv w) (n : ℕ) (message : List ℕ) (can : CanRepl
         begun = old .begun;
         current = old .current;
         holds = more (old .holds);
-        told = old .told;
       }
     where
       more : ClientHolds (w .client .number) (w .client .incoming) (w .clientSlots) (w .replies)
@@ -226,7 +226,7 @@ module _ (w : World) (inv : Inv w) (n : ℕ) (message : List ℕ) (can : CanRepl
       record { reply = r .reply; given = in-before (w .replies) (r .reply) reply (r .given); number = r .number; part = r .part }
 
   reply-inv : Inv (replyStep w (outcomeOf (replyPlan Pass (w .server) n) Unsent) message)
-  unfolding replyStep outcomeOf replyPlan accepted choose
+  unfolding outcomeOf replyPlan accepted choose sentAfter dispatchesAfter
   reply-inv = record {
     client = client-replied;
     server = server-replied;
@@ -236,10 +236,17 @@ module _ (w : World) (inv : Inv w) (n : ℕ) (message : List ℕ) (can : CanRepl
           once = inv .calls .once;
           whole = inv .calls .whole;
           rising = inv .calls .rising;
+          replied =
+              all-grown (λ (r : Replied). DispatchOf (w .dispatches) (r .number)) (w .replies) reply (inv .calls .replied)
+              (subst (DispatchOf (w .dispatches)) (sym to-number) (inv .server .running running .ran));
           alike = alike;
         };
     requests = inv .requests;
     responses = λ d m. more-known IsResponse (Response (w .replies)) (Response replies) response-replied d (inv .responses d m);
+    completed =
+        λ c m.
+        let old = inv .completed c m in
+        record { reply = old .reply; given = in-before (w .replies) (old .reply) reply (old .given); number = old .number; whole = old .whole };
   }
 
 -- Reply.

@@ -36,12 +36,12 @@ use Rattle.server.specs.HandUp.{handsUp}
 use Rattle.server.specs.Machine.{outcomeOf, sending}
 use Rattle.history.specs.Lists.{In, andThen}
 use Rattle.history.specs.World.{Started, Dispatched, Replied, World}
-use Rattle.history.specs.Steps.{dispatchesAfter, serverStep}
+use Rattle.history.specs.Steps.{dispatchesAfter}
 use Rattle.history.specs.Claim.{times}
-use Rattle.history.proofs.ListLaws.{all-grown, last-dispatched, times-same, times-other, times-none, rises-on}
+use Rattle.history.proofs.ListLaws.{in-added, dispatch-before, all-grown, last-dispatched, times-same, times-other, times-none, rises-on}
 use Rattle.history.proofs.Holding.{PartOf, Holding, Single, empty-holding, put-holding, holding-whole}
 use Rattle.history.proofs.Network.{Request, Response}
-use Rattle.history.proofs.Invariant.{Collecting, unanswered, ServerInv, CallInv, Inv}
+use Rattle.history.proofs.Invariant.{Collecting, unanswered, ServerInv, CallInv, Inv, serverStep}
 use Rattle.history.proofs.ServerSends.{answers, ofCall, others-sent}
 use Rattle.history.proofs.StartStep.{cleared-none}
 
@@ -217,7 +217,12 @@ module _ (s : Server) (slots : List ℕ) (starts : List Started) (dispatches : L
             λ e.
             record { start = k .start; started = k .started; number = k .number; mark = k .mark; typed = k .typed; small = k .small };
         collecting = λ e. absurd (false≢true (sym (ap isRunning e)));
-        running = λ e. last-dispatched dispatches (dispatch bytes) ∙ sym mine;
+        running =
+            λ e.
+            record {
+              last = last-dispatched dispatches (dispatch bytes) ∙ sym mine;
+              ran = record { dispatch = dispatch bytes; dispatched = in-added dispatches (dispatch bytes); same = sym mine };
+            };
         single = λ e. inv .single (ap unanswered state);
         replying = λ e. absurd (false≢true e);
       }
@@ -254,6 +259,7 @@ module _ (s : Server) (slots : List ℕ) (starts : List Started) (dispatches : L
         all-grown (λ (d : Dispatched). (t : Started) × (In t starts × ((t .number ≡ d .number) × (d .bytes ≡ t .message)))) dispatches (dispatch bytes)
         (calls .whole) (collecting .start, (collecting .started, (collecting .number ∙ mine, all)));
     rising = rises-on dispatches (dispatch bytes) (calls .rising) (λ d m. rw (← mine) (inv .dispatched d m .1));
+    replied = λ r m. dispatch-before dispatches (dispatch bytes) (r .number) (calls .replied r m);
     alike = calls .alike;
   }
 
@@ -296,6 +302,7 @@ put-inv w inv s server state h body request mine whole short small fits out room
       server = known .0;
       calls = known .1;
       requests = inv .requests;
+      completed = inv .completed;
       responses =
           others-sent (w .serverSent) (Response (w .replies)) (putServer-of (complete m)) h out room (known .0 .activity) (request .sized .object)
           (request .sized .interface) (inv .responses) (fackFor (wantsFack (h .flags1)) (h .serial)) [] (fack-sends (wantsFack (h .flags1)) (h .serial) .0)

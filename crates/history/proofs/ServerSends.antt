@@ -37,7 +37,7 @@ use Rattle.server_record.specs.Rules.{sound, outgoingSound}
 use Rattle.server_record.specs.Record.{holding, unarmed}
 use Rattle.server_record.proofs.StateLaws.{replying-state}
 use Rattle.server_record.proofs.RuleLaws.{rules-told, replying-told}
-use Rattle.server_table.specs.Local.{repeats}
+use Rattle.server_table.specs.Local.{runsAgain}
 use Rattle.server_steps.specs.declared.Send.{Send}
 use Rattle.server_steps.specs.declared.Send.the-variants.{Nothing, Response as SendResponse, Fault as SendFault, Working, Nocall, Fack}
 use Rattle.server_steps.specs.declared.Plan.{Plan}
@@ -48,12 +48,12 @@ use Rattle.server.specs.HandUp.{handsUp}
 use Rattle.server.specs.Machine.{outcomeOf, sending}
 use Rattle.history.specs.Lists.{In}
 use Rattle.history.specs.World.{Started, Replied, World}
-use Rattle.history.specs.Steps.{sentAfter, dispatchesAfter, serverStep}
-use Rattle.history.specs.Fairness.{lastReplied, Typed}
+use Rattle.history.specs.Steps.{sentAfter, dispatchesAfter}
+use Rattle.history.specs.Fairness.{OfLastReply, Typed}
 use Rattle.history.proofs.ListLaws.{all-grown}
 use Rattle.history.proofs.Holding.{PartOf, Single, flags-last}
 use Rattle.history.proofs.Network.{Response, Known, other-known, same-known, posted-sent, call-sized, call-fits}
-use Rattle.history.proofs.Invariant.{CalledStart, CurrentReply, ServerInv, IsResponse, Inv}
+use Rattle.history.proofs.Invariant.{CalledStart, CurrentReply, ServerInv, IsResponse, Inv, serverStep}
 use Rattle.history.proofs.ServerSteps.{GoesOn}
 
 -- Only transmit sends a response.
@@ -125,7 +125,7 @@ module _ (before : List (List ℕ)) (P : Header → List ℕ → Type 0) (s : Se
 -- A response that transmit sends is a fragment of the reply that is out.
 module _ (s : Server) (starts : List Started) (replies : List Replied) (message : List ℕ) (called : CalledStart s starts) (now : CurrentReply s replies)
     (activity : length (s .activity) ≡ 16) (boot : s .boot < 4294967296) (kept : sound s ≡ true) (row : isReplying (s .state) ≡ true)
-    (lent : message ≡ lastReplied replies) where
+    (lent : OfLastReply replies message) where
   out-is : (hasMessage (s .outgoing) ≡ true) × (s .outgoing .sent < s .outgoing .count)
   out-is =
       replying-told (s .outgoing)
@@ -145,12 +145,12 @@ module _ (s : Server) (starts : List Started) (replies : List Replied) (message 
       record {
         below = rw (← count-is) (out-is .1);
         last = flags-last (s .outgoing .count) (s .outgoing .sent) false (out-is .1) ∙ ap (eqb (s .outgoing .sent + 1)) count-is;
-        bytes = ap (λ (m : List ℕ). fragmentOf m (s .outgoing .sent)) (lent ∙ now .message);
+        bytes = ap (λ (m : List ℕ). fragmentOf m (s .outgoing .sent)) (now .message message lent);
       }
 
   -- and an idempotent call whose reply is one fragment has had only such replies.
-  pub all-single : repeats (s .call .idempotent) (s .outgoing) ≡ true → (r : Replied) → In r replies → r .number ≡ s .number → Single (r .message)
-  unfolding repeats
+  pub all-single : runsAgain (s .call .idempotent) (s .outgoing) ≡ true → (r : Replied) → In r replies → r .number ≡ s .number → Single (r .message)
+  unfolding runsAgain
   all-single e r m n = by-reply (now .others r m n)
     where
       one : s .outgoing .count ≡ 1
@@ -203,7 +203,7 @@ settled-counts false s reply = refl
 
 transmitted-sent : (last : Bool) (s : Server) → transmitted last s .outgoing ≡ afterSend (s .outgoing)
 unfolding transmitted withOutgoing choose
-transmitted-sent true s = settled-counts (repeats (s .call .idempotent) (s .outgoing)) (withOutgoing s (afterSend (s .outgoing))) Data
+transmitted-sent true s = settled-counts (runsAgain (s .call .idempotent) (s .outgoing)) (withOutgoing s (afterSend (s .outgoing))) Data
 transmitted-sent false s = refl
 
 pub transmitted-counts : (last : Bool) (s : Server) → (transmitted last s .outgoing .count ≡ s .outgoing .count) × (transmitted last s .outgoing .serial < 65536)
@@ -227,4 +227,5 @@ planned w plan h message out slots number inv quiet server responses =
       calls = rw same (inv .calls);
       requests = inv .requests;
       responses = responses;
+      completed = inv .completed;
     }

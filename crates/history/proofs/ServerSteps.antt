@@ -17,7 +17,7 @@ use Rattle.server_record.specs.declared.Server.{Server}
 use Rattle.server_record.specs.States.{neverCalled, isFresh}
 use Rattle.server_record.specs.Rules.{sound}
 use Rattle.server_record.specs.Record.{holding, unarmed}
-use Rattle.server_table.specs.Local.{repeats}
+use Rattle.server_table.specs.Local.{runsAgain}
 use Rattle.server_steps.specs.declared.Send.the-variants.{Nothing}
 use Rattle.server_steps.specs.Plan.{accepted, withOutgoing, withResends}
 use Rattle.server_steps.specs.Rows.{settled, transmitted, rewinding, resendHeld, resendRow}
@@ -130,11 +130,11 @@ settled-goes-on false s t reply replies a b n c i z single has = record {
 
 -- transmit, where the reply that is out is single if the call can be run again,
 pub transmitted-goes-on : (last : Bool) (s : Server) (replies : List Replied) → s .state ≡ Replying → CurrentReply s replies
-    → (repeats (s .call .idempotent) (s .outgoing) ≡ true → (r : Replied) → In r replies → r .number ≡ s .number → Single (r .message))
+    → (runsAgain (s .call .idempotent) (s .outgoing) ≡ true → (r : Replied) → In r replies → r .number ≡ s .number → Single (r .message))
     → GoesOn s (transmitted last s) replies
 unfolding transmitted withOutgoing afterSend choose
 transmitted-goes-on true s replies state now single =
-    settled-goes-on (repeats (s .call .idempotent) (s .outgoing)) s (withOutgoing s (afterSend (s .outgoing))) Data replies refl refl refl refl refl refl
+    settled-goes-on (runsAgain (s .call .idempotent) (s .outgoing)) s (withOutgoing s (afterSend (s .outgoing))) Data replies refl refl refl refl refl refl
     single (λ e. now)
 transmitted-goes-on false s replies state now single = record {
   activity = refl;

@@ -28,13 +28,13 @@ use Rattle.client.proofs.Judging.{CanStart, start-passes}
 use Rattle.client.proofs.Accepting.{start-accepted}
 use Rattle.history.specs.Lists.{In, andThen}
 use Rattle.history.specs.World.{Started, Dispatched, Replied, World}
-use Rattle.history.specs.Steps.{startStep}
+use Rattle.history.specs.Steps.{sentAfter, completionsAfter}
 use Rattle.history.specs.Fairness.{FairStart}
 use Rattle.history.specs.Claim.{times}
 use Rattle.history.proofs.ListLaws.{in-before, in-added, in-grown, all-grown, last-started, times-none}
 use Rattle.history.proofs.Holding.{Empty}
 use Rattle.history.proofs.Network.{Request, more-known}
-use Rattle.history.proofs.Invariant.{nothing, ClientInv, ServerInv, CallInv, IsRequest, Inv}
+use Rattle.history.proofs.Invariant.{nothing, ClientInv, ServerInv, CallInv, IsRequest, Inv, startStep}
 
 -- After a start nothing is held.
 pub cleared-none : Empty cleared
@@ -107,7 +107,6 @@ module _ (w : World) (inv : Inv w) (call : Call) (n : ℕ) (message : List ℕ) 
           small = next-small (w .client) (w .clientSlots) (w .starts) (w .replies) (inv .client) n can;
         };
     holds = nothing cleared-none;
-    told = λ e. absurd (false≢true e);
   }
 
   -- the server's call is still one that was started,
@@ -181,6 +180,7 @@ module _ (w : World) (inv : Inv w) (call : Call) (n : ℕ) (message : List ℕ) 
         let from = inv .calls .whole d m in
         (from .0, (in-before (w .starts) (from .0) start (from .1 .0), from .1 .1));
     rising = inv .calls .rising;
+    replied = inv .calls .replied;
     alike = inv .calls .alike;
   }
 
@@ -199,13 +199,14 @@ module _ (w : World) (inv : Inv w) (call : Call) (n : ℕ) (message : List ℕ) 
   }
 
   start-inv : Inv (startStep w (outcomeOf (startPlan Pass (w .client) call n) Unsent) (call .idempotent) message)
-  unfolding startStep outcomeOf startPlan accepted choose started
+  unfolding outcomeOf startPlan accepted choose started sentAfter completionsAfter
   start-inv = record {
     client = client-started;
     server = server-started;
     calls = calls-started;
     requests = λ d m. more-known IsRequest (Request (w .starts)) (Request starts) request-started d (inv .requests d m);
     responses = inv .responses;
+    completed = inv .completed;
   }
 
 -- A start that is answered 0 keeps what is known of the world.

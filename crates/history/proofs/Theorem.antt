@@ -1,6 +1,6 @@
 -- The theorem over every list of events.
 use Prim.Native.Nat.{ℕ, zero, suc, _*_, _≤_}
-use mathlib.Core.Bool.{Bool, true, false, false≢true}
+use mathlib.Core.Bool.{Bool, true, false≢true}
 use mathlib.Core.List.{List, [], _++_, append-assoc}
 use mathlib.Core.Logic.{_⊎_, inl, inr}
 use mathlib.Core.Path.{_≡_, refl, sym, ap, subst, _∙_}
@@ -9,11 +9,10 @@ use borrow.Author.Tests.{eq-eqb}
 use Rattle.words.proofs.Tests.{both-true}
 use lib.ListN.{drop, take-append-drop}
 use Rattle.fragments.specs.Judgement.{held}
-use Rattle.fragments.specs.Joined.{handedBelow, joined, Leads}
-use Rattle.fragments.proofs.BufferLaws.{joined-front}
+use Rattle.fragments.specs.Joined.{Leads}
+use Rattle.fragments.proofs.BufferLaws.{handedBelow, joined, joined-front}
 use Rattle.incoming.specs.declared.Incoming.{Incoming}
-use Rattle.incoming.specs.declared.Last.{Last}
-use Rattle.incoming.specs.Slots.{missing, allTo, contiguous, complete}
+use Rattle.incoming.specs.Slots.{missing, contiguous, complete}
 use Rattle.incoming.proofs.SlotLaws.{count-held}
 use Rattle.timers.specs.declared.Timer.{Timer}
 use Rattle.timers.specs.declared.Timer.the-variants.{Off, Armed}
@@ -33,11 +32,11 @@ use Rattle.history.specs.Events.{Event}
 use Rattle.history.specs.Steps.{run}
 use Rattle.history.specs.Fairness.{Fair}
 use Rattle.history.specs.Freshness.{Fresh}
-use Rattle.history.specs.Claim.{AtMostOnce, WholeMessages, handedUp, OfOneReply, OneReply, WholeReply, OnlyGrows, TimerOf, OfClient, OfServer, timerIn, LateTimers, GoneTickets, finished, Quiet, Claim}
-use Rattle.history.proofs.Holding.{Empty, holding-whole}
+use Rattle.history.specs.Claim.{AtMostOnce, WholeMessages, replyHandedUp, RepliesToDispatches, LeadsReply, OneReply, WholeReplies, OnlyGrows, TimerOf, OfClient, OfServer, timerIn, LateTimers, GoneTickets, finished, Quiet, Claim}
+use Rattle.history.proofs.Holding.{Empty}
 use Rattle.history.proofs.Invariant.{ClientHolds, nothing, fragments-of, Inv}
 use Rattle.history.proofs.Beginning.{fresh-inv}
-use Rattle.history.proofs.Refused.{late-same}
+use Rattle.history.proofs.Refused.{late-nothing}
 use Rattle.history.proofs.Histories.{run-inv, run-append, fair-append, run-grows}
 use Rattle.history.proofs.Tickets.{counterOf, run-counts, run-gone, acts-once}
 
@@ -51,13 +50,8 @@ empty-joined m slots e = by-count (contiguous m) refl
     by-count (suc n) k =
         absurd (false≢true (sym (e .none 0) ∙ unfold held contiguous in count-held (m .slots) 0 missing (omega (arith, k))))
 
--- and it is not complete.
-empty-unfinished : (m : Incoming) → Empty m → complete m ≡ false
-unfolding complete
-empty-unfinished m e = ap (λ (l : Last). allTo l (contiguous m)) (e .last)
-
 module _ (w : World) (inv : Inv w) where
-  joins : handedUp w ≡ joined (w .client .incoming) (w .clientSlots)
+  joins : replyHandedUp w ≡ joined (w .client .incoming) (w .clientSlots)
   joins = hands-joined (w .client) (w .clientSlots) (inv .client .kept)
 
   -- What the client hands up is nothing, or a leading part of one reply,
@@ -66,7 +60,7 @@ module _ (w : World) (inv : Inv w) where
   one-reply = by-holds (inv .client .holds)
     where
       by-holds : ClientHolds (w .client .number) (w .client .incoming) (w .clientSlots) (w .replies)
-          → (handedUp w ≡ []) ⊎ OfOneReply w (λ message. Leads (handedUp w) message)
+          → (replyHandedUp w ≡ []) ⊎ LeadsReply w
       by-holds (nothing e) = inl (joins ∙ empty-joined (w .client .incoming) (w .clientSlots) e)
       by-holds (fragments-of r m n whole h) =
           let count = contiguous (w .client .incoming) in
@@ -77,31 +71,12 @@ module _ (w : World) (inv : Inv w) where
             reply = r;
             given = m;
             number = n;
-            is =
+            leads =
                 record {
                   rest = drop (1392 * count) (r .message);
                   whole = sym (take-append-drop (1392 * count) (r .message)) ∙ ap (λ (l : List ℕ). l ++ drop (1392 * count) (r .message)) (sym (joins ∙ front));
                 };
           })
-
-  -- and the whole of one once "last" was told.
-  whole-reply : WholeReply w
-  unfolding WholeReply
-  whole-reply told = by-holds (inv .client .holds)
-    where
-      by-holds : ClientHolds (w .client .number) (w .client .incoming) (w .clientSlots) (w .replies)
-          → OfOneReply w (λ message. handedUp w ≡ message)
-      by-holds (nothing e) = absurd (false≢true (sym (empty-unfinished (w .client .incoming) e) ∙ inv .client .told told))
-      by-holds (fragments-of r m n whole h) =
-          record {
-            reply = r;
-            given = m;
-            number = n;
-            is =
-                joins
-                ∙ holding-whole (w .client .incoming) (w .clientSlots) (r .message) h (rules-told (w .client) (inv .client .kept) .incoming) whole
-                (inv .client .told told);
-          }
 
   -- Each dispatch gets the whole message of the one start that has its number.
   whole-messages : WholeMessages w
@@ -168,25 +143,26 @@ unfolding OnlyGrows
 only-grows w events fair before after split same =
     let later = fair-append w before after (subst (Fair w) split fair) .1 in
     let end : run w events ≡ run (run w before) after = ap (run w) split ∙ run-append w before after in
-    subst (λ (v : World). Leads (handedUp (run w before)) (handedUp v)) (sym end)
+    subst (λ (v : World). Leads (replyHandedUp (run w before)) (replyHandedUp v)) (sym end)
     (run-grows (run w before) after later (sym (ap (λ (v : World). v .starts) end) ∙ same))
 
 -- After every fair list of events of a fresh world the claim holds.
 pub theorem : (w : World) → Fresh w → (events : List Event) → Fair w events → Claim w events
-unfolding AtMostOnce LateTimers
+unfolding AtMostOnce RepliesToDispatches WholeReplies LateTimers
 theorem w fresh events fair =
     let start = fresh-inv w fresh in
     let inv = run-inv w events start fair in
     record {
       once = inv .calls .once;
       whole = whole-messages (run w events) inv;
+      replied = inv .calls .replied;
       reply = one-reply (run w events) inv;
-      complete = whole-reply (run w events) inv;
+      complete = inv .completed;
       grows = only-grows w events fair;
-      late = late-same (run w events);
+      late = late-nothing (run w events);
       gone = gone-tickets w events start fair;
       acts = acts-once (run w events);
       quiet = quiet (run w events) inv;
       rules = record { client = inv .client .kept; server = inv .server .kept };
-      rising = inv .calls .rising;
+      order = inv .calls .rising;
     }

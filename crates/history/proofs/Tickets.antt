@@ -14,7 +14,7 @@ use Rattle.server_record.specs.declared.Server.{Server}
 use Rattle.server.proofs.TicketLaws.{ServerMoved, reply-moves, transmit-moves as server-transmit-moves, fault-moves, timer-moves as server-timer-moves, arrive-moves as server-arrive-moves, timer-spends as server-timer-spends}
 use Rattle.history.specs.World.{World}
 use Rattle.history.specs.Events.{Event, Start, ClientTransmit, ClientArrive, ClientTimer, ServerArrive, ServerTransmit, ServerTimer, Reply, Fault}
-use Rattle.history.specs.Steps.{bytesLent, startStep, replyStep, step, answerTo, run}
+use Rattle.history.specs.Steps.{bytesLent, happens, answerTo, step, run}
 use Rattle.history.specs.Claim.{TimerOf, OfClient, OfServer, timerIn, timerEvent, ActsOnce}
 
 -- The ticket counter of a timer's side.
@@ -46,7 +46,7 @@ server-moved w v moved same OfServer = moved .resend
 
 -- At every event.
 step-moves : (w : World) (e : Event) (timer : TimerOf) → Moved (timerIn w timer) (timerIn (step w e) timer) (counterOf w timer) (counterOf (step w e) timer)
-unfolding step startStep replyStep
+unfolding step happens
 step-moves w (Start call n message) = client-moved w (step w (Start call n message)) (start-moves (w .client) call n) refl
 step-moves w (ClientTransmit message out) =
     client-moved w (step w (ClientTransmit message out)) (client-transmit-moves (w .client) message out) refl
@@ -88,7 +88,7 @@ run-gone w (e ∷ es) timer ticket most gone =
 
 -- A ticket that acts is no longer armed.
 pub acts-once : (w : World) → ActsOnce w
-unfolding ActsOnce answerTo timerEvent timerIn step namedTimer
+unfolding ActsOnce answerTo happens timerEvent timerIn step namedTimer
 acts-once w (OfClient Wait) ticket out done = client-timer-spends (w .client) Wait ticket out done
 acts-once w (OfClient Ack) ticket out done = client-timer-spends (w .client) Ack ticket out done
 acts-once w OfServer ticket out done = server-timer-spends (w .server) ticket out done

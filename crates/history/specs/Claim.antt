@@ -7,6 +7,7 @@ use mathlib.Core.Path.{_≡_}
 use lib.Dec.{eqb}
 use Rattle.words.specs.Choice.{choose}
 use Rattle.answers.specs.declared.Answer.the-variants.{Done}
+use Rattle.calls.specs.declared.Notice.the-variants.{Nothing as Untold}
 use Rattle.fragments.specs.Joined.{Leads}
 use Rattle.timers.specs.declared.Timer.{Timer}
 use Rattle.timers.specs.declared.Timer.the-variants.{Off, Armed}
@@ -19,9 +20,9 @@ use Rattle.client.specs.HandUp.{handsUp}
 use Rattle.server_record.specs.States.{isIdle}
 use Rattle.server_record.specs.Rules.{sound as serverSound}
 use Rattle.history.specs.Lists.{In}
-use Rattle.history.specs.World.{Started, Dispatched, Replied, World}
+use Rattle.history.specs.World.{Started, Dispatched, Replied, Completed, World}
 use Rattle.history.specs.Events.{Event, ClientTimer, ServerTimer}
-use Rattle.history.specs.Steps.{answerTo, step, run}
+use Rattle.history.specs.Steps.{answerTo, noticeOf, step, run}
 
 -- How often a number was dispatched.
 abbrev pub times : ℕ → List Dispatched → ℕ
@@ -43,39 +44,44 @@ pub record WholeMessage (starts : List Started) (d : Dispatched) : Type 0 where
 unfoldable pub WholeMessages : World → Type 0
 WholeMessages w = (d : Dispatched) → In d (w .dispatches) → WholeMessage (w .starts) d
 
--- What the client hands up.
-abbrev pub handedUp : World → List ℕ
-handedUp w = handsUp (w .client) (w .clientSlots)
+-- A reply is given to a number that was dispatched.
+pub record DispatchOf (dispatches : List Dispatched) (number : ℕ) : Type 0 where
+  pub dispatch : Dispatched
+  pub dispatched : In dispatch dispatches
+  pub same : dispatch .number ≡ number
 
--- One reply, given to the client's number, of which this is so.
-pub record OfOneReply (w : World) (P : List ℕ → Type 0) : Type 0 where
+unfoldable pub RepliesToDispatches : World → Type 0
+RepliesToDispatches w = (r : Replied) → In r (w .replies) → DispatchOf (w .dispatches) (r .number)
+
+-- What the client hands up.
+abbrev pub replyHandedUp : World → List ℕ
+replyHandedUp w = handsUp (w .client) (w .clientSlots)
+
+-- One reply: what the client hands up is nothing, or a leading part of one reply that was given to its number;
+pub record LeadsReply (w : World) : Type 0 where
   pub reply : Replied
   pub given : In reply (w .replies)
   pub number : reply .number ≡ w .client .number
-  pub is : P (reply .message)
+  pub leads : Leads (replyHandedUp w) (reply .message)
 
--- What the client hands up is nothing, or a leading part of one reply;
 unfoldable pub OneReply : World → Type 0
-OneReply w = (handedUp w ≡ []) ⊎ OfOneReply w (λ message. Leads (handedUp w) message)
+OneReply w = (replyHandedUp w ≡ []) ⊎ LeadsReply w
 
--- once it was told "last" it is the whole of one.
-abbrev pub toldLast : ClientState → Bool
-toldLast Queued = false
-toldLast SendFrags = false
-toldLast DispatchedState = false
-toldLast ReceiveFrags = false
-toldLast AckPending = true
-toldLast Complete = true
-toldLast FaultState = false
+-- and what it hands up at the notice "last" is the whole of one.
+pub record WholeReply (replies : List Replied) (c : Completed) : Type 0 where
+  pub reply : Replied
+  pub given : In reply replies
+  pub number : reply .number ≡ c .number
+  pub whole : c .bytes ≡ reply .message
 
-unfoldable pub WholeReply : World → Type 0
-WholeReply w = toldLast (w .client .state) ≡ true → OfOneReply w (λ message. handedUp w ≡ message)
+unfoldable pub WholeReplies : World → Type 0
+WholeReplies w = (c : Completed) → In c (w .completions) → WholeReply (w .replies) c
 
 -- It only grows: while no further start is accepted, what was handed up before leads what is handed up now.
 unfoldable pub OnlyGrows : World → List Event → Type 0
 OnlyGrows w events =
     (before after : List Event) → events ≡ before ++ after → run w events .starts ≡ run w before .starts
-    → Leads (handedUp (run w before)) (handedUp (run w events))
+    → Leads (replyHandedUp (run w before)) (replyHandedUp (run w events))
 
 -- The timers of a world: the client's two and the server's RESEND.
 pub data TimerOf : Type 0 where
@@ -92,9 +98,15 @@ unfoldable pub timerEvent : TimerOf → ℕ → List ℕ → Event
 timerEvent (OfClient kind) ticket out = ClientTimer kind ticket out
 timerEvent OfServer ticket out = ServerTimer ticket out
 
--- A late timer changes nothing: where a ticket is not the armed one, its event leaves the whole world as it was,
+-- An event that changes nothing: it is refused, the stub is told nothing, and the whole world is as it was.
+pub record ChangesNothing (w : World) (e : Event) : Type 0 where
+  pub refused : answerTo w e ≡ Done → ⊥
+  pub untold : noticeOf w e ≡ Untold
+  pub same : step w e ≡ w
+
+-- A late timer changes nothing: where a ticket is not the armed one, its event is such,
 unfoldable pub LateTimers : World → Type 0
-LateTimers w = (timer : TimerOf) (ticket : ℕ) (out : List ℕ) → (timerIn w timer ≡ Armed ticket → ⊥) → step w (timerEvent timer ticket out) ≡ w
+LateTimers w = (timer : TimerOf) (ticket : ℕ) (out : List ℕ) → (timerIn w timer ≡ Armed ticket → ⊥) → ChangesNothing w (timerEvent timer ticket out)
 
 -- a ticket that was armed and is no longer never is again,
 unfoldable pub GoneTickets : World → List Event → Type 0
@@ -138,12 +150,13 @@ NeverFall (d ∷ ds) = ((e : Dispatched) → In e ds → d .number ≤ e .number
 pub record Claim (w : World) (events : List Event) : Type 0 where
   pub once : AtMostOnce (run w events)
   pub whole : WholeMessages (run w events)
+  pub replied : RepliesToDispatches (run w events)
   pub reply : OneReply (run w events)
-  pub complete : WholeReply (run w events)
+  pub complete : WholeReplies (run w events)
   pub grows : OnlyGrows w events
   pub late : LateTimers (run w events)
   pub gone : GoneTickets w events
   pub acts : ActsOnce (run w events)
   pub quiet : Quiet (run w events)
   pub rules : RulesKept (run w events)
-  pub rising : NeverFall (run w events .dispatches)
+  pub order : NeverFall (run w events .dispatches)

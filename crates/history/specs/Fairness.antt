@@ -1,4 +1,4 @@
--- The premises of document 01, and no more. A refused event is bound by none of them.
+-- The premises of document 01, of events that are answered 0. A refused event is bound by none of them.
 use Prim.Native.Nat.{ℕ, _<_}
 use mathlib.Core.List.{List, [], _∷_}
 use mathlib.Core.Path.{_≡_}
@@ -10,16 +10,16 @@ use Rattle.history.specs.World.{Started, Replied, World}
 use Rattle.history.specs.Events.{Lent, Own, Event, Start, ClientTransmit, ClientArrive, ClientTimer, ServerArrive, ServerTransmit, ServerTimer, Reply, Fault}
 use Rattle.history.specs.Steps.{step, answerTo}
 
--- The message of the last start, and of the last reply.
-abbrev pub lastStarted : List Started → List ℕ
-lastStarted [] = []
-lastStarted (s ∷ []) = s .message
-lastStarted (s ∷ (t ∷ ss)) = lastStarted (t ∷ ss)
+-- The message is that of the last start, or of the last reply; where there is none yet, any.
+abbrev pub OfLastStart : List Started → List ℕ → Type 0
+OfLastStart [] message = Unit {0}
+OfLastStart (s ∷ []) message = message ≡ s .message
+OfLastStart (s ∷ (t ∷ ss)) message = OfLastStart (t ∷ ss) message
 
-abbrev pub lastReplied : List Replied → List ℕ
-lastReplied [] = []
-lastReplied (r ∷ []) = r .message
-lastReplied (r ∷ (t ∷ rs)) = lastReplied (t ∷ rs)
+abbrev pub OfLastReply : List Replied → List ℕ → Type 0
+OfLastReply [] message = Unit {0}
+OfLastReply (r ∷ []) message = message ≡ r .message
+OfLastReply (r ∷ (t ∷ rs)) message = OfLastReply (t ∷ rs) message
 
 -- A call as its type has it: UUIDs of 16 bytes, a u32, a u16. The definitions take any number, the functions only these.
 pub record Typed (call : Call) : Type 0 where
@@ -41,11 +41,11 @@ pub record FairArrival (sent : List (List ℕ)) (datagram : List ℕ) (lent : Le
 -- What is owed by an event that is answered 0.
 abbrev pub Premise : World → Event → Type 0
 Premise w (Start call n message) = FairStart call n message
-Premise w (ClientTransmit message out) = message ≡ lastStarted (w .starts)
+Premise w (ClientTransmit message out) = OfLastStart (w .starts) message
 Premise w (ClientArrive datagram lent out) = FairArrival (w .serverSent) datagram lent
 Premise w (ClientTimer kind ticket out) = Unit {0}
 Premise w (ServerArrive datagram lent out) = FairArrival (w .clientSent) datagram lent
-Premise w (ServerTransmit message out) = message ≡ lastReplied (w .replies)
+Premise w (ServerTransmit message out) = OfLastReply (w .replies) message
 Premise w (ServerTimer ticket out) = Unit {0}
 Premise w (Reply n message) = length message ≡ n
 Premise w (Fault status out) = Unit {0}

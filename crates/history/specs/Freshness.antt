@@ -16,7 +16,7 @@ use Rattle.server_record.specs.declared.Idle.the-variants.{Fresh as NeverCalled
 use Rattle.server_record.specs.declared.State.the-variants.{Idle}
 use Rattle.history.specs.World.{World}
 
--- Nothing is held, in any of the 32 slots, and no last is known.
+-- Nothing is held: none of the 32 slots, and no last is known.
 pub record NothingHeld (m : Incoming) : Type 0 where
   pub slots : length (m .slots) ≡ 32
   pub none : anyHeld (m .slots) ≡ false
@@ -58,3 +58,4 @@ pub record Fresh (w : World) : Type 0 where
   pub starts : w .starts ≡ []
   pub dispatches : w .dispatches ≡ []
   pub replies : w .replies ≡ []
+  pub completions : w .completions ≡ []

@@ -21,7 +21,7 @@ use Rattle.history.specs.Events.{Event, Own, Other, Start, ClientTransmi
 use Rattle.history.specs.Steps.{step, answerTo, run}
 use Rattle.history.specs.Fairness.{Fair}
 use Rattle.history.specs.Freshness.{Fresh}
-use Rattle.history.specs.Claim.{handedUp}
+use Rattle.history.specs.Claim.{replyHandedUp}
 
 -- A story: each event, and the number that it is answered.
 abbrev pub Story : Type 0
@@ -41,7 +41,7 @@ answersTo w [] = []
 answersTo w (e ∷ es) = numberOf (answerTo w e) ∷ answersTo (step w e) es
 
 -- What is proved of a run: it starts from a fresh world, keeps every premise, is answered as the story says, and ends with
--- these states, these dispatches and these bytes handed up by the client.
+-- these states, these dispatches, and call 0 complete with these bytes handed up by the client.
 pub record Ran (w : World) (story : Story) (client : ClientState) (server : ServerState) (dispatches : List Dispatched) (handed : List ℕ) : Type 0 where
   pub fresh : Fresh w
   pub fair : Fair w (eventsOf story)
@@ -49,7 +49,8 @@ pub record Ran (w : World) (story : Story) (client : ClientState) (server : Serv
   pub client-ends : run w (eventsOf story) .client .state ≡ client
   pub server-ends : run w (eventsOf story) .server .state ≡ server
   pub dispatched : run w (eventsOf story) .dispatches ≡ dispatches
-  pub hands-up : handedUp (run w (eventsOf story)) ≡ handed
+  pub completed : run w (eventsOf story) .completions ≡ record { number = 0; bytes = handed } ∷ []
+  pub hands-up : replyHandedUp (run w (eventsOf story)) ≡ handed
 
 -- Both sides' activity, and a fresh world: any slot buffers, the client's tickets so far 5, the server's boot value 7, its tickets so far 100.
 abbrev pub activity : List ℕ
@@ -66,6 +67,7 @@ before clientSlots serverSlots = record {
   starts = [];
   dispatches = [];
   replies = [];
+  completions = [];
 }
 
 -- The first run: a call that is not idempotent, with a request of 2,785 bytes and a reply of 2,786, three fragments each.

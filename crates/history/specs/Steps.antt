@@ -1,4 +1,5 @@
--- What an event makes of the world. Each side steps by the definition that the contract of its public function cites.
+-- What an event gives, and what it makes of the world. Each side steps by the definition that the contract of its public function
+-- cites, or will cite.
 use Prim.Native.Nat.{ℕ}
 use mathlib.Core.Bool.{Bool}
 use mathlib.Core.List.{List, [], _∷_}
@@ -13,12 +14,13 @@ use Rattle.calls.specs.declared.Sent.{Sent}
 use Rattle.calls.specs.declared.Sent.the-variants.{Nothing, Pdu}
 use Rattle.reader.specs.Reading.{reading}
 use Rattle.client.specs.declared.Outcome.{Outcome as ClientOutcome}
-use Rattle.client.specs.Machine.{starting, transmitting as clientTransmitting, timing as clientTiming, arriving as clientArriving}
+use Rattle.client.specs.HandUp.{handsUp as clientHandsUp}
+use Rattle.client.specs.Machine.{Step as ClientStep, Arrival as ClientArrival, starting, transmitting as clientTransmitting, timing as clientTiming, arriving as clientArriving}
 use Rattle.server.specs.declared.Outcome.{Outcome as ServerOutcome}
-use Rattle.server.specs.Machine.{replying, transmitting as serverTransmitting, timing as serverTiming, faulting, arriving as serverArriving}
-use Rattle.server.specs.HandUp.{handsUp}
+use Rattle.server.specs.HandUp.{handsUp as serverHandsUp}
+use Rattle.server.specs.Machine.{Step as ServerStep, Arrival as ServerArrival, replying, transmitting as serverTransmitting, timing as serverTiming, faulting, arriving as serverArriving}
 use Rattle.history.specs.Lists.{andThen}
-use Rattle.history.specs.World.{Dispatched, World}
+use Rattle.history.specs.World.{Started, Dispatched, Replied, Completed, World}
 use Rattle.history.specs.Events.{Lent, Own, Other, Event, Start, ClientTransmit, ClientArrive, ClientTimer, ServerArrive, ServerTransmit, ServerTimer, Reply, Fault}
 
 -- The answer is 0.
@@ -39,7 +41,7 @@ unfoldable pub sentAfter : List (List ℕ) → Sent → List ℕ → List (List 
 sentAfter before Nothing out = before
 sentAfter before (Pdu n) out = andThen before (take n out)
 
--- The dispatches: the notice is one, of that number and those bytes.
+-- The dispatches: the notice "dispatch" is one, of that number and those bytes.
 unfoldable pub dispatchesAfter : List Dispatched → Notice → ℕ → List ℕ → List Dispatched
 dispatchesAfter before Untold number bytes = before
 dispatchesAfter before Last number bytes = before
@@ -49,29 +51,47 @@ dispatchesAfter before (Reject status) number bytes = before
 dispatchesAfter before (Cause cause) number bytes = before
 dispatchesAfter before Dispatch number bytes = andThen before (record { number = number; bytes = bytes })
 
--- The number last dispatched.
+-- The completions: the notice "last" is one, of that number and those bytes.
+unfoldable pub completionsAfter : List Completed → Notice → ℕ → List ℕ → List Completed
+completionsAfter before Untold number bytes = before
+completionsAfter before Last number bytes = andThen before (record { number = number; bytes = bytes })
+completionsAfter before (Count count) number bytes = before
+completionsAfter before (FaultNotice status) number bytes = before
+completionsAfter before (Reject status) number bytes = before
+completionsAfter before (Cause cause) number bytes = before
+completionsAfter before Dispatch number bytes = before
+
+-- The number last dispatched; a reply before any dispatch would be on record for 0, which the claim rules out.
 abbrev pub lastDispatched : List Dispatched → ℕ
 lastDispatched [] = 0
 lastDispatched (d ∷ []) = d .number
 lastDispatched (d ∷ (e ∷ ds)) = lastDispatched (e ∷ ds)
 
--- The client's outcome, what it left in the PDU buffer and its slot buffer after it.
-abbrev pub clientStep : World → ClientOutcome → List ℕ → List ℕ → World
-clientStep w r out slots = record {
+-- What an event gives: its answer, what the stub is told, and the world after it.
+pub record Happened : Type 0 where
+  pub answer : Answer
+  pub notice : Notice
+  pub world : World
+
+-- The client's outcome, what it left in the PDU buffer, its slot buffer after it, and the starts then.
+abbrev pub clientWorld : World → ClientOutcome → List ℕ → List ℕ → List Started → World
+clientWorld w r out slots starts = record {
   client = r .client;
   server = w .server;
   clientSlots = slots;
   serverSlots = w .serverSlots;
   clientSent = sentAfter (w .clientSent) (r .sent) out;
   serverSent = w .serverSent;
-  starts = w .starts;
+  starts = starts;
   dispatches = w .dispatches;
   replies = w .replies;
+  completions = completionsAfter (w .completions) (r .notice) (r .client .number) (clientHandsUp (r .client) slots);
 }
 
--- The same of the server, with the dispatch of a request's number where it is noticed.
-abbrev pub serverStep : World → ServerOutcome → List ℕ → List ℕ → ℕ → World
-serverStep w r out slots number = record {
+-- The server's outcome, what it left in the PDU buffer, its slot buffer after it, the number that a dispatch is for, and the
+-- replies then.
+abbrev pub serverWorld : World → ServerOutcome → List ℕ → List ℕ → ℕ → List Replied → World
+serverWorld w r out slots number replies = record {
   client = w .client;
   server = r .server;
   clientSlots = w .clientSlots;
@@ -79,75 +99,86 @@ serverStep w r out slots number = record {
   clientSent = w .clientSent;
   serverSent = sentAfter (w .serverSent) (r .sent) out;
   starts = w .starts;
-  dispatches = dispatchesAfter (w .dispatches) (r .notice) number (handsUp (r .server) slots);
-  replies = w .replies;
+  dispatches = dispatchesAfter (w .dispatches) (r .notice) number (serverHandsUp (r .server) slots);
+  replies = replies;
+  completions = w .completions;
 }
 
 -- A start goes on record, where it is answered 0, with the number that the client then has.
-unfoldable pub startStep : World → ClientOutcome → Bool → List ℕ → World
-startStep w r idempotent message = record {
-  client = r .client;
-  server = w .server;
-  clientSlots = w .clientSlots;
-  serverSlots = w .serverSlots;
-  clientSent = w .clientSent;
-  serverSent = w .serverSent;
-  starts =
-      choose (isDone (r .answer)) (andThen (w .starts) (record { number = r .client .number; idempotent = idempotent; message = message })) (w .starts);
-  dispatches = w .dispatches;
-  replies = w .replies;
-}
+abbrev pub startsAfter : List Started → ClientOutcome → Bool → List ℕ → List Started
+startsAfter before r idempotent message =
+    choose (isDone (r .answer)) (andThen before (record { number = r .client .number; idempotent = idempotent; message = message })) before
 
 -- A reply goes on record, where it is answered 0: it is given to the number last dispatched.
-unfoldable pub replyStep : World → ServerOutcome → List ℕ → World
-replyStep w r message = record {
-  client = w .client;
-  server = r .server;
-  clientSlots = w .clientSlots;
-  serverSlots = w .serverSlots;
-  clientSent = w .clientSent;
-  serverSent = w .serverSent;
-  starts = w .starts;
-  dispatches = w .dispatches;
-  replies = choose (isDone (r .answer)) (andThen (w .replies) (record { number = lastDispatched (w .dispatches); message = message })) (w .replies);
+abbrev pub repliesAfter : List Replied → ServerOutcome → ℕ → List ℕ → List Replied
+repliesAfter before r number message = choose (isDone (r .answer)) (andThen before (record { number = number; message = message })) before
+
+-- What an event of the client gives: a start, one with a PDU buffer, an arriving datagram.
+abbrev pub clientStarted : World → ClientOutcome → Bool → List ℕ → Happened
+clientStarted w r idempotent message = record {
+  answer = r .answer;
+  notice = r .notice;
+  world = clientWorld w r [] (w .clientSlots) (startsAfter (w .starts) r idempotent message);
 }
 
--- The world after an event.
-unfoldable pub step : World → Event → World
-step w (Start call length message) = startStep w (starting (w .client) call length) (call .idempotent) message
-step w (ClientTransmit message out) =
-    clientStep w (clientTransmitting (w .client) message out .outcome) (clientTransmitting (w .client) message out .out) (w .clientSlots)
-step w (ClientArrive datagram lent out) =
-    clientStep w (clientArriving (w .client) datagram (bytesLent lent (w .clientSlots)) out .outcome)
-    (clientArriving (w .client) datagram (bytesLent lent (w .clientSlots)) out .out)
-    (ownAfter lent (w .clientSlots) (clientArriving (w .client) datagram (bytesLent lent (w .clientSlots)) out .slots))
-step w (ClientTimer kind ticket out) =
-    clientStep w (clientTiming (w .client) kind ticket out .outcome) (clientTiming (w .client) kind ticket out .out) (w .clientSlots)
-step w (ServerArrive datagram lent out) =
-    serverStep w (serverArriving (w .server) datagram (bytesLent lent (w .serverSlots)) out .outcome)
-    (serverArriving (w .server) datagram (bytesLent lent (w .serverSlots)) out .out)
-    (ownAfter lent (w .serverSlots) (serverArriving (w .server) datagram (bytesLent lent (w .serverSlots)) out .slots))
-    (reading datagram .header .number)
-step w (ServerTransmit message out) =
-    serverStep w (serverTransmitting (w .server) message out .outcome) (serverTransmitting (w .server) message out .out) (w .serverSlots)
-    (w .server .number)
-step w (ServerTimer ticket out) =
-    serverStep w (serverTiming (w .server) ticket out .outcome) (serverTiming (w .server) ticket out .out) (w .serverSlots) (w .server .number)
-step w (Reply length message) = replyStep w (replying (w .server) length) message
-step w (Fault status out) =
-    serverStep w (faulting (w .server) status out .outcome) (faulting (w .server) status out .out) (w .serverSlots) (w .server .number)
+abbrev pub clientStepped : World → ClientStep → Happened
+clientStepped w s = record {
+  answer = s .outcome .answer;
+  notice = s .outcome .notice;
+  world = clientWorld w (s .outcome) (s .out) (w .clientSlots) (w .starts);
+}
 
--- The answer to an event.
+abbrev pub clientArrived : World → Lent → ClientArrival → Happened
+clientArrived w lent a = record {
+  answer = a .outcome .answer;
+  notice = a .outcome .notice;
+  world = clientWorld w (a .outcome) (a .out) (ownAfter lent (w .clientSlots) (a .slots)) (w .starts);
+}
+
+-- The same of the server: a reply, one with a PDU buffer, an arriving datagram with its number.
+abbrev pub serverReplied : World → ServerOutcome → List ℕ → Happened
+serverReplied w r message = record {
+  answer = r .answer;
+  notice = r .notice;
+  world = serverWorld w r [] (w .serverSlots) (w .server .number) (repliesAfter (w .replies) r (lastDispatched (w .dispatches)) message);
+}
+
+abbrev pub serverStepped : World → ServerStep → Happened
+serverStepped w s = record {
+  answer = s .outcome .answer;
+  notice = s .outcome .notice;
+  world = serverWorld w (s .outcome) (s .out) (w .serverSlots) (w .server .number) (w .replies);
+}
+
+abbrev pub serverArrived : World → Lent → ℕ → ServerArrival → Happened
+serverArrived w lent number a = record {
+  answer = a .outcome .answer;
+  notice = a .outcome .notice;
+  world = serverWorld w (a .outcome) (a .out) (ownAfter lent (w .serverSlots) (a .slots)) number (w .replies);
+}
+
+-- What each event gives.
+unfoldable pub happens : World → Event → Happened
+happens w (Start call length message) = clientStarted w (starting (w .client) call length) (call .idempotent) message
+happens w (ClientTransmit message out) = clientStepped w (clientTransmitting (w .client) message out)
+happens w (ClientArrive datagram lent out) = clientArrived w lent (clientArriving (w .client) datagram (bytesLent lent (w .clientSlots)) out)
+happens w (ClientTimer kind ticket out) = clientStepped w (clientTiming (w .client) kind ticket out)
+happens w (ServerArrive datagram lent out) =
+    serverArrived w lent (reading datagram .header .number) (serverArriving (w .server) datagram (bytesLent lent (w .serverSlots)) out)
+happens w (ServerTransmit message out) = serverStepped w (serverTransmitting (w .server) message out)
+happens w (ServerTimer ticket out) = serverStepped w (serverTiming (w .server) ticket out)
+happens w (Reply length message) = serverReplied w (replying (w .server) length) message
+happens w (Fault status out) = serverStepped w (faulting (w .server) status out)
+
+-- The answer, the notice, and the world after it.
 unfoldable pub answerTo : World → Event → Answer
-answerTo w (Start call length message) = starting (w .client) call length .answer
-answerTo w (ClientTransmit message out) = clientTransmitting (w .client) message out .outcome .answer
-answerTo w (ClientArrive datagram lent out) = clientArriving (w .client) datagram (bytesLent lent (w .clientSlots)) out .outcome .answer
-answerTo w (ClientTimer kind ticket out) = clientTiming (w .client) kind ticket out .outcome .answer
-answerTo w (ServerArrive datagram lent out) = serverArriving (w .server) datagram (bytesLent lent (w .serverSlots)) out .outcome .answer
-answerTo w (ServerTransmit message out) = serverTransmitting (w .server) message out .outcome .answer
-answerTo w (ServerTimer ticket out) = serverTiming (w .server) ticket out .outcome .answer
-answerTo w (Reply length message) = replying (w .server) length .answer
-answerTo w (Fault status out) = faulting (w .server) status out .outcome .answer
+answerTo w e = happens w e .answer
+
+unfoldable pub noticeOf : World → Event → Notice
+noticeOf w e = happens w e .notice
+
+unfoldable pub step : World → Event → World
+step w e = happens w e .world
 
 -- The world after a list of events.
 unfoldable pub run : World → List Event → World

@@ -34,7 +34,7 @@ use Rattle.server_table.specs.declared.Row.{Row}
 use Rattle.server_table.specs.declared.Row.the-variants.{Old, Missing, Repeat, Begin, Put, Working, Nocall, Replay, Acknowledge, Finish}
 use Rattle.server_table.specs.Events.{eventOf, byEvent, sideGround}
 use Rattle.server_table.specs.Arrival.{requestGround, oldGround, rowGround, sameCall, callGround, slotGround, pduGround, tableGround, orderFor, rowFor, arrivalGround}
-use Rattle.server_table.specs.Local.{holds, transmitGround, armsAgain, timerGround, replyGround, faultGround}
+use Rattle.server_table.specs.Local.{armsResend, transmitGround, armsAgain, timerGround, replyGround, faultGround}
 use Rattle.server_table.proofs.TableLaws.{begin-told, put-told, acknowledge-told}
 
 -- What a reply that passed is known to be.
@@ -71,7 +71,7 @@ pub record CanTransmit (s : Server) (message out : ℕ) : Type 0 where
   pub kept : sound s ≡ true
   pub row : isReplying (s .state) ≡ true
   pub same : message ≡ s .outgoing .length
-  pub free : holds (s .call .idempotent) (s .outgoing) ≡ true → usedUp (s .tickets) ≡ false
+  pub free : armsResend (s .call .idempotent) (s .outgoing) ≡ true → usedUp (s .tickets) ≡ false
 
 module _ (s : Server) (message out : ℕ) where
   -- A transmit whose ground passes is so.
@@ -80,7 +80,7 @@ module _ (s : Server) (message out : ℕ) where
   transmit-passes e0 =
       let e1 = first-passes (transmitLent (isReplying (s .state)) message (s .outgoing .length) out) _ e0 in
       let e2 = first-passes (refuseIf (not (sound s)) BrokenRecord) _ (e1 .1) in
-      let e3 = first-passes (refuseIf (not (isReplying (s .state))) NoRow) (ticketGround (holds (s .call .idempotent) (s .outgoing)) (s .tickets)) (e2 .1) in
+      let e3 = first-passes (refuseIf (not (isReplying (s .state))) NoRow) (ticketGround (armsResend (s .call .idempotent) (s .outgoing)) (s .tickets)) (e2 .1) in
       let lent = transmit-lent-passes (isReplying (s .state)) message (s .outgoing .length) out (e1 .0) in
       let replies = must-hold (isReplying (s .state)) NoRow (e3 .0) in
       record {
@@ -89,7 +89,7 @@ module _ (s : Server) (message out : ℕ) where
         kept = must-hold (sound s) BrokenRecord (e2 .0);
         row = replies;
         same = lent .2 replies;
-        free = ticket-passes (holds (s .call .idempotent) (s .outgoing)) (s .tickets) (e3 .1);
+        free = ticket-passes (armsResend (s .call .idempotent) (s .outgoing)) (s .tickets) (e3 .1);
       }
 
   -- A transmit's judgement is definite.
@@ -99,7 +99,7 @@ module _ (s : Server) (message out : ℕ) where
       first-definite _ _ (transmit-lent-definite (isReplying (s .state)) message (s .outgoing .length) out)
       (first-definite _ _ (refuse-definite _ BrokenRecord tt)
       (first-definite _ _ (refuse-definite _ NoRow tt)
-      (ticket-definite (holds (s .call .idempotent) (s .outgoing)) (s .tickets))))
+      (ticket-definite (armsResend (s .call .idempotent) (s .outgoing)) (s .tickets))))
 
 -- What a fault that passed is known to be.
 pub record CanFault (s : Server) (out : ℕ) : Type 0 where

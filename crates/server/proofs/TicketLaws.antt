@@ -30,7 +30,7 @@ use Rattle.server_record.proofs.RuleLaws.{rules-told}
 use Rattle.server_table.specs.declared.Row.{Row}
 use Rattle.server_table.specs.declared.Row.the-variants.{Old, Missing, Repeat, Begin, Put, Working, Nocall, Replay, Acknowledge, Finish}
 use Rattle.server_table.specs.Arrival.{rowFor, arrivalGround}
-use Rattle.server_table.specs.Local.{repeats, holds, transmitGround, armsAgain, timerGround, replyGround, faultGround}
+use Rattle.server_table.specs.Local.{runsAgain, armsResend, transmitGround, armsAgain, timerGround, replyGround, faultGround}
 use Rattle.server_steps.specs.declared.Send.the-variants.{Nothing}
 use Rattle.server_steps.specs.Plan.{refused, accepted, withOutgoing, withResends}
 use Rattle.server_steps.specs.Rows.{answered, replyPlan, settled, transmitted, transmitPlan, faultPlan, rewinding, replayHeld, replayPlan, resendHeld, resendRow, timerRow, timerPlan}
@@ -68,7 +68,7 @@ reply-moves s n = by-ground (replyGround s n)
 
 -- At a transmit nothing moves but with the last fragment, which arms RESEND unless the call can be run again.
 pub transmit-moves : (s : Server) (message out : List ℕ) → ServerMoved s (transmitting s message out .outcome .server)
-unfolding transmitting sending outcomeOf transmitPlan accepted refused transmitted settled holding unarmed withOutgoing holds both choose
+unfolding transmitting sending outcomeOf transmitPlan accepted refused transmitted settled holding unarmed withOutgoing armsResend both choose
 transmit-moves s message out = by-ground (transmitGround s (length message) (length out)) refl
   where
     after : Server
@@ -83,7 +83,7 @@ transmit-moves s message out = by-ground (transmitGround s (length message) (len
     by-ground : (g : Ground) → transmitGround s (length message) (length out) ≡ g → ServerMoved s (transmitPlan g s .server)
     by-ground (Refuse a) e = still s s refl refl
     by-ground Pass e =
-        by-tests (sendsLast (s .outgoing)) (repeats (s .call .idempotent) (s .outgoing))
+        by-tests (sendsLast (s .outgoing)) (runsAgain (s .call .idempotent) (s .outgoing))
         (transmit-passes s (length message) (length out) e .free)
 
 -- A fault arms RESEND unless the call is idempotent, and a refused one moves nothing.

@@ -1,4 +1,4 @@
--- A fresh record, and the two ways in which a row leaves its timer.
+-- A fresh record, and the two ways in which a row moves its timer.
 use Prim.Native.Nat.{ℕ}
 use mathlib.Core.List.{List}
 use Rattle.calls.specs.Sent.{blankCall}

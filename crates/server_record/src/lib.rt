@@ -1,8 +1,13 @@
-// The server's record: what a controller keeps of an activity.
+// The server's record: what a controller keeps of an activity, the rules that a record keeps, and the
+// two ways in which a row leaves its timer.
 use calls::Call;
 use incoming::Incoming;
 use outgoing::Outgoing;
 use timers::Timer;
+ghost use mathlib.Core.Path.{_≡_};
+ghost use Rattle.server_record.specs.States.{neverCalled, isFresh, isRunning, isReplying, isHeld};
+ghost use Rattle.server_record.specs.Rules.{idleRule, heldRule, messageRule, outgoingSound, sound};
+ghost use Rattle.server_record.specs.Record.{fresh as freshRecord, timed, holding, unarmed};
 
 // What became of the last call.
 pub enum Idle {
@@ -40,4 +45,183 @@ pub struct Server {
     pub resends: u8,
     pub tickets: u64,
     pub resend: Timer,
+}
+
+// Whether no call has come yet.
+fn is_never_called(idle: Idle) -> bool
+    ensures { λ r. ⌜ r ≡ neverCalled idle ⌝ }
+{
+    match idle {
+        Idle::Fresh => true,
+        Idle::Spent => false,
+        Idle::Repeatable => false,
+    }
+}
+
+// Whether the record has no number.
+pub fn is_fresh(state: State) -> bool
+    ensures { λ r. ⌜ r ≡ isFresh state ⌝ }
+{
+    match state {
+        State::Idle(idle) => is_never_called(idle),
+        State::Collect => false,
+        State::Running => false,
+        State::Replying => false,
+        State::Held(reply) => false,
+    }
+}
+
+// Whether the stub has the call.
+pub fn is_running(state: State) -> bool
+    ensures { λ r. ⌜ r ≡ isRunning state ⌝ }
+{
+    match state {
+        State::Idle(idle) => false,
+        State::Collect => false,
+        State::Running => true,
+        State::Replying => false,
+        State::Held(reply) => false,
+    }
+}
+
+// Whether fragments of a reply are being sent.
+pub fn is_replying(state: State) -> bool
+    ensures { λ r. ⌜ r ≡ isReplying state ⌝ }
+{
+    match state {
+        State::Idle(idle) => false,
+        State::Collect => false,
+        State::Running => false,
+        State::Replying => true,
+        State::Held(reply) => false,
+    }
+}
+
+// Whether the state names the timer RESEND.
+pub fn is_held(state: State) -> bool
+    ensures { λ r. ⌜ r ≡ isHeld state ⌝ }
+{
+    match state {
+        State::Idle(idle) => false,
+        State::Collect => false,
+        State::Running => false,
+        State::Replying => false,
+        State::Held(reply) => true,
+    }
+}
+
+// Which rule of the fragment count IDLE asks for.
+fn idle_rule(idle: Idle, nothing: bool, message: bool) -> bool
+    ensures { λ r. ⌜ r ≡ idleRule idle nothing message ⌝ }
+{
+    match idle {
+        Idle::Fresh => nothing,
+        Idle::Spent => words::either(nothing, message),
+        Idle::Repeatable => words::either(nothing, message),
+    }
+}
+
+// Which rule of the fragment count HELD asks for.
+fn held_rule(reply: Reply, nothing: bool, message: bool) -> bool
+    ensures { λ r. ⌜ r ≡ heldRule reply nothing message ⌝ }
+{
+    match reply {
+        Reply::Data => message,
+        Reply::Fault(status) => nothing,
+    }
+}
+
+// Which rule of the fragment count a state asks for: none out, one that is not all sent, or one.
+fn message_rule(state: State, nothing: bool, unsent: bool, message: bool) -> bool
+    ensures { λ r. ⌜ r ≡ messageRule state nothing unsent message ⌝ }
+{
+    match state {
+        State::Idle(idle) => idle_rule(idle, nothing, message),
+        State::Collect => nothing,
+        State::Running => nothing,
+        State::Replying => unsent,
+        State::Held(reply) => held_rule(reply, nothing, message),
+    }
+}
+
+// Whether the message sent keeps the rules of the state.
+fn outgoing_is_sound(state: State, o: Outgoing) -> bool
+    ensures { λ r. ⌜ r ≡ outgoingSound state o ⌝ }
+{
+    let bounded = outgoing::is_bounded(o);
+    let message = outgoing::has_message(o);
+    let nothing = outgoing::has_nothing(o);
+    let unsent = words::both(message, o.sent < o.count);
+    words::both(bounded, message_rule(state, nothing, unsent, message))
+}
+
+// Whether the record keeps its rules.
+pub fn is_sound(s: Server) -> bool
+    ensures { λ r. ⌜ r ≡ sound s ⌝ }
+{
+    let state = s.state;
+    let o = s.outgoing;
+    let m = s.incoming;
+    let resend = s.resend;
+    let sending = outgoing_is_sound(state, o);
+    let receiving = incoming::is_sound(m);
+    let named = is_held(state);
+    let timing = timers::is_sound_where(named, resend, s.tickets);
+    words::both(s.resends <= 5, words::both(sending, words::both(receiving, timing)))
+}
+
+// A fresh server: IDLE fresh, nothing held or armed.
+pub fn fresh(activity: [u8; 16], boot: u32, tickets: u64) -> Server
+    ensures { λ r. ⌜ r ≡ freshRecord activity boot tickets ⌝ }
+{
+    Server {
+        state: State::Idle(Idle::Fresh),
+        activity,
+        boot,
+        number: 0,
+        call: calls::no_call(),
+        outgoing: outgoing::nothing(0),
+        incoming: incoming::empty(),
+        resends: 0,
+        tickets,
+        resend: Timer::Off,
+    }
+}
+
+// The record in another state, with this timer and this counter.
+fn with_timer(s: Server, state: State, tickets: u64, resend: Timer) -> Server
+    ensures { λ r. ⌜ r ≡ timed s state tickets resend ⌝ }
+{
+    let activity = s.activity;
+    let call = s.call;
+    let outgoing = s.outgoing;
+    let incoming = s.incoming;
+    Server {
+        state,
+        activity,
+        boot: s.boot,
+        number: s.number,
+        call,
+        outgoing,
+        incoming,
+        resends: s.resends,
+        tickets,
+        resend,
+    }
+}
+
+// To HELD with RESEND armed.
+pub fn to_holding(s: Server, reply: Reply) -> Server
+    ensures { λ r. ⌜ r ≡ holding s reply ⌝ }
+{
+    let tickets = timers::next_ticket(s.tickets);
+    let resend = timers::armed_afresh(s.tickets);
+    with_timer(s, State::Held(reply), tickets, resend)
+}
+
+// To a state with nothing armed.
+pub fn to_unarmed(s: Server, state: State) -> Server
+    ensures { λ r. ⌜ r ≡ unarmed s state ⌝ }
+{
+    with_timer(s, state, s.tickets, Timer::Off)
 }

@@ -22,7 +22,7 @@ use Rattle.server_record.specs.Record.{holding, unarmed}
 use Rattle.server_record.proofs.StateLaws.{running-state, replying-state}
 use Rattle.server_record.proofs.RuleLaws.{rules-told, rules-hold, out-told, out-holds, running-told, data-told, replying-told, replying-holds, repeatable-holds}
 use Rattle.server_record.proofs.RecordLaws.{Untimed, holding-sound, unarmed-sound, spent-sound}
-use Rattle.server_table.specs.Local.{repeats, holds, armsAgain}
+use Rattle.server_table.specs.Local.{runsAgain, armsResend, armsAgain}
 use Rattle.server_steps.specs.declared.Send.the-variants.{Nothing}
 use Rattle.server_steps.specs.Plan.{refused, accepted, withOutgoing, withResends}
 use Rattle.server_steps.specs.Rows.{answered, settled, transmitted, rewinding, replayHeld, replayPlan, resendHeld, resendRow, timerRow}
@@ -66,9 +66,9 @@ module _ (s : Server) (kept : sound s ≡ true) where
       })
 
   -- Transmit: the record with one fragment more sent keeps the rules, where a ticket is left for a reply to hold.
-  pub transmitted-sound : isReplying (s .state) ≡ true → (holds (s .call .idempotent) (s .outgoing) ≡ true → usedUp (s .tickets) ≡ false)
+  pub transmitted-sound : isReplying (s .state) ≡ true → (armsResend (s .call .idempotent) (s .outgoing) ≡ true → usedUp (s .tickets) ≡ false)
       → sound (transmitted (sendsLast (s .outgoing)) s) ≡ true
-  unfolding transmitted withOutgoing afterSend sendsLast holds choose messageRule heldRule
+  unfolding transmitted withOutgoing afterSend sendsLast armsResend choose messageRule heldRule
   transmitted-sound replies free = by-last (sendsLast (s .outgoing)) refl
     where
       state : s .state ≡ Replying
@@ -98,13 +98,13 @@ module _ (s : Server) (kept : sound s ≡ true) where
 
       by-last : (t : Bool) → sendsLast (s .outgoing) ≡ t → sound (transmitted t s) ≡ true
       by-last true e =
-          settled-sound (repeats (s .call .idempotent) (s .outgoing)) (withOutgoing s (afterSend (s .outgoing))) Data
+          settled-sound (runsAgain (s .call .idempotent) (s .outgoing)) (withOutgoing s (afterSend (s .outgoing))) Data
           (record {
             count = rules-told s kept .count;
             outgoing = out-holds (afterSend (s .outgoing)) (Held Data) bound message;
             held = rules-told s kept .incoming;
           })
-          (λ (once : not (repeats (s .call .idempotent) (s .outgoing)) ≡ true). free (both-hold (sendsLast (s .outgoing)) _ e once))
+          (λ (once : not (runsAgain (s .call .idempotent) (s .outgoing)) ≡ true). free (both-hold (sendsLast (s .outgoing)) _ e once))
       by-last false e =
           rules-hold (withOutgoing s (afterSend (s .outgoing)))
           (record {
@@ -195,7 +195,7 @@ settled-held false s reply = refl
 -- after a transmit,
 pub transmitted-held : (last : Bool) (s : Server) → transmitted last s .incoming ≡ s .incoming
 unfolding transmitted withOutgoing choose
-transmitted-held true s = settled-held (repeats (s .call .idempotent) (s .outgoing)) (withOutgoing s (afterSend (s .outgoing))) Data
+transmitted-held true s = settled-held (runsAgain (s .call .idempotent) (s .outgoing)) (withOutgoing s (afterSend (s .outgoing))) Data
 transmitted-held false s = refl
 
 -- a replay

@@ -16,7 +16,7 @@ use Rattle.server_table.specs.declared.Order.{Order}
 use Rattle.server_table.specs.declared.Order.the-variants.{Below, Equal, Newer}
 use Rattle.server_table.specs.declared.Row.{Row}
 use Rattle.server_table.specs.declared.Row.the-variants.{Old, Missing, Repeat, Begin, Put, Working, Nocall, Replay, Acknowledge, Finish}
-use Rattle.server_table.specs.Table.{orderOf, requestNewer, requestIdle, requestEqual, requestRow, pingEqual, pingRow, whereReplied, replyRow, fackRow, ackRow, rowOf}
+use Rattle.server_table.specs.Table.{orderOf, requestNewer, requestIdle, requestEqual, requestRow, pingEqual, pingRow, whereReplied, acknowledgementRow, fackRow, ackRow, rowOf}
 
 -- What an order tells of the two numbers.
 OrderTells : Bool → ℕ → ℕ → Order → Type 0
@@ -98,7 +98,7 @@ ping-tells bit mark Newer state = tt
 
 -- of an ack,
 ack-tells : (bit mark : Bool) (order : Order) (state : State) → RowTells Ack order state bit mark (ackRow order state mark)
-unfolding RowTells ackRow replyRow whereReplied isHeld choose
+unfolding RowTells ackRow acknowledgementRow whereReplied isHeld choose
 ack-tells bit mark Below state = tt
 ack-tells bit mark Equal (IdleState idle) = tt
 ack-tells bit mark Equal Collect = tt
@@ -111,7 +111,7 @@ ack-tells bit mark Newer state = tt
 
 -- of a fack,
 fack-tells : (bit mark : Bool) (order : Order) (state : State) → RowTells Fack order state bit mark (fackRow order state)
-unfolding RowTells fackRow replyRow whereReplied isHeld
+unfolding RowTells fackRow acknowledgementRow whereReplied isHeld
 fack-tells bit mark Below state = tt
 fack-tells bit mark Equal (IdleState idle) = tt
 fack-tells bit mark Equal Collect = tt

@@ -19,12 +19,12 @@ use Rattle.server_record.specs.States.{isRunning, isReplying, isHeld}
 use Rattle.server_record.specs.Rules.{sound}
 
 -- An idempotent call whose reply is one fragment can be run again.
-unfoldable pub repeats : Bool → Outgoing → Bool
-repeats idempotent o = both idempotent (eqb (o .count) 1)
+unfoldable pub runsAgain : Bool → Outgoing → Bool
+runsAgain idempotent o = both idempotent (eqb (o .count) 1)
 
 -- The last fragment arms RESEND, unless the call can be run again.
-unfoldable pub holds : Bool → Outgoing → Bool
-holds idempotent o = both (sendsLast o) (not (repeats idempotent o))
+unfoldable pub armsResend : Bool → Outgoing → Bool
+armsResend idempotent o = both (sendsLast o) (not (runsAgain idempotent o))
 
 -- Transmit: 1; 2; 15 but in REPLYING; 20 where RESEND is armed.
 unfoldable pub transmitGround : Server → ℕ → ℕ → Ground
@@ -32,7 +32,7 @@ transmitGround s message out =
     first (transmitLent (isReplying (s .state)) message (s .outgoing .length) out)
     (first (refuseIf (not (sound s)) BrokenRecord)
     (first (refuseIf (not (isReplying (s .state))) NoRow)
-    (ticketGround (holds (s .call .idempotent) (s .outgoing)) (s .tickets))))
+    (ticketGround (armsResend (s .call .idempotent) (s .outgoing)) (s .tickets))))
 
 -- Replaying a fault arms RESEND afresh, replaying data does not.
 unfoldable pub armsAgain : State → Bool → Bool

@@ -68,18 +68,18 @@ whereReplied Replying row = row
 whereReplied (Held reply) row = row
 
 -- A fack or ack of another number not below the server's: 15.
-unfoldable pub replyRow : Order → State → Row → Row
-replyRow Below state row = Old
-replyRow Equal state row = whereReplied state row
-replyRow Newer state row = Missing
+unfoldable pub acknowledgementRow : Order → State → Row → Row
+acknowledgementRow Below state row = Old
+acknowledgementRow Equal state row = whereReplied state row
+acknowledgementRow Newer state row = Missing
 
 -- Fack, equal, in REPLYING or HELD: acknowledge.
 unfoldable pub fackRow : Order → State → Row
-fackRow order state = replyRow order state Acknowledge
+fackRow order state = acknowledgementRow order state Acknowledge
 
 -- Ack, equal, there, of a call that is not idempotent: finish.
 unfoldable pub ackRow : Order → State → Bool → Row
-ackRow order state idempotent = replyRow order state (choose idempotent Missing Finish)
+ackRow order state idempotent = acknowledgementRow order state (choose idempotent Missing Finish)
 
 -- The row of an arriving PDU: bit is the PDU's idempotent bit, mark the call's. What is foreign was refused with 10.
 unfoldable pub rowOf : Event → Order → State → Bool → Bool → Row

@@ -1,0 +1,19 @@
+-- `server_record::is_sound` meets its contract.
+use Rattle.server_record.specs.Rules.{sound}
+use borrow.Author.Needs.{needs}
+use Rattle.server_record.proofs.is_sound.Statement.{statement}
+use Rattle.server_record.proofs.is_sound.Tie as tie
+
+pub is-sound-spec : {M : Type 1} → statement M
+unfolding sound
+is-sound-spec =
+    tie.close
+    (tie.spec
+    (λ c κs. search needs)
+    (λ c κs. search needs)
+    (λ c κs. search needs)
+    (λ c κs. search needs)
+    (λ c κs. search needs)
+    (λ c κs. search needs)
+    (λ c κs. search needs)
+    (λ c. rw (c .both3 .ensures, c .before .both2 .ensures, c .before .before .both .ensures, c .before .before .before .before .is-sound-where .ensures, c .before .before .before .before .before .is-held .ensures, c .before .before .before .before .before .before .is-sound .ensures, c .before .before .before .before .before .before .before .outgoing-is-sound .ensures)))
