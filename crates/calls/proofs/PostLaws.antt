@@ -1,15 +1,16 @@
 -- What was sent is the whole PDU.
 use Prim.Native.Nat.{ℕ, _+_, _≤_}
 use mathlib.Core.List.{List}
-use mathlib.Core.Path.{_≡_}
+use mathlib.Core.Path.{_≡_, subst}
 use lib.ListN.{length}
 use Rattle.words.specs.Place.{placed}
 use Rattle.pdu.specs.declared.Header.{Header}
 use Rattle.pdu.specs.Header.{datagram}
 use Rattle.writer.specs.Writing.{writeBy, writing}
 use Rattle.writer.proofs.Returns.{writable-passes}
+use Rattle.calls.specs.declared.Sent.{Sent}
 use Rattle.calls.specs.declared.Sent.the-variants.{Pdu}
-use Rattle.calls.specs.Sent.{Posting, posting}
+use Rattle.calls.specs.Sent.{Posting, posting, Posted}
 
 -- The bytes of a PDU at the front of the buffer, all else as it was, and its length told.
 abbrev pub whole : Header → List ℕ → List ℕ → Posting
@@ -22,3 +23,9 @@ unfolding posting writing writeBy
 posted-whole h body out room known plain short =
     rw (writable-passes (length out) (h .kind) (h .authentication) (length body)
     (record { room = room; known-type = known; unauthenticated = plain; short = short }))
+
+-- A PDU that was posted, its header and body known.
+pub posted-as : (h k : Header) (b d out : List ℕ) (r : Sent) (after : List ℕ)
+    → Posted (posting h b out) r after → h ≡ k → b ≡ d → Posted (posting k d out) r after
+posted-as h k b d out r after p e f =
+    subst (λ (x : Header). Posted (posting x d out) r after) e (subst (λ (y : List ℕ). Posted (posting h y out) r after) f p)

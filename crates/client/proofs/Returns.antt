@@ -4,9 +4,8 @@ use mathlib.Core.List.{List, []}
 use mathlib.Core.Path.{_≡_, sym, ap, _∙_, subst}
 use Rattle.answers.specs.declared.Ground.{Ground}
 use Rattle.calls.specs.declared.Sent.{Sent}
-use Rattle.calls.specs.Sent.{posting, Posted}
+use Rattle.calls.specs.Sent.{Posted}
 use Rattle.fragments.specs.Slots.{storing}
-use Rattle.pdu.specs.declared.Header.{Header}
 use Rattle.pdu.specs.Header.{bodyOf}
 use Rattle.reader.specs.declared.Reading.{Reading}
 use Rattle.reader.specs.Reading.{reading}
@@ -16,12 +15,6 @@ use Rattle.client_steps.specs.declared.Plan.{Plan}
 use Rattle.client.specs.declared.Outcome.{Outcome}
 use Rattle.client.specs.Sending.{sentOut}
 use Rattle.client.specs.Machine.{outcomeOf, Stepped, sending, Arrived, planOf, acted}
-
--- A PDU that was posted, its header and body known.
-pub posted-as : (h k : Header) (b d out : List ℕ) (r : Sent) (after : List ℕ)
-    → Posted (posting h b out) r after → h ≡ k → b ≡ d → Posted (posting k d out) r after
-posted-as h k b d out r after p e f =
-    subst (λ (x : Header). Posted (posting x d out) r after) e (subst (λ (y : List ℕ). Posted (posting h y out) r after) f p)
 
 -- What was sent, the plan's send known.
 pub sent-as : (s k : Send) (c : Client) (message out : List ℕ) (r : Sent) (after : List ℕ)

@@ -89,11 +89,11 @@ unfolding ServerStates.neverCalled ServerStates.isFresh ServerStates.isRunning S
     ServerRules.idleRule ServerRules.heldRule ServerRules.messageRule ServerRules.outgoingSound ServerRules.sound
     ServerRecord.fresh ServerRecord.holding ServerRecord.unarmed
     ServerEvents.clientEvent ServerEvents.eventOf ServerEvents.byEvent ServerEvents.sideGround
-    ServerTable.orderOf ServerTable.requestNewer ServerTable.requestIdle ServerTable.requestEqual ServerTable.requestRow
-    ServerTable.pingEqual ServerTable.pingRow ServerTable.whereReplied ServerTable.acknowledgementRow ServerTable.fackRow ServerTable.ackRow
+    ServerTable.orderBy ServerTable.orderOf ServerTable.requestNewer ServerTable.requestAgain ServerTable.requestIdle ServerTable.requestEqual ServerTable.requestRow
+    ServerTable.pingEqual ServerTable.pingRow ServerTable.whereReplied ServerTable.acknowledgementRow ServerTable.finishRow ServerTable.fackRow ServerTable.ackRow
     ServerTable.rowOf
     ServerArrival.requestGround ServerArrival.oldGround ServerArrival.rowGround ServerArrival.agree ServerArrival.sameCall
-    ServerArrival.callGround ServerArrival.slotGround ServerArrival.pduGround ServerArrival.tableGround ServerArrival.orderFor
+    ServerArrival.callGround ServerArrival.contradictionGround ServerArrival.slotGround ServerArrival.pduGround ServerArrival.tableGround ServerArrival.orderFor
     ServerArrival.rowFor ServerArrival.arrivalGround
     ServerLocal.runsAgain ServerLocal.armsResend ServerLocal.transmitGround ServerLocal.timerGround ServerLocal.replyGround
     ServerPlan.refused ServerPlan.accepted ServerPlan.withOutgoing

@@ -33,7 +33,7 @@ use Rattle.server_table.specs.declared.Order.the-variants.{Below, Equal, Newer}
 use Rattle.server_table.specs.declared.Row.{Row}
 use Rattle.server_table.specs.declared.Row.the-variants.{Old, Missing, Repeat, Begin, Put, Working, Nocall, Replay, Acknowledge, Finish}
 use Rattle.server_table.specs.Events.{eventOf, byEvent, sideGround}
-use Rattle.server_table.specs.Arrival.{requestGround, oldGround, rowGround, sameCall, callGround, slotGround, pduGround, tableGround, orderFor, rowFor, arrivalGround}
+use Rattle.server_table.specs.Arrival.{requestGround, oldGround, rowGround, sameCall, callGround, contradictionGround, slotGround, pduGround, tableGround, orderFor, rowFor, arrivalGround}
 use Rattle.server_table.specs.Local.{armsResend, transmitGround, armsAgain, timerGround, replyGround, faultGround}
 use Rattle.server_table.proofs.TableLaws.{begin-told, put-told, acknowledge-told}
 
@@ -302,7 +302,7 @@ row-definite Finish = pass-definite
 
 -- that of the fragment,
 slot-definite : (row : Row) (m : Incoming) (f : ℕ) (last : Bool) → Definite (slotGround row m f last)
-unfolding slotGround
+unfolding slotGround contradictionGround
 slot-definite Old m f last = pass-definite
 slot-definite Missing m f last = pass-definite
 slot-definite Repeat m f last = pass-definite

@@ -30,7 +30,7 @@ use Rattle.server_record.proofs.RuleLaws.{rules-told}
 use Rattle.server_table.specs.declared.Row.{Row}
 use Rattle.server_table.specs.declared.Row.the-variants.{Old, Missing, Repeat, Begin, Put, Working, Nocall, Replay, Acknowledge, Finish}
 use Rattle.server_table.specs.Arrival.{rowFor, arrivalGround}
-use Rattle.server_table.specs.Local.{runsAgain, armsResend, transmitGround, armsAgain, timerGround, replyGround, faultGround}
+use Rattle.server_table.specs.Local.{runsAgain, armsResend, transmitGround, heldArmsAgain, armsAgain, timerGround, replyGround, faultGround}
 use Rattle.server_steps.specs.declared.Send.the-variants.{Nothing}
 use Rattle.server_steps.specs.Plan.{refused, accepted, withOutgoing, withResends}
 use Rattle.server_steps.specs.Rows.{answered, replyPlan, settled, transmitted, transmitPlan, faultPlan, rewinding, replayHeld, replayPlan, resendHeld, resendRow, timerRow, timerPlan}
@@ -103,7 +103,7 @@ module _ (s : Server) where
   -- RESEND acts: below its limit a fault arms it afresh, else it goes off,
   held-moves : (reply : Reply) → (armsAgain (Held reply) (ltb (s .resends) 5) ≡ true → usedUp (s .tickets) ≡ false)
       → ServerMoved s (resendRow s reply .server)
-  unfolding resendRow resendHeld rewinding holding withResends withOutgoing unarmed accepted armsAgain choose
+  unfolding resendRow resendHeld rewinding holding withResends withOutgoing unarmed accepted armsAgain heldArmsAgain choose
   held-moves reply free = by-count (ltb (s .resends) 5) reply free
     where
       by-count : (t : Bool) (r : Reply) → (armsAgain (Held r) t ≡ true → usedUp (s .tickets) ≡ false)
@@ -125,7 +125,7 @@ module _ (s : Server) where
   -- So the ticket that acts is no longer armed,
   held-spends : (ticket : ℕ) → ticket ≤ s .tickets → (reply : Reply)
       → (armsAgain (Held reply) (ltb (s .resends) 5) ≡ true → usedUp (s .tickets) ≡ false) → resendRow s reply .server .resend ≡ Armed ticket → ⊥
-  unfolding resendRow resendHeld rewinding holding withResends unarmed accepted armsAgain choose
+  unfolding resendRow resendHeld rewinding holding withResends unarmed accepted armsAgain heldArmsAgain choose
   held-spends ticket old reply free = by-count (ltb (s .resends) 5) reply free
     where
       by-count : (t : Bool) (r : Reply) → (armsAgain (Held r) t ≡ true → usedUp (s .tickets) ≡ false)

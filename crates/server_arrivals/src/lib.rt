@@ -1,1 +1,172 @@
-// What an arriving PDU's row makes of the server's record: definitions only, so far.
+// What an arriving PDU's row makes of the server's record.
+use answers::Answer;
+use answers::Ground;
+use calls::Call;
+use calls::Notice;
+use incoming::Incoming;
+use pdu::Header;
+use server_record::Idle;
+use server_record::Server;
+use server_record::State;
+use server_steps::Plan;
+use server_steps::Send;
+use server_table::Row;
+use timers::Timer;
+ghost use mathlib.Core.Path.{_≡_};
+ghost use Rattle.server_arrivals.specs.Rows.{callOf, begun as begunRecord, withIncoming, putState, putNotice, fackFor, putPlan, requestPlan, beginPlan, workingPlan, nocallPlan, fackPlan, ackPlan};
+ghost use Rattle.server_arrivals.specs.Table.{arrivalRow, arrivalPlan};
+
+// The call that a request carries.
+fn call_of(h: Header) -> Call
+    ensures { λ r. ⌜ r ≡ callOf h ⌝ }
+{
+    let object = h.object;
+    let interface = h.interface;
+    Call {
+        idempotent: flags::is_idempotent(h.flags1),
+        object,
+        interface,
+        version: h.version,
+        operation: h.operation,
+    }
+}
+
+// The record of a call that begins.
+fn begun(s: Server, h: Header) -> Server
+    ensures { λ r. ⌜ r ≡ begunRecord s h ⌝ }
+{
+    let activity = s.activity;
+    Server {
+        state: State::Collect,
+        activity,
+        boot: s.boot,
+        number: h.number,
+        call: call_of(h),
+        outgoing: outgoing::nothing(0),
+        incoming: incoming::empty(),
+        resends: 0,
+        tickets: s.tickets,
+        resend: Timer::Off,
+    }
+}
+
+// The record with other fragments held.
+fn with_incoming(s: Server, m: Incoming) -> Server
+    ensures { λ r. ⌜ r ≡ withIncoming s m ⌝ }
+{
+    let mut next = s;
+    next.incoming = m;
+    next
+}
+
+// The state after a put.
+fn put_state(complete: bool) -> State
+    ensures { λ r. ⌜ r ≡ putState complete ⌝ }
+{
+    if complete {
+        return State::Running;
+    }
+    State::Collect
+}
+
+// What a put tells.
+fn put_notice(complete: bool) -> Notice
+    ensures { λ r. ⌜ r ≡ putNotice complete ⌝ }
+{
+    if complete {
+        return Notice::Dispatch;
+    }
+    Notice::Nothing
+}
+
+// A fack for the serial of what was put, where one is wanted.
+fn fack_for(wanted: bool, serial: u16) -> Send
+    ensures { λ r. ⌜ r ≡ fackFor wanted serial ⌝ }
+{
+    if wanted {
+        return Send::Fack(serial);
+    }
+    Send::Nothing
+}
+
+// A request is put, and m is held then.
+fn put(s: Server, m: Incoming, flags1: u8, serial: u16) -> Plan
+    ensures { λ r. ⌜ r ≡ putPlan s m flags1 serial ⌝ }
+{
+    let complete = incoming::is_complete(m);
+    let server = with_incoming(server_record::to_unarmed(s, put_state(complete)), m);
+    let send = fack_for(grounds::wants_fack(flags1), serial);
+    let notice = put_notice(complete);
+    Plan {
+        answer: Answer::Done,
+        server,
+        send,
+        notice,
+        put: true,
+    }
+}
+
+// Put, in COLLECT.
+fn request(s: Server, flags1: u8, serial: u16, f: u16, length: u16) -> Plan
+    ensures { λ r. ⌜ r ≡ requestPlan s flags1 serial f length ⌝ }
+{
+    let m = s.incoming;
+    let last = grounds::is_last(flags1);
+    put(s, incoming::with(m, f, length, last), flags1, serial)
+}
+
+// Begin, and put.
+fn begin(s: Server, h: Header, length: u16) -> Plan
+    ensures { λ r. ⌜ r ≡ beginPlan s h length ⌝ }
+{
+    request(begun(s, h), h.flags1, h.serial, h.fragment, length)
+}
+
+// Fack: what is acknowledged.
+fn fack(s: Server, g: u16) -> Plan
+    ensures { λ r. ⌜ r ≡ fackPlan s g ⌝ }
+{
+    let o = s.outgoing;
+    let number = (grounds::acknowledged_by(g) % 256) as u8;
+    let next = server_steps::with_outgoing(s, outgoing::acknowledge(o, number));
+    server_steps::accepted(next, Send::Nothing)
+}
+
+// Ack: the call is spent.
+fn ack(s: Server) -> Plan
+    ensures { λ r. ⌜ r ≡ ackPlan s ⌝ }
+{
+    server_steps::accepted(
+        server_record::to_unarmed(s, State::Idle(Idle::Spent)),
+        Send::Nothing,
+    )
+}
+
+// What each row does; the first three were refused with 13, 15 and 16.
+fn act(row: Row, s: Server, h: Header, length: u16) -> Plan
+    ensures { λ r. ⌜ r ≡ arrivalRow row s h length ⌝ }
+{
+    let state = s.state;
+    match row {
+        Row::Old => server_steps::refused(s, Answer::OldCall),
+        Row::Missing => server_steps::refused(s, Answer::NoRow),
+        Row::Repeat => server_steps::refused(s, Answer::Repeated),
+        Row::Begin => begin(s, h, length),
+        Row::Put => request(s, h.flags1, h.serial, h.fragment, length),
+        Row::Working => server_steps::accepted(s, Send::Working),
+        Row::Nocall => server_steps::accepted(s, Send::Nocall),
+        Row::Replay => server_steps::replay(state, s),
+        Row::Acknowledge => fack(s, h.fragment),
+        Row::Finish => ack(s),
+    }
+}
+
+// An arriving PDU, judged.
+pub fn arrive(ground: Ground, s: Server, h: Header, length: u16) -> Plan
+    ensures { λ r. ⌜ r ≡ arrivalPlan ground s h length ⌝ }
+{
+    match ground {
+        Ground::Refuse(answer) => server_steps::refused(s, answer),
+        Ground::Pass => act(server_table::row_for(s, h), s, h, length),
+    }
+}

@@ -167,7 +167,10 @@ pub fn is_sound(s: Server) -> bool
     let receiving = incoming::is_sound(m);
     let named = is_held(state);
     let timing = timers::is_sound_where(named, resend, s.tickets);
-    words::both(s.resends <= 5, words::both(sending, words::both(receiving, timing)))
+    words::both(
+        s.resends <= 5,
+        words::both(sending, words::both(receiving, timing)),
+    )
 }
 
 // A fresh server: IDLE fresh, nothing held or armed.

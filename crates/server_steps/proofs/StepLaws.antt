@@ -22,7 +22,7 @@ use Rattle.server_record.specs.Record.{holding, unarmed}
 use Rattle.server_record.proofs.StateLaws.{running-state, replying-state}
 use Rattle.server_record.proofs.RuleLaws.{rules-told, rules-hold, out-told, out-holds, running-told, data-told, replying-told, replying-holds, repeatable-holds}
 use Rattle.server_record.proofs.RecordLaws.{Untimed, holding-sound, unarmed-sound, spent-sound}
-use Rattle.server_table.specs.Local.{runsAgain, armsResend, armsAgain}
+use Rattle.server_table.specs.Local.{runsAgain, armsResend, heldArmsAgain, armsAgain}
 use Rattle.server_steps.specs.declared.Send.the-variants.{Nothing}
 use Rattle.server_steps.specs.Plan.{refused, accepted, withOutgoing, withResends}
 use Rattle.server_steps.specs.Rows.{answered, settled, transmitted, rewinding, replayHeld, replayPlan, resendHeld, resendRow, timerRow}
@@ -148,7 +148,7 @@ module _ (s : Server) (kept : sound s ≡ true) where
   -- RESEND below its limit, by what is held:
   resend-sound : (reply : Reply) → outgoingSound (Held reply) (s .outgoing) ≡ true → s .resends < 5
       → (armsAgain (Held reply) true ≡ true → usedUp (s .tickets) ≡ false) → sound (resendHeld s reply .server) ≡ true
-  unfolding resendHeld accepted withResends armsAgain
+  unfolding resendHeld accepted withResends armsAgain heldArmsAgain
   resend-sound Data out few free =
       rewinding-sound (withResends s (s .resends + 1))
       (record { count = le-leb (s .resends + 1) 5 (omega arith); outgoing = out; held = rules-told s kept .incoming })

@@ -16,7 +16,7 @@ use Rattle.server_table.specs.declared.Order.{Order}
 use Rattle.server_table.specs.declared.Order.the-variants.{Below, Equal, Newer}
 use Rattle.server_table.specs.declared.Row.{Row}
 use Rattle.server_table.specs.declared.Row.the-variants.{Old, Missing, Repeat, Begin, Put, Working, Nocall, Replay, Acknowledge, Finish}
-use Rattle.server_table.specs.Table.{orderOf, requestNewer, requestIdle, requestEqual, requestRow, pingEqual, pingRow, whereReplied, acknowledgementRow, fackRow, ackRow, rowOf}
+use Rattle.server_table.specs.Table.{orderBy, orderOf, requestNewer, requestAgain, requestIdle, requestEqual, requestRow, pingEqual, pingRow, whereReplied, acknowledgementRow, finishRow, fackRow, ackRow, rowOf}
 
 -- What an order tells of the two numbers.
 OrderTells : Bool → ℕ → ℕ → Order → Type 0
@@ -27,7 +27,7 @@ OrderTells fresh mine theirs Newer = (fresh ≡ true) ⊎ (mine < theirs)
 module _ (fresh : Bool) (mine theirs : ℕ) where
   -- The order of two numbers tells it.
   order-tells : OrderTells fresh mine theirs (orderOf fresh mine theirs)
-  unfolding OrderTells orderOf either choose
+  unfolding OrderTells orderOf orderBy either choose
   order-tells = by-fresh fresh refl
     where
       by-number : (t : Bool) → eqb mine theirs ≡ t → fresh ≡ false → OrderTells fresh mine theirs (choose t Equal Below)
@@ -69,7 +69,7 @@ RowTells event order state bit mark Finish = (order ≡ Equal) × (mark ≡ fals
 
 -- The row of a request tells it,
 request-tells : (bit mark : Bool) (order : Order) (state : State) → RowTells Request order state bit mark (requestRow order state bit)
-unfolding RowTells requestRow requestEqual requestIdle requestNewer isRunning isHeld choose
+unfolding RowTells requestRow requestEqual requestIdle requestAgain requestNewer isRunning isHeld choose
 request-tells bit mark Below state = tt
 request-tells bit mark Equal (IdleState Fresh) = tt
 request-tells bit mark Equal (IdleState Spent) = tt
@@ -98,7 +98,7 @@ ping-tells bit mark Newer state = tt
 
 -- of an ack,
 ack-tells : (bit mark : Bool) (order : Order) (state : State) → RowTells Ack order state bit mark (ackRow order state mark)
-unfolding RowTells ackRow acknowledgementRow whereReplied isHeld choose
+unfolding RowTells ackRow finishRow acknowledgementRow whereReplied isHeld choose
 ack-tells bit mark Below state = tt
 ack-tells bit mark Equal (IdleState idle) = tt
 ack-tells bit mark Equal Collect = tt

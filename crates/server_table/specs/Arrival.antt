@@ -78,6 +78,10 @@ callGround Below same = Pass
 callGround Equal same = refuseIf (not same) Contradiction
 callGround Newer same = Pass
 
+-- 17: a fragment that contradicts what is held.
+unfoldable pub contradictionGround : Incoming → ℕ → Bool → Ground
+contradictionGround m f last = refuseIf (contradicts m f last) Contradiction
+
 -- 16 of a fragment already held, where the row puts it; 17 of one that contradicts what is held. A begin's slots are empty.
 unfoldable pub slotGround : Row → Incoming → ℕ → Bool → Ground
 slotGround Old m f last = Pass
@@ -85,9 +89,9 @@ slotGround Missing m f last = Pass
 slotGround Repeat m f last = Pass
 slotGround Begin m f last = putGround cleared f last
 slotGround Put m f last = putGround m f last
-slotGround Working m f last = refuseIf (contradicts m f last) Contradiction
+slotGround Working m f last = contradictionGround m f last
 slotGround Nocall m f last = Pass
-slotGround Replay m f last = refuseIf (contradicts m f last) Contradiction
+slotGround Replay m f last = contradictionGround m f last
 slotGround Acknowledge m f last = Pass
 slotGround Finish m f last = Pass
 

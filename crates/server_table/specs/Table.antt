@@ -14,9 +14,13 @@ use Rattle.server_table.specs.declared.Order.the-variants.{Below, Equal,
 use Rattle.server_table.specs.declared.Row.{Row}
 use Rattle.server_table.specs.declared.Row.the-variants.{Old, Missing, Repeat, Begin, Put, Working, Nocall, Replay, Acknowledge, Finish}
 
+-- A number that is not newer is equal or below.
+unfoldable pub orderBy : Bool → ℕ → ℕ → Order
+orderBy newer mine theirs = choose newer Newer (choose (eqb mine theirs) Equal Below)
+
 -- Newer means greater as a plain number; to a fresh server every number is newer.
 unfoldable pub orderOf : Bool → ℕ → ℕ → Order
-orderOf fresh mine theirs = choose (either fresh (ltb mine theirs)) Newer (choose (eqb mine theirs) Equal Below)
+orderOf fresh mine theirs = orderBy (either fresh (ltb mine theirs)) mine theirs
 
 -- Request, newer number or fresh, not in RUNNING: begin. In RUNNING: 15.
 unfoldable pub requestNewer : State → Row
@@ -26,11 +30,15 @@ requestNewer Running = Missing
 requestNewer Replying = Begin
 requestNewer (Held reply) = Begin
 
+-- A repeatable call begins again where its request has the bit set.
+unfoldable pub requestAgain : Bool → Row
+requestAgain bit = choose bit Begin Old
+
 -- Request, equal number, in IDLE: repeatable with the bit set begins; otherwise spent, 13.
 unfoldable pub requestIdle : Idle → Bool → Row
 requestIdle Fresh bit = Old
 requestIdle Spent bit = Old
-requestIdle Repeatable bit = choose bit Begin Old
+requestIdle Repeatable bit = requestAgain bit
 
 -- Request, equal number: COLLECT puts; RUNNING sends working; REPLYING 16; HELD replays.
 unfoldable pub requestEqual : State → Bool → Row
@@ -78,8 +86,11 @@ unfoldable pub fackRow : Order → State → Row
 fackRow order state = acknowledgementRow order state Acknowledge
 
 -- Ack, equal, there, of a call that is not idempotent: finish.
+unfoldable pub finishRow : Bool → Row
+finishRow idempotent = choose idempotent Missing Finish
+
 unfoldable pub ackRow : Order → State → Bool → Row
-ackRow order state idempotent = acknowledgementRow order state (choose idempotent Missing Finish)
+ackRow order state idempotent = acknowledgementRow order state (finishRow idempotent)
 
 -- The row of an arriving PDU: bit is the PDU's idempotent bit, mark the call's. What is foreign was refused with 10.
 unfoldable pub rowOf : Event → Order → State → Bool → Bool → Row

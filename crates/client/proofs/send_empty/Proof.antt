@@ -2,7 +2,7 @@
 use mathlib.Core.Path.{refl}
 use borrow.Author.Needs.{needs}
 use Rattle.client.specs.Sending.{emptySent}
-use Rattle.client.proofs.Returns.{posted-as}
+use Rattle.calls.proofs.PostLaws.{posted-as}
 use Rattle.client.proofs.send_empty.Statement.{statement}
 use Rattle.client.proofs.send_empty.Tie as tie
 

@@ -4,7 +4,7 @@ use mathlib.Core.Path.{ap, _∙_}
 use borrow.Author.Needs.{needs}
 use Rattle.bodies.specs.Fack.{fackBytes, fackSent as fackFields}
 use Rattle.client.specs.Sending.{pduHeader, fackSent}
-use Rattle.client.proofs.Returns.{posted-as}
+use Rattle.calls.proofs.PostLaws.{posted-as}
 use Rattle.client.proofs.send_fack.Statement.{statement}
 use Rattle.client.proofs.send_fack.Tie as tie
 

@@ -3,7 +3,7 @@ use Prim.Native.Nat.{ℕ}
 use mathlib.Core.Path.{ap, _∙_}
 use borrow.Author.Needs.{needs}
 use Rattle.client.specs.Sending.{pduHeader, requestSent}
-use Rattle.client.proofs.Returns.{posted-as}
+use Rattle.calls.proofs.PostLaws.{posted-as}
 use Rattle.client.proofs.send_request.Statement.{statement}
 use Rattle.client.proofs.send_request.Tie as tie
 

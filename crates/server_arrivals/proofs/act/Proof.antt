@@ -1,0 +1,42 @@
+-- `server_arrivals::act` meets its contract.
+use Rattle.server_arrivals.specs.Table.{arrivalRow}
+use Rattle.server_arrivals.specs.Rows.{workingPlan, nocallPlan}
+use borrow.Author.Needs.{needs}
+use Rattle.server_arrivals.proofs.act.Statement.{statement}
+use Rattle.server_arrivals.proofs.act.Tie as tie
+
+pub act-spec : {M : Type 1} → statement M
+unfolding arrivalRow workingPlan nocallPlan
+act-spec =
+    tie.close
+    (tie.spec
+    (λ c. search needs)
+    (λ c κs. search needs)
+    (λ c. search needs)
+    (λ c κs. search needs)
+    (λ c. search needs)
+    (λ c κs. search needs)
+    (λ c. search needs)
+    (λ c κs. search needs)
+    (λ c. search needs)
+    (λ c κs. search needs)
+    (λ c. search needs)
+    (λ c κs. search needs)
+    (λ c. search needs)
+    (λ c κs. search needs)
+    (λ c. search needs)
+    (λ c κs. search needs)
+    (λ c. search needs)
+    (λ c κs. search needs)
+    (λ c. search needs)
+    (λ c κs. search needs)
+    (λ c. rw (c .before .enum-told .given .1, c .refused .ensures))
+    (λ c. rw (c .before .enum-told2 .given .1, c .refused2 .ensures))
+    (λ c. rw (c .before .enum-told3 .given .1, c .refused3 .ensures))
+    (λ c. rw (c .before .enum-told4 .given .1, c .begin .ensures))
+    (λ c. rw (c .before .enum-told5 .given .1, c .request .ensures))
+    (λ c. rw (c .before .enum-told6 .given .1, c .accepted .ensures))
+    (λ c. rw (c .before .enum-told7 .given .1, c .accepted2 .ensures))
+    (λ c. rw (c .before .enum-told8 .given .1, c .replay .ensures))
+    (λ c. rw (c .before .enum-told9 .given .1, c .fack .ensures))
+    (λ c. rw (c .before .enum-told10 .given .1, c .ack .ensures)))

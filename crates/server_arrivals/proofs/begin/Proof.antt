@@ -1,0 +1,14 @@
+-- `server_arrivals::begin` meets its contract.
+use Rattle.server_arrivals.specs.Rows.{beginPlan}
+use borrow.Author.Needs.{needs}
+use Rattle.server_arrivals.proofs.begin.Statement.{statement}
+use Rattle.server_arrivals.proofs.begin.Tie as tie
+
+pub begin-spec : {M : Type 1} → statement M
+unfolding beginPlan
+begin-spec =
+    tie.close
+    (tie.spec
+    (λ c κs. search needs)
+    (λ c κs. search needs)
+    (λ c. rw (c .request .ensures, c .before .begun .ensures)))

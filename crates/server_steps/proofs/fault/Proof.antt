@@ -1,0 +1,18 @@
+-- `server_steps::fault` meets its contract.
+use Rattle.server_steps.specs.Rows.{faultPlan}
+use borrow.Author.Needs.{needs}
+use Rattle.server_steps.proofs.fault.Statement.{statement}
+use Rattle.server_steps.proofs.fault.Tie as tie
+
+pub fault-spec : {M : Type 1} → statement M
+unfolding faultPlan
+fault-spec =
+    tie.close
+    (tie.spec
+    (λ c. search needs)
+    (λ c κs. search needs)
+    (λ c. search needs)
+    (λ c κs. search needs)
+    (λ c κs. search needs)
+    (λ c. rw (c .before .before .ground .given .1, c .refused .ensures))
+    (λ c. rw (c .before .before .enum-told .given .1, c .accepted .ensures, c .before .settled .ensures)))

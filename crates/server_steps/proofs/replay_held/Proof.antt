@@ -1,0 +1,18 @@
+-- `server_steps::replay_held` meets its contract.
+use Rattle.server_steps.specs.Rows.{replayHeld}
+use borrow.Author.Needs.{needs}
+use Rattle.server_steps.proofs.replay_held.Statement.{statement}
+use Rattle.server_steps.proofs.replay_held.Tie as tie
+
+pub replay-held-spec : {M : Type 1} → statement M
+unfolding replayHeld
+replay-held-spec =
+    tie.close
+    (tie.spec
+    (λ c. search needs)
+    (λ c κs. search needs)
+    (λ c κs. search needs)
+    (λ c. search needs)
+    (λ c κs. search needs)
+    (λ c. rw (c .before .before .enum-told .given .1, c .accepted .ensures, c .before .rewinding .ensures))
+    (λ c. rw (c .before .before .reply .given .1, c .accepted2 .ensures)))

@@ -1,0 +1,17 @@
+-- `server_steps::resend` meets its contract.
+use Rattle.words.proofs.Tests.{tests}
+use Rattle.server_steps.specs.Rows.{resendRow}
+use borrow.Author.Needs.{needs}
+use Rattle.server_steps.proofs.resend.Statement.{statement}
+use Rattle.server_steps.proofs.resend.Tie as tie
+
+pub resend-spec : {M : Type 1} → statement M
+unfolding resendRow
+resend-spec =
+    tie.close
+    (tie.spec
+    (λ c κs. search needs)
+    (λ c. search tests)
+    (λ c κs. search needs)
+    (λ c κs. search needs)
+    (λ c. rw (c .accepted .ensures, c .before .to-unarmed .ensures) (search tests)))

@@ -1,0 +1,21 @@
+-- `server_steps::resend_held` meets its contract.
+use Rattle.server_steps.specs.Rows.{resendHeld}
+use borrow.Author.Needs.{needs}
+use Rattle.server_steps.proofs.resend_held.Statement.{statement}
+use Rattle.server_steps.proofs.resend_held.Tie as tie
+
+pub resend-held-spec : {M : Type 1} → statement M
+unfolding resendHeld
+resend-held-spec =
+    tie.close
+    (tie.spec
+    (λ c. search needs)
+    (λ c κs. search needs)
+    (λ c. search needs)
+    (λ c κs. search needs)
+    (λ c κs. search needs)
+    (λ c. search needs)
+    (λ c κs. search needs)
+    (λ c κs. search needs)
+    (λ c. rw (c .before .before .enum-told .given .1, c .accepted .ensures, c .before .rewinding .ensures, c .before .before .before .before .with-resends .ensures))
+    (λ c. rw (c .before .before .before .reply .given .1, c .accepted2 .ensures, c .before .to-holding .ensures, c .before .before .before .before .before .with-resends .ensures)))

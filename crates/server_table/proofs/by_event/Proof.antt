@@ -1,0 +1,22 @@
+-- `server_table::by_event` meets its contract.
+use Rattle.words.proofs.Tests.{tests}
+use Rattle.server_table.specs.Events.{byEvent}
+use borrow.Author.Needs.{needs}
+use Rattle.server_table.proofs.by_event.Statement.{statement}
+use Rattle.server_table.proofs.by_event.Tie as tie
+
+pub by-event-spec : {M : Type 1} → statement M
+unfolding byEvent
+by-event-spec =
+    tie.close
+    (tie.spec
+    (λ c. search needs)
+    (λ c. search needs)
+    (λ c. search needs)
+    (λ c. search needs)
+    (λ c. search needs)
+    (λ c. search tests)
+    (λ c. search tests)
+    (λ c. search tests)
+    (λ c. search tests)
+    (λ c. search tests))

@@ -1,0 +1,13 @@
+-- `server_table::client_event` meets its contract.
+use Rattle.words.proofs.Tests.{tests}
+use Rattle.server_table.specs.Events.{clientEvent}
+use Rattle.server_table.proofs.client_event.Statement.{statement}
+use Rattle.server_table.proofs.client_event.Tie as tie
+
+pub client-event-spec : {M : Type 1} → statement M
+unfolding clientEvent
+client-event-spec =
+    tie.close
+    (tie.spec
+    (λ c. search tests)
+    (λ c. search tests))
