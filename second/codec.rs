@@ -24,7 +24,9 @@ pub mod flags1 {
     pub const LAST_FRAGMENT: u8 = 2;
     pub const FRAGMENT: u8 = 4;
     pub const NO_FACK: u8 = 8;
+    pub const MAYBE: u8 = 16;
     pub const IDEMPOTENT: u8 = 32;
+    pub const BROADCAST: u8 = 64;
 }
 
 /// Where each field of the header lies.

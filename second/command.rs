@@ -5,15 +5,25 @@ use crate::client_record::Client;
 use crate::codec::{Header, Uuid};
 use crate::fack::Held;
 use crate::fields::{Bad, Fields};
+use crate::server_command::{self, ServerEvent};
+use crate::server_record::Server;
 
 const FRESH_CLIENT: u8 = b'C';
 const CLIENT_RECORD: u8 = b'c';
+const FRESH_SERVER: u8 = b'S';
+const SERVER_RECORD: u8 = b's';
 const LEND: u8 = b'L';
 const CLIENT_START: u8 = 0x01;
 const CLIENT_TRANSMIT: u8 = 0x02;
 const CLIENT_ARRIVE: u8 = 0x03;
 const CLIENT_TIMER: u8 = 0x04;
 const CLIENT_HAND_UP: u8 = 0x05;
+const SERVER_TRANSMIT: u8 = 0x12;
+const SERVER_ARRIVE: u8 = 0x13;
+const SERVER_TIMER: u8 = 0x14;
+const SERVER_HAND_UP: u8 = 0x15;
+const SERVER_REPLY: u8 = 0x16;
+const SERVER_FAULT: u8 = 0x17;
 const READ: u8 = 0x21;
 const WRITE: u8 = 0x22;
 const FACK: u8 = 0x23;
@@ -29,6 +39,10 @@ pub enum Command<'a> {
     Set(Setting),
     Client(ClientEvent<'a>),
     ClientHandUp {
+        fragment_number: u8,
+    },
+    Server(ServerEvent<'a>),
+    ServerHandUp {
         fragment_number: u8,
     },
     Read {
@@ -53,6 +67,12 @@ pub enum Setting {
         ticket_counter: u64,
     },
     ClientRecord(Client),
+    FreshServer {
+        activity: Uuid,
+        boot: u32,
+        ticket_counter: u64,
+    },
+    ServerRecord(Server),
     /// The lengths of the buffers that are lent from now on.
     Lend {
         pdu_length: u16,
@@ -83,19 +103,43 @@ impl<'a> Iterator for Commands<'a> {
 
 fn decode<'a>(byte: u8, fields: &mut Fields<'a>) -> Result<Command<'a>, Bad> {
     match byte {
-        FRESH_CLIENT | CLIENT_RECORD | LEND => decode_setting(byte, fields).map(Command::Set),
-        CLIENT_START => client_command::decode_start(fields).map(Command::Client),
-        CLIENT_TRANSMIT => client_command::decode_transmit(fields).map(Command::Client),
-        CLIENT_ARRIVE => client_command::decode_arrive(fields).map(Command::Client),
-        CLIENT_TIMER => client_command::decode_timer(fields).map(Command::Client),
+        FRESH_CLIENT | CLIENT_RECORD | FRESH_SERVER | SERVER_RECORD | LEND => {
+            decode_setting(byte, fields).map(Command::Set)
+        }
         CLIENT_HAND_UP => Ok(Command::ClientHandUp {
             fragment_number: fields.u8()?,
         }),
+        SERVER_HAND_UP => Ok(Command::ServerHandUp {
+            fragment_number: fields.u8()?,
+        }),
+        CLIENT_START..=CLIENT_TIMER => decode_client_event(byte, fields).map(Command::Client),
+        SERVER_TRANSMIT..=SERVER_FAULT => decode_server_event(byte, fields).map(Command::Server),
         READ => Ok(Command::Read {
             datagram: decode_datagram(fields)?,
         }),
         WRITE => decode_write(fields),
         FACK => decode_fack(fields),
+        _ => Err(Bad),
+    }
+}
+
+fn decode_client_event<'a>(byte: u8, fields: &mut Fields<'a>) -> Result<ClientEvent<'a>, Bad> {
+    match byte {
+        CLIENT_START => client_command::decode_start(fields),
+        CLIENT_TRANSMIT => client_command::decode_transmit(fields),
+        CLIENT_ARRIVE => client_command::decode_arrive(fields),
+        CLIENT_TIMER => client_command::decode_timer(fields),
+        _ => Err(Bad),
+    }
+}
+
+fn decode_server_event<'a>(byte: u8, fields: &mut Fields<'a>) -> Result<ServerEvent<'a>, Bad> {
+    match byte {
+        SERVER_TRANSMIT => server_command::decode_transmit(fields),
+        SERVER_ARRIVE => server_command::decode_arrive(fields),
+        SERVER_TIMER => server_command::decode_timer(fields),
+        SERVER_REPLY => server_command::decode_reply(fields),
+        SERVER_FAULT => server_command::decode_fault(fields),
         _ => Err(Bad),
     }
 }
@@ -107,6 +151,12 @@ fn decode_setting(byte: u8, fields: &mut Fields) -> Result<Setting, Bad> {
             ticket_counter: fields.u64()?,
         }),
         CLIENT_RECORD => client_command::decode_record(fields).map(Setting::ClientRecord),
+        FRESH_SERVER => Ok(Setting::FreshServer {
+            activity: fields.array()?,
+            boot: fields.u32()?,
+            ticket_counter: fields.u64()?,
+        }),
+        SERVER_RECORD => server_command::decode_record(fields).map(Setting::ServerRecord),
         LEND => Ok(Setting::Lend {
             pdu_length: fields.limited_u16(LENGTH_LIMIT)?,
             slot_buffer_length: fields.limited_u32(LONG_LENGTH_LIMIT)?,
@@ -161,7 +211,10 @@ pub fn encode(command: &Command, script: &mut Vec<u8>) {
     match command {
         Command::Set(setting) => encode_setting(setting, script),
         Command::Client(event) => client_command::encode_event(event, script),
-        Command::ClientHandUp { fragment_number } => script.push(*fragment_number),
+        Command::Server(event) => server_command::encode_event(event, script),
+        Command::ClientHandUp { fragment_number } | Command::ServerHandUp { fragment_number } => {
+            script.push(*fragment_number);
+        }
         Command::Read { datagram } => encode_datagram(datagram, script),
         Command::Write {
             header,
@@ -182,12 +235,20 @@ fn command_byte(command: &Command) -> u8 {
     match command {
         Command::Set(Setting::FreshClient { .. }) => FRESH_CLIENT,
         Command::Set(Setting::ClientRecord(_)) => CLIENT_RECORD,
+        Command::Set(Setting::FreshServer { .. }) => FRESH_SERVER,
+        Command::Set(Setting::ServerRecord(_)) => SERVER_RECORD,
         Command::Set(Setting::Lend { .. }) => LEND,
         Command::Client(ClientEvent::Start { .. }) => CLIENT_START,
         Command::Client(ClientEvent::Transmit { .. }) => CLIENT_TRANSMIT,
         Command::Client(ClientEvent::Arrive { .. }) => CLIENT_ARRIVE,
         Command::Client(ClientEvent::Timer { .. }) => CLIENT_TIMER,
         Command::ClientHandUp { .. } => CLIENT_HAND_UP,
+        Command::Server(ServerEvent::Transmit { .. }) => SERVER_TRANSMIT,
+        Command::Server(ServerEvent::Arrive { .. }) => SERVER_ARRIVE,
+        Command::Server(ServerEvent::Timer { .. }) => SERVER_TIMER,
+        Command::Server(ServerEvent::Reply { .. }) => SERVER_REPLY,
+        Command::Server(ServerEvent::Fault { .. }) => SERVER_FAULT,
+        Command::ServerHandUp { .. } => SERVER_HAND_UP,
         Command::Read { .. } => READ,
         Command::Write { .. } => WRITE,
         Command::Fack { .. } => FACK,
@@ -204,6 +265,16 @@ fn encode_setting(setting: &Setting, script: &mut Vec<u8>) {
             script.extend(ticket_counter.to_le_bytes());
         }
         Setting::ClientRecord(client) => client_command::encode_record(client, script),
+        Setting::FreshServer {
+            activity,
+            boot,
+            ticket_counter,
+        } => {
+            script.extend(activity);
+            script.extend(boot.to_le_bytes());
+            script.extend(ticket_counter.to_le_bytes());
+        }
+        Setting::ServerRecord(server) => server_command::encode_record(server, script),
         Setting::Lend {
             pdu_length,
             slot_buffer_length,

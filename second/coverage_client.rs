@@ -3,12 +3,15 @@
 
 use crate::client_command::ClientEvent;
 use crate::client_record::{Client, TimerKind};
-use crate::codec::{flags1, offset, pdu_type, read, ByteOrder, Pdu, BODY_LIMIT};
-use crate::codec::{HEADER_LENGTH, HIGHEST_TYPE, PDU_LIMIT, VERSION};
+use crate::codec::{flags1, offset, pdu_type, read, Pdu, PDU_LIMIT};
 use crate::counts::{count_pairs, Counts};
-use crate::coverage_client_names::{event_name, type_name, Boundary};
-use crate::coverage_codec::{order_name, read_grounds};
-use crate::defect::Draft;
+use crate::coverage_boundary::Boundary;
+use crate::coverage_client_names::event_name;
+use crate::coverage_codec::order_name;
+use crate::coverage_grounds;
+use crate::coverage_side::{
+    contradiction_name, count_put, notice_name, type_name, Put, Reached, Side,
+};
 use crate::incoming::{Fragment, SLOT_BUFFER_LENGTH};
 use crate::outgoing::{acknowledged_by, MESSAGE_LIMIT};
 use crate::refusal::answer;
@@ -24,14 +27,13 @@ struct Step<'a> {
     effect: Effect,
 }
 
-pub fn count_event(event: &ClientEvent, stage: &mut Stage, counts: &mut Counts) {
+pub fn count_event(event: &ClientEvent, stage: &mut Stage, counts: &mut Counts) -> Reached {
     let name = event_name(event);
     let before = stage.client.clone();
     let state = before.state.name();
     count_pairs(&format!("client-{name}"), &grounds(event, stage), counts);
     let result = stage.client_event(event);
     let answer = answer(&result);
-    counts.add(format!("client-{name}-answer-{answer}"));
     counts.add(format!("client-{name}-answer-{answer}-in-{state}"));
     if answer == 2 {
         count_broken_rule(&before, name, counts);
@@ -43,11 +45,14 @@ pub fn count_event(event: &ClientEvent, stage: &mut Stage, counts: &mut Counts) 
         answer,
         effect: result.unwrap_or_default(),
     };
+    let mut reached = Reached::new(answer, &step.effect);
+    reached.count(format!("client-{name}-answer-{answer}"), counts);
     if answer == 0 {
-        count_done(&step, &stage.pdu_buffer, counts);
+        count_done(&step, &stage.pdu_buffer, &mut reached, counts);
     }
     count_lent(&step, stage, counts);
     count_boundaries(&step, counts);
+    reached
 }
 
 fn count_broken_rule(client: &Client, event: &str, counts: &mut Counts) {
@@ -61,13 +66,14 @@ fn count_broken_rule(client: &Client, event: &str, counts: &mut Counts) {
     }
 }
 
-fn count_done(step: &Step, pdu_buffer: &[u8], counts: &mut Counts) {
-    counts.add(row_name(step));
-    counts.add(format!(
+fn count_done(step: &Step, pdu_buffer: &[u8], reached: &mut Reached, counts: &mut Counts) {
+    reached.count(row_name(step), counts);
+    let states = format!(
         "client {} to {}",
         step.before.state.name(),
         step.after.state.name()
-    ));
+    );
+    reached.count(states, counts);
     if step.before.tickets.are_used_up() {
         counts.add(format!(
             "client done without a ticket left: {}",
@@ -75,7 +81,8 @@ fn count_done(step: &Step, pdu_buffer: &[u8], counts: &mut Counts) {
         ));
     }
     if let Some(notice) = step.effect.notice {
-        counts.add(format!("client notice {}", notice_name(notice)));
+        let name = format!("client notice {}", notice_name(notice));
+        reached.count(name, counts);
     }
     if step.effect.pdu_length.is_some() {
         let kind = type_name(pdu_buffer[offset::TYPE]);
@@ -92,16 +99,6 @@ fn done_name(step: &Step) -> &'static str {
         ClientEvent::Arrive { datagram } => type_name(datagram[offset::TYPE]),
         ClientEvent::Timer { kind, .. } => kind.name(),
         _ => event_name(step.event),
-    }
-}
-
-fn notice_name(notice: Notice) -> String {
-    match notice {
-        Notice::Last => "last".into(),
-        Notice::Count(_) => "count".into(),
-        Notice::Fault(_) => "fault".into(),
-        Notice::Reject(_) => "reject".into(),
-        Notice::Cause(cause) => format!("cause:{cause}"),
     }
 }
 
@@ -211,53 +208,14 @@ fn grounds(event: &ClientEvent, stage: &Stage) -> Vec<u8> {
     }
 }
 
-/// What the reader finds wrong hides the grounds behind it. They are looked for in the datagram as
-/// it would be without that; where the byte order is not known, those that hold in both.
 fn arrive_grounds(datagram: &[u8], stage: &Stage) -> Vec<u8> {
-    let judged = |datagram: &[u8]| {
+    coverage_grounds::arrive_grounds(datagram, |datagram| {
         let slots = stage.lent_slot_buffer_length;
         let grounds = stage
             .client
             .arrive_grounds(datagram, slots, stage.lent_pdu_length);
         grounds.numbers()
-    };
-    let mut numbers = read_grounds(datagram);
-    if datagram.len() < HEADER_LENGTH {
-        numbers.extend(judged(datagram));
-    } else {
-        let in_little = judged(&repaired(datagram, ByteOrder::Little));
-        let in_big = judged(&repaired(datagram, ByteOrder::Big));
-        numbers.extend(match &datagram[offset::REPRESENTATION..][..3] {
-            [16, 0, 0] => in_little,
-            [0, 0, 0] => in_big,
-            _ => in_little
-                .into_iter()
-                .filter(|number| in_big.contains(number))
-                .collect(),
-        });
-    }
-    if numbers.contains(&5) {
-        // The type is not known; only activity and call number are.
-        numbers.retain(|number| *number < 10 || *number == 13);
-    }
-    numbers.sort_unstable();
-    numbers.dedup();
-    numbers
-}
-
-/// A datagram of at least 80 bytes without what the reader finds wrong.
-fn repaired(datagram: &[u8], order: ByteOrder) -> Vec<u8> {
-    let length = datagram.len().min(HEADER_LENGTH + BODY_LIMIT);
-    let mut draft = Draft {
-        order,
-        bytes: datagram[..length].to_vec(),
-    };
-    draft.put(offset::VERSION, &[VERSION]);
-    draft.put(offset::TYPE, &[datagram[offset::TYPE].min(HIGHEST_TYPE)]);
-    draft.put(offset::REPRESENTATION, &order.representation());
-    draft.put(offset::AUTHENTICATION, &[0]);
-    draft.put_body_length((length - HEADER_LENGTH) as u16);
-    draft.bytes
+    })
 }
 
 /// Which lent length alone is the ground of 1.
@@ -289,7 +247,7 @@ fn count_lent(step: &Step, stage: &Stage, counts: &mut Counts) {
 
 fn count_boundaries(step: &Step, counts: &mut Counts) {
     for boundary in boundaries(step) {
-        counts.add(boundary.name());
+        counts.add(boundary.name(Side::Client));
     }
     if let ClientEvent::Arrive { datagram } = step.event {
         if let Ok(pdu) = read(datagram) {
@@ -303,7 +261,7 @@ fn boundaries(step: &Step) -> Vec<Boundary> {
     let mut found = Vec::new();
     match step.event {
         ClientEvent::Start { length, .. } if matches!(step.answer, 0 | 1) => {
-            found.push(Boundary::StartLength(*length));
+            found.push(Boundary::MessageLength(*length));
             if step.answer == 0 && step.after.number == u32::MAX {
                 found.push(Boundary::LastCallNumber);
             }
@@ -347,7 +305,7 @@ fn count_pdu(pdu: &Pdu, step: &Step, counts: &mut Counts) {
         (pdu_type::FACK, 0 | 17) => {
             let count = u16::from(step.before.outgoing.fragments);
             let above = acknowledged_by(header.fragment_number).cmp(&count);
-            counts.add(Boundary::Fack(header.fragment_number, above).name());
+            counts.add(Boundary::Fack(header.fragment_number, above).name(Side::Client));
         }
         (_, 14) => counts.add(format!("client {kind} malformed: {} bytes", pdu.body.len())),
         _ => {}
@@ -357,36 +315,20 @@ fn count_pdu(pdu: &Pdu, step: &Step, counts: &mut Counts) {
 fn count_response(pdu: &Pdu, step: &Step, counts: &mut Counts) {
     let fragment = Fragment::of(&pdu.header);
     match step.answer {
-        0 => count_put(fragment, pdu, step, counts),
-        12 => counts.add(Boundary::ImpossibleNumber(fragment.number).name()),
-        17 => {
-            let last = step.before.incoming.last.map(u16::from);
-            let what = match last {
-                Some(last) if fragment.number > last => "above the known last",
-                Some(_) => "another known last",
-                None => "a last one below one held",
+        0 => {
+            let put = Put {
+                side: Side::Client,
+                before: &step.before.incoming,
+                after: &step.after.incoming,
             };
-            counts.add(format!("client response contradicts: {what}"));
+            count_put(&put, pdu, &step.effect, counts);
+        }
+        12 => counts.add(Boundary::ImpossibleNumber(fragment.number).name(Side::Client)),
+        17 => {
+            if let Some(what) = contradiction_name(&step.before.incoming, fragment) {
+                counts.add(format!("client response contradicts: {what}"));
+            }
         }
         _ => {}
-    }
-}
-
-fn count_put(fragment: Fragment, pdu: &Pdu, step: &Step, counts: &mut Counts) {
-    let flags = pdu.header.flags1 & (flags1::LAST_FRAGMENT | flags1::FRAGMENT | flags1::NO_FACK);
-    let fack = match step.effect.pdu_length {
-        Some(_) => "a fack",
-        None => "no fack",
-    };
-    counts.add(Boundary::PutNumber(fragment.number, fragment.is_last).name());
-    counts.add(Boundary::PutLength(pdu.body.len()).name());
-    counts.add(format!("client response put: flags {flags} give {fack}"));
-    let last_before = step.before.incoming.last.map(u16::from);
-    if last_before == Some(fragment.number) && !fragment.is_last {
-        counts.add("client response put: at the known last, not marked last".into());
-    }
-    let last = step.after.incoming.last.map(u32::from);
-    if last == Some(step.after.incoming.held().contiguous()) {
-        counts.add("client response put: all but the known last are held".into());
     }
 }

@@ -9,10 +9,10 @@
 
 use crate::client_command::ClientEvent;
 use crate::client_record::{can_break_alone, State, TimerKind, STATES};
-use crate::codec::{pdu_type, BODY_LIMIT};
 use crate::counts::pair_names;
+use crate::coverage_boundary::boundary_names;
+use crate::coverage_side::{put_names, Side};
 use crate::rule::CLIENT_RULES;
-use std::cmp::Ordering;
 
 const EVENTS: [&str; 4] = ["start", "transmit", "arrive", "timer"];
 
@@ -22,127 +22,6 @@ pub fn event_name(event: &ClientEvent) -> &'static str {
         ClientEvent::Transmit { .. } => EVENTS[1],
         ClientEvent::Arrive { .. } => EVENTS[2],
         ClientEvent::Timer { .. } => EVENTS[3],
-    }
-}
-
-pub fn type_name(pdu_type: u8) -> &'static str {
-    match pdu_type {
-        pdu_type::REQUEST => "request",
-        pdu_type::PING => "ping",
-        pdu_type::RESPONSE => "response",
-        pdu_type::FAULT => "fault",
-        pdu_type::WORKING => "working",
-        pdu_type::NOCALL => "nocall",
-        pdu_type::REJECT => "reject",
-        pdu_type::ACK => "ack",
-        pdu_type::FACK => "fack",
-        _ => "other type",
-    }
-}
-
-/// A value at which something changes, or none of these.
-#[derive(Clone, Copy)]
-pub enum Boundary {
-    StartLength(u32),
-    /// With the answer, 0 or 1.
-    TransmitLength(u32, u8),
-    LastCallNumber,
-    /// Whether the timer is armed, with another ticket.
-    LateTimer(bool),
-    /// The serial after it was raised by an event.
-    Serial(&'static str, u16),
-    /// An event arms a timer with the last ticket.
-    LastTicket(&'static str),
-    /// A fragment number put, and whether it is the last.
-    PutNumber(u16, bool),
-    PutLength(usize),
-    ImpossibleNumber(u16),
-    /// The fragment number of a fack, and how what it acknowledges compares with the count.
-    Fack(u16, Ordering),
-}
-
-impl Boundary {
-    pub fn name(self) -> String {
-        match self {
-            Boundary::StartLength(length) => format!("client start of {}", length_name(length)),
-            Boundary::TransmitLength(length, answer) => format!(
-                "client transmit of {}: {}",
-                length_name(length),
-                if answer == 0 { "sent" } else { "refused" }
-            ),
-            Boundary::LastCallNumber => "client start to call number 4294967295".into(),
-            Boundary::LateTimer(true) => "client late timer: another ticket".into(),
-            Boundary::LateTimer(false) => "client late timer: not armed".into(),
-            Boundary::Serial(event, 0) => format!("client {event}: serial 65535, next 0"),
-            Boundary::Serial(event, _) => format!("client {event}: serial + 1"),
-            Boundary::LastTicket(event) => format!("client {event}: arms with the last ticket"),
-            Boundary::PutNumber(number @ (0 | 31), is_last) => format!(
-                "client response put: number {number}, {} the last",
-                if is_last { "marked" } else { "not marked" }
-            ),
-            Boundary::PutNumber(..) => "client response put: another number".into(),
-            Boundary::PutLength(length @ (0 | 1 | 1_391 | BODY_LIMIT)) => {
-                format!("client response put: {length} bytes")
-            }
-            Boundary::PutLength(_) => "client response put: another length".into(),
-            Boundary::ImpossibleNumber(number @ (1 | 31 | 32 | 65_535)) => {
-                format!("client response with the impossible number {number}")
-            }
-            Boundary::ImpossibleNumber(_) => {
-                "client response with another impossible number".into()
-            }
-            Boundary::Fack(65_535, _) => "client fack of none".into(),
-            Boundary::Fack(_, Ordering::Less) => "client fack of some".into(),
-            Boundary::Fack(_, Ordering::Equal) => "client fack of all".into(),
-            Boundary::Fack(_, Ordering::Greater) => "client fack of more".into(),
-        }
-    }
-
-    /// One of each name.
-    fn all() -> Vec<Boundary> {
-        let lengths = [
-            0,
-            1,
-            1_391,
-            1_392,
-            1_393,
-            2_784,
-            44_544,
-            44_545,
-            65_536,
-            u32::MAX,
-            2,
-        ];
-        let mut all = vec![Boundary::LastCallNumber];
-        all.extend([true, false].map(Boundary::LateTimer));
-        all.extend(lengths.map(Boundary::StartLength));
-        let sent = [0, 1, 1_391, 1_392, 1_393, 2_784, 44_544, 2];
-        all.extend(sent.map(|length| Boundary::TransmitLength(length, 0)));
-        all.extend(sent.map(|length| Boundary::TransmitLength(length, 1)));
-        all.extend([44_545, 65_536].map(|length| Boundary::TransmitLength(length, 1)));
-        for event in ["transmit", "timer"] {
-            all.extend([0, 1].map(|serial| Boundary::Serial(event, serial)));
-        }
-        all.extend(["transmit", "arrive", "timer"].map(Boundary::LastTicket));
-        for is_last in [false, true] {
-            all.extend([0, 31].map(|number| Boundary::PutNumber(number, is_last)));
-        }
-        all.push(Boundary::PutNumber(1, false));
-        all.extend([0, 1, 1_391, BODY_LIMIT, 2].map(Boundary::PutLength));
-        all.extend([1, 31, 32, 65_535, 2].map(Boundary::ImpossibleNumber));
-        all.push(Boundary::Fack(65_535, Ordering::Less));
-        let orderings = [Ordering::Less, Ordering::Equal, Ordering::Greater];
-        all.extend(orderings.map(|ordering| Boundary::Fack(0, ordering)));
-        all
-    }
-}
-
-fn length_name(length: u32) -> String {
-    match length {
-        0 | 1 | 1_391 | 1_392 | 1_393 | 2_784 | 44_544 | 44_545 | 65_536 | u32::MAX => {
-            format!("{length} bytes")
-        }
-        _ => "another length".into(),
     }
 }
 
@@ -196,7 +75,7 @@ const TRANSMIT_ROWS: [&str; 3] = [
     "client transmit: not the last fragment",
 ];
 
-fn row_names() -> Vec<String> {
+pub fn row_names() -> Vec<String> {
     let mut names = TRANSMIT_ROWS.map(String::from).to_vec();
     for state in STATES {
         let groups: [(bool, &[&str]); 5] = [
@@ -214,7 +93,7 @@ fn row_names() -> Vec<String> {
 }
 
 /// The states that a state is left for, itself included.
-fn state_names() -> Vec<String> {
+pub fn state_names() -> Vec<String> {
     let reached = |state: State| match state {
         State::Queued | State::Complete | State::Fault => "SEND_FRAGS",
         State::SendFrags => "SEND_FRAGS DISPATCHED RECEIVE_FRAGS ACK_PENDING COMPLETE FAULT",
@@ -272,7 +151,7 @@ fn ground_names() -> Vec<String> {
     names
 }
 
-const DETAILS: [&str; 39] = [
+const DETAILS: [&str; 32] = [
     "client done without a ticket left: start",
     "client done without a ticket left: transmit",
     "client done without a ticket left: response",
@@ -282,7 +161,6 @@ const DETAILS: [&str; 39] = [
     "client done without a ticket left: fack",
     "client done without a ticket left: WAIT",
     "client done without a ticket left: ACK",
-    "client response put: all but the known last are held",
     "client notice last",
     "client notice count",
     "client notice fault",
@@ -304,12 +182,6 @@ const DETAILS: [&str; 39] = [
     "client length refused at arrive: PDU buffer",
     "client length refused at arrive: slot buffer",
     "client length refused at timer: PDU buffer",
-    "client response put: flags 0 give a fack",
-    "client response put: flags 2 give a fack",
-    "client response put: at the known last, not marked last",
-    "client response contradicts: above the known last",
-    "client response contradicts: another known last",
-    "client response contradicts: a last one below one held",
     "client fack malformed: version",
     "client fack malformed: length",
 ];
@@ -325,9 +197,7 @@ fn detail_names() -> Vec<String> {
     for kind in ["response", "fault", "working", "nocall", "reject", "fack"] {
         names.extend(["little", "big"].map(|order| format!("client {kind} taken, {order}")));
     }
-    for flags in [4, 6, 8, 10, 12, 14] {
-        names.push(format!("client response put: flags {flags} give no fack"));
-    }
+    names.extend(put_names(Side::Client));
     for length in 0..4 {
         let kinds = ["fault", "reject"];
         names.extend(kinds.map(|kind| format!("client {kind} malformed: {length} bytes")));
@@ -359,6 +229,6 @@ pub fn names() -> Vec<String> {
     names.extend(rule_names());
     names.extend(ground_names());
     names.extend(detail_names());
-    names.extend(Boundary::all().into_iter().map(Boundary::name));
+    names.extend(boundary_names(Side::Client));
     names
 }

@@ -3,6 +3,7 @@
 use crate::codec::{offset, ByteOrder, HEADER_LENGTH};
 use crate::datagram::u16_bytes;
 use crate::random::Random;
+use crate::turn::pairs_below;
 
 /// Something wrong with a datagram.
 #[derive(Clone, Copy)]
@@ -78,6 +79,20 @@ pub const DEFECTS: [&[Defect]; 6] = [
         Defect::BodyOf(1_968),
     ],
 ];
+
+/// A set of the defect numbers given, by turns: none of them, each alone, and all pairs.
+pub fn defect_set(numbers: &[u8], turn: usize) -> Vec<u8> {
+    let singles = numbers.len();
+    let pairs = pairs_below(singles);
+    match turn % (1 + singles + pairs.len()) {
+        0 => vec![],
+        single if single <= singles => vec![numbers[single - 1]],
+        pair => {
+            let (low, high) = pairs[pair - 1 - singles];
+            vec![numbers[low], numbers[high]]
+        }
+    }
+}
 
 /// A good datagram that is about to be damaged.
 pub struct Draft {

@@ -27,6 +27,13 @@ fn step(stage: &mut Stage, command: &Command, output: &mut impl Write) -> io::Re
         Command::ClientHandUp { fragment_number } => {
             output::hand_up_line(stage.client_hand_up(*fragment_number), output)?;
         }
+        Command::Server(event) => {
+            let result = stage.server_event(event);
+            output::server_line(&result, stage, output)?;
+        }
+        Command::ServerHandUp { fragment_number } => {
+            output::hand_up_line(stage.server_hand_up(*fragment_number), output)?;
+        }
         Command::Read { datagram } => output::read_line(&codec::read(datagram), output)?,
         Command::Write {
             header,

@@ -49,6 +49,14 @@ impl Outgoing {
         }
     }
 
+    /// Another message takes the place of what was out; the serial goes on.
+    pub fn replace(&mut self, length: u32) {
+        *self = Outgoing {
+            serial: self.serial,
+            ..Outgoing::of_length(length)
+        };
+    }
+
     pub fn count_is_the_lengths(&self) -> bool {
         fragment_count(self.length) == Some(self.fragments)
     }

@@ -8,6 +8,7 @@ use crate::incoming::Incoming;
 use crate::outgoing::Outgoing;
 use crate::refusal::{answer, Refusal};
 use crate::sent::{Call, Effect, Notice};
+use crate::server_record::{self, Server};
 use crate::stage::Stage;
 use std::fmt::Display;
 use std::io::{self, Write};
@@ -77,6 +78,19 @@ pub fn client_line(
     output.write_all(b"\n")
 }
 
+/// The line of an event of the server, which has taken place on the stage.
+pub fn server_line(
+    result: &Result<Effect, Refusal>,
+    stage: &Stage,
+    output: &mut impl Write,
+) -> io::Result<()> {
+    effect_words(result, &stage.pdu_buffer, output)?;
+    server_fields(&stage.server, output)?;
+    number_field("slots", adler32(stage.server_slots()), output)?;
+    number_field("out", adler32(&stage.pdu_buffer), output)?;
+    output.write_all(b"\n")
+}
+
 pub fn hand_up_line(part: &[u8], output: &mut impl Write) -> io::Result<()> {
     output.write_all(b"handup ")?;
     hex(part, output)?;
@@ -99,6 +113,7 @@ fn effect_words(
         Some(Notice::Fault(status)) => write!(output, " fault:{status}"),
         Some(Notice::Reject(status)) => write!(output, " reject:{status}"),
         Some(Notice::Cause(cause)) => write!(output, " cause:{cause}"),
+        Some(Notice::Dispatch) => write!(output, " dispatch"),
     }
 }
 
@@ -114,6 +129,23 @@ fn client_fields(client: &Client, output: &mut impl Write) -> io::Result<()> {
     optional_field("wait", client.wait, output)?;
     optional_field("ack", client.ack, output)?;
     hex_field("activity", &client.activity, output)
+}
+
+fn server_fields(server: &Server, output: &mut impl Write) -> io::Result<()> {
+    let is_fresh = server.state == server_record::State::IdleFresh;
+    let call = (!is_fresh).then_some((server.number, &server.call));
+    write!(output, " state={}", server.state.name())?;
+    if server.state == server_record::State::HeldFault {
+        write!(output, ":{}", server.status)?;
+    }
+    call_fields(call, output)?;
+    outgoing_fields(&server.outgoing, output)?;
+    number_field("resends", server.resends, output)?;
+    incoming_fields(&server.incoming, output)?;
+    number_field("tickets", server.tickets.counter, output)?;
+    optional_field("resend", server.resend, output)?;
+    number_field("boot", server.boot, output)?;
+    hex_field("activity", &server.activity, output)
 }
 
 /// The call number and the call, where the state gives them a meaning.

@@ -15,6 +15,8 @@ pub enum Refusal {
     OtherActivity = 9,
     /// A type that the other side takes, or neither.
     TypeNotForThisSide = 10,
+    /// A request with the maybe or the broadcast bit.
+    MaybeOrBroadcast = 11,
     FragmentNumber = 12,
     OldCall = 13,
     MalformedBody = 14,

@@ -18,6 +18,9 @@ pub enum Rule {
     AckState,
     WaitTicket,
     AckTicket,
+    ResendCount,
+    ResendState,
+    ResendTicket,
 }
 
 /// The rules of a client record.
@@ -37,6 +40,20 @@ pub const CLIENT_RULES: [Rule; 13] = [
     Rule::AckTicket,
 ];
 
+/// The rules of a server record.
+pub const SERVER_RULES: [Rule; 10] = [
+    Rule::ResendCount,
+    Rule::Sent,
+    Rule::SentBelow,
+    Rule::Acknowledged,
+    Rule::FragmentCount,
+    Rule::KnownLast,
+    Rule::HeldLength,
+    Rule::HeldAboveLast,
+    Rule::ResendState,
+    Rule::ResendTicket,
+];
+
 impl Rule {
     /// How a record breaks it.
     pub fn broken_name(self) -> &'static str {
@@ -54,6 +71,9 @@ impl Rule {
             Rule::AckState => "ACK armed where it is not named",
             Rule::WaitTicket => "WAIT ticket above the counter",
             Rule::AckTicket => "ACK ticket above the counter",
+            Rule::ResendCount => "RESEND count above 5",
+            Rule::ResendState => "RESEND armed where it is not named",
+            Rule::ResendTicket => "RESEND ticket above the counter",
         }
     }
 }

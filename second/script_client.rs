@@ -2,6 +2,7 @@
 //!
 //! What must not be missed goes round by the turns of a scene; the rest is random.
 
+use crate::arriving::Arriving;
 use crate::client_author::Author;
 use crate::client_record::{Client, State, TimerKind, STATES};
 use crate::codec::pdu_type;
@@ -15,8 +16,9 @@ use crate::script_client_defects::{
     damaged_arrival, defects_at_arrival, defects_at_start, defects_at_timer, defects_at_transmit,
     refused_arrival,
 };
-use crate::script_client_pdu::{Arriving, OTHER_TYPES};
-use crate::script_client_record::{message_length, sound_record};
+use crate::script_client_pdu::OTHER_TYPES;
+use crate::script_client_record::sound_record;
+use crate::script_record::message_length;
 use std::io::{self, Write};
 
 /// Writes the events of its turn.

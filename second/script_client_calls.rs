@@ -1,10 +1,10 @@
 //! Whole calls of a client script, event by event from a fresh record.
 
+use crate::arriving::{Arriving, LAST_OF_SEVERAL, ONE_OF_SEVERAL, WHOLE};
 use crate::client_author::Author;
 use crate::client_record::{State, TimerKind};
 use crate::codec::pdu_type;
 use crate::script_client::any_event;
-use crate::script_client_pdu::{Arriving, LAST_OF_SEVERAL, ONE_OF_SEVERAL, WHOLE};
 use crate::timer::RETRY_LIMIT;
 
 /// How a call goes.

@@ -1,5 +1,6 @@
 //! Scenes of a client script that go round the cases of one point: a rule, a row, a refusal.
 
+use crate::arriving::{Arriving, IMPOSSIBLE_WAYS, LAST_OF_SEVERAL, ONE_OF_SEVERAL, WHOLE};
 use crate::client_author::Author;
 use crate::client_record::{can_break_alone, Client, State, TimerKind, ACTIVE_STATES, STATES};
 use crate::codec::{flags1, pdu_type, ByteOrder, BODY_LIMIT};
@@ -8,8 +9,7 @@ use crate::outgoing::Outgoing;
 use crate::random::Random;
 use crate::rule::{Rule, CLIENT_RULES};
 use crate::script_client::state_timer;
-use crate::script_client_pdu::{Arriving, IMPOSSIBLE_WAYS, LAST_OF_SEVERAL, MALFORMED_WAYS};
-use crate::script_client_pdu::{ONE_OF_SEVERAL, WHOLE};
+use crate::script_client_pdu::MALFORMED_WAYS;
 use crate::script_client_record::{break_rule, set_counter, sound_record};
 use crate::timer::RETRY_LIMIT;
 use crate::turn::Choices;

@@ -1,16 +1,18 @@
 //! Events of a client script that give grounds for a refusal, or for two and three at once.
 
+use crate::arriving::{Arriving, IMPOSSIBLE_WAYS};
 use crate::client_author::Author;
 use crate::client_command::ClientEvent;
 use crate::client_record::{can_break_alone, Client, State, TimerKind, ACTIVE_STATES, STATES};
-use crate::codec::{pdu_type, HEADER_LENGTH};
+use crate::codec::pdu_type;
 use crate::command::LONG_LENGTH_LIMIT;
-use crate::defect::{Defect, Draft, DEFECTS};
+use crate::defect::defect_set;
 use crate::random::Random;
 use crate::rule::CLIENT_RULES;
-use crate::script_client_pdu::{Arriving, IMPOSSIBLE_WAYS, MALFORMED_WAYS, OTHER_TYPES};
-use crate::script_client_record::{break_rule, message_length, set_counter, sound_record};
-use crate::turn::{pairs_below, Choices};
+use crate::script_client_pdu::{MALFORMED_WAYS, OTHER_TYPES};
+use crate::script_client_record::{break_rule, set_counter, sound_record};
+use crate::script_record::message_length;
+use crate::turn::Choices;
 
 const OTHER_LENGTHS: [u32; 7] = [0, 1, 1_391, 1_392, 1_393, 2_784, 44_544];
 const OVER_THE_LIMIT: [u32; 3] = [44_545, 45_936, 65_536];
@@ -21,28 +23,12 @@ const BASES: [u8; 9] = [0, 10, 12, 13, 14, 15, 16, 17, 20];
 /// The defects that can be put into any arrival, by the number that each leads to.
 const DEFECT_NUMBERS: [u8; 11] = [1, 2, 3, 4, 5, 6, 7, 8, 9, 13, 20];
 
-/// None of them, each alone, and all pairs.
-const DEFECT_SETS: usize =
-    1 + DEFECT_NUMBERS.len() + DEFECT_NUMBERS.len() * (DEFECT_NUMBERS.len() - 1) / 2;
-
-fn defect_set(turn: usize) -> Vec<u8> {
-    let singles = DEFECT_NUMBERS.len();
-    match turn {
-        0 => vec![],
-        single if single <= singles => vec![DEFECT_NUMBERS[single - 1]],
-        pair => {
-            let (low, high) = pairs_below(singles)[pair - 1 - singles];
-            vec![DEFECT_NUMBERS[low], DEFECT_NUMBERS[high]]
-        }
-    }
-}
-
 /// An arrival that leads to a number, with no, one or two further defects. The counts of these and
 /// of those have no common factor, so that in the end all combinations come.
 pub fn defects_at_arrival(turn: usize, author: &mut Author) {
     let base = BASES[turn % BASES.len()];
     let client = base_record(base, &mut author.random);
-    arrive(base, &defect_set(turn % DEFECT_SETS), client, author);
+    arrive(base, &defect_set(&DEFECT_NUMBERS, turn), client, author);
 }
 
 /// An arrival that leads to a number on one ground.
@@ -75,9 +61,9 @@ fn arrive(base: u8, defects: &[u8], mut client: Client, author: &mut Author) {
         arriving.header.activity[random.between(0, 15)] ^= 1 << random.between(0, 7);
     }
     if defects.contains(&13) {
-        change_number(&mut arriving, random);
+        arriving.change_number(random);
     }
-    let datagram = damaged(&arriving, defects, random);
+    let datagram = arriving.damaged(defects, random);
     author.set_record(client);
     if defects.contains(&1) {
         author.lend_wrong();
@@ -120,7 +106,7 @@ fn base_pdu(base: u8, client: &Client, random: &mut Random) -> Arriving {
         13 => {
             let mut arriving = good_pdu(client, random);
             if client.state != State::Queued {
-                change_number(&mut arriving, random);
+                arriving.change_number(random);
             }
             arriving
         }
@@ -164,32 +150,6 @@ fn pdu_without_a_row(client: &Client, random: &mut Random) -> Arriving {
         3 => any_malformed(client, random),
         _ => good_pdu(client, random),
     }
-}
-
-fn change_number(arriving: &mut Arriving, random: &mut Random) {
-    let number = arriving.header.call_number;
-    arriving.header.call_number = random.pick(&[
-        number.wrapping_sub(1),
-        number.wrapping_add(1),
-        number ^ 1 << 16,
-        number ^ 1 << 31,
-    ]);
-}
-
-/// The datagram with the defects that the reader sees. A cut comes last.
-fn damaged(arriving: &Arriving, defects: &[u8], random: &mut Random) -> Vec<u8> {
-    let mut draft = Draft {
-        order: arriving.order,
-        bytes: arriving.datagram(),
-    };
-    for number in (3..=8).rev().filter(|number| defects.contains(number)) {
-        let defect = match number {
-            3 if random.percent(50) => Defect::CutTo(HEADER_LENGTH - 1),
-            _ => random.pick(DEFECTS[usize::from(number) - 3]),
-        };
-        draft.apply(defect, random);
-    }
-    draft.bytes
 }
 
 fn break_any_rule(client: &mut Client, random: &mut Random) {

@@ -1,30 +1,15 @@
 //! Client records for a script: sound ones, and ones that break a single rule.
 
 use crate::client_record::{Client, State, TimerKind};
-use crate::incoming::Incoming;
-use crate::outgoing::{fragment_count, Outgoing, MESSAGE_LIMIT};
+use crate::outgoing::{fragment_count, Outgoing};
 use crate::random::Random;
 use crate::rule::Rule;
-use crate::sent::Call;
-use crate::timer::{Tickets, Timer};
-
-/// Lengths at which the fragment count changes, and their neighbours.
-const BOUNDARY_LENGTHS: [u32; 8] = [1_391, 1_392, 1_393, 2_784, 2_785, 43_152, 43_153, 44_544];
-
-/// Fragment counts that are not those of the lengths beside them.
-const WRONG_COUNTS: [(u32, u8); 10] = [
-    (0, 2),
-    (1_392, 2),
-    (1_393, 1),
-    (2_784, 3),
-    (44_544, 31),
-    (44_544, 33),
-    (44_545, 32),
-    (44_545, 33),
-    // 257 fragments, which is 1 in eight bits.
-    (356_353, 1),
-    (u32::MAX, 32),
-];
+use crate::script_record::{
+    any_call, any_incoming, any_outgoing, any_serial, any_timer, break_incoming, break_outgoing,
+    call_number, message_length, no_outgoing, retry_count, ticket_above, ticket_counter,
+    WRONG_COUNTS,
+};
+use crate::timer::Tickets;
 
 pub fn sound_record(state: State, random: &mut Random) -> Client {
     let tickets = Tickets {
@@ -35,7 +20,7 @@ pub fn sound_record(state: State, random: &mut Random) -> Client {
         activity: random.uuid(),
         number: call_number(random),
         call: any_call(random),
-        outgoing: any_outgoing(state, random),
+        outgoing: outgoing_in(state, random),
         incoming: any_incoming(random),
         waits: retry_count(random),
         resends: retry_count(random),
@@ -45,122 +30,11 @@ pub fn sound_record(state: State, random: &mut Random) -> Client {
     }
 }
 
-pub fn any_call(random: &mut Random) -> Call {
-    Call {
-        idempotent: random.percent(50),
-        object: random.uuid(),
-        interface: random.uuid(),
-        version: random.field_u32(),
-        operation: random.field_u16(),
-    }
-}
-
-/// Mostly short messages; now and then one of several fragments.
-pub fn message_length(random: &mut Random) -> u32 {
-    match random.between(0, 99) {
-        0..=59 => random.pick(&[0, 1, 2, 8, 9, 100]),
-        60..=94 => random.pick(&BOUNDARY_LENGTHS),
-        _ => random.between(0, MESSAGE_LIMIT) as u32,
-    }
-}
-
-pub fn ticket_counter(random: &mut Random) -> u64 {
-    match random.between(0, 99) {
-        0..=14 => u64::MAX,
-        15..=29 => u64::MAX - 1,
-        30..=69 => random.between(0, 9) as u64,
-        _ => random.u64(),
-    }
-}
-
-fn call_number(random: &mut Random) -> u32 {
-    if random.percent(25) {
-        return random.pick(&[0, 1, u32::MAX - 1, u32::MAX]);
-    }
-    random.field_u32()
-}
-
-fn retry_count(random: &mut Random) -> u8 {
-    random.pick(&[0, 0, 1, 2, 3, 4, 5, 5])
-}
-
-fn any_outgoing(state: State, random: &mut Random) -> Outgoing {
-    let serial = random.pick(&[0, 1, 255, 65_534, 65_535]);
-    if state == State::Queued {
-        return Outgoing {
-            length: random.field_u32(),
-            serial,
-            ..Outgoing::none()
-        };
-    }
-    let length = message_length(random);
-    let outgoing = Outgoing::of_length(length);
-    let count = outgoing.fragments;
-    let most = match state {
-        State::SendFrags => count - 1,
-        _ => count,
-    };
-    Outgoing {
-        sent: up_to(most, random),
-        acknowledged: up_to(count, random),
-        serial,
-        ..outgoing
-    }
-}
-
-/// A number up to the highest, which comes often, as 0 does.
-fn up_to(highest: u8, random: &mut Random) -> u8 {
-    let between = random.between(0, usize::from(highest)) as u8;
-    random.pick(&[0, between, highest, highest])
-}
-
-fn any_timer(is_named: bool, tickets: Tickets, random: &mut Random) -> Timer {
-    let earlier = tickets.counter.saturating_sub(1);
-    (is_named && random.percent(93)).then(|| random.pick(&[tickets.counter, earlier]))
-}
-
-fn any_incoming(random: &mut Random) -> Incoming {
-    let word = random.u64() as u32;
-    let (word, last) = match random.between(0, 11) {
-        0..=2 => (0, None),
-        3 => (0, Some(random.pick(&[0, 1, 5, 31]))),
-        4 => (first_so_many(random.between(1, 6) as u8), None),
-        5..=8 => all_but_one(random),
-        9 => (word & 0xff & random.u64() as u32, None),
-        10 => (
-            word,
-            Some(random.between((word | 1).ilog2() as usize, 31) as u8),
-        ),
-        _ => (word, None),
-    };
-    let mut incoming = Incoming::empty();
-    incoming.last = last;
-    for (number, slot) in incoming.slots.iter_mut().enumerate() {
-        *slot = (word >> number & 1 == 1).then(|| held_length(random));
-    }
-    incoming
-}
-
-fn first_so_many(count: u8) -> u32 {
-    ((1u64 << count) - 1) as u32
-}
-
-/// All to a last one are held but one; the last may be unknown where it is the one missing.
-fn all_but_one(random: &mut Random) -> (u32, Option<u8>) {
-    let last = random.pick(&[0, 1, 2, 4, 30, 31]);
-    let missing = random.between(0, usize::from(last)) as u8;
-    let is_known = missing != last || random.percent(50);
-    (
-        first_so_many(last + 1) & !(1 << missing),
-        is_known.then_some(last),
-    )
-}
-
-fn held_length(random: &mut Random) -> u16 {
-    match random.between(0, 99) {
-        0..=7 => random.pick(&[1_391, 1_392]),
-        8..=27 => 0,
-        _ => random.between(1, 12) as u16,
+fn outgoing_in(state: State, random: &mut Random) -> Outgoing {
+    let serial = any_serial(random);
+    match state {
+        State::Queued => no_outgoing(serial, random),
+        _ => any_outgoing(state == State::SendFrags, serial, random),
     }
 }
 
@@ -173,24 +47,21 @@ pub fn set_counter(client: &mut Client, counter: u64) {
 
 /// Breaks one rule of a sound record and no other; the state is one in which this can be.
 pub fn break_rule(client: &mut Client, rule: Rule, random: &mut Random) {
-    let count = client.outgoing.fragments;
+    if break_outgoing(&mut client.outgoing, rule, random)
+        || break_incoming(&mut client.incoming, rule, random)
+    {
+        return;
+    }
     match rule {
         Rule::WaitCount => client.waits = random.pick(&[6, 7, 255]),
         Rule::Resends => client.resends = random.pick(&[6, 7, 255]),
-        Rule::Sent => client.outgoing.sent = random.pick(&[count + 1, 255]),
-        Rule::SentBelow => client.outgoing.sent = count,
-        Rule::Acknowledged => client.outgoing.acknowledged = random.pick(&[count + 1, 255]),
         Rule::FragmentCount => break_fragment_count(client, random),
-        Rule::KnownLast => client.incoming.last = Some(random.pick(&[32, 33, 254])),
-        Rule::HeldLength => {
-            let number = random.between(0, usize::from(client.incoming.last.unwrap_or(31)));
-            client.incoming.slots[number] = Some(random.pick(&[1_393, 2_048, 65_535]));
-        }
-        Rule::HeldAboveLast => break_last(&mut client.incoming, random),
         Rule::WaitState => client.wait = Some(random.pick(&[0, client.tickets.counter])),
         Rule::AckState => client.ack = Some(random.pick(&[0, client.tickets.counter])),
         Rule::WaitTicket => client.wait = ticket_above(&mut client.tickets, random),
         Rule::AckTicket => client.ack = ticket_above(&mut client.tickets, random),
+        // No rule of a client.
+        _ => {}
     }
 }
 
@@ -207,16 +78,4 @@ fn break_fragment_count(client: &mut Client, random: &mut Random) {
     } else {
         (outgoing.length, outgoing.fragments) = random.pick(&WRONG_COUNTS);
     }
-}
-
-/// One that is held becomes higher than the known last.
-fn break_last(incoming: &mut Incoming, random: &mut Random) {
-    let held = random.between(1, 31);
-    incoming.slots[held] = Some(held_length(random));
-    incoming.last = Some(random.pick(&[0, held as u8 - 1]));
-}
-
-fn ticket_above(tickets: &mut Tickets, random: &mut Random) -> Timer {
-    tickets.counter = tickets.counter.min(u64::MAX - 1);
-    Some(random.pick(&[tickets.counter + 1, u64::MAX]))
 }

@@ -8,8 +8,8 @@ use crate::fack::Held;
 use crate::fields::Bad;
 use crate::random::Random;
 use crate::refusal::{answer, Refusal};
-use crate::self_test_client;
 use crate::stage::message;
+use crate::{self_test_client, self_test_rows, self_test_server};
 
 const ROUNDS: usize = 10_000;
 
@@ -36,7 +36,9 @@ pub fn self_test() -> Result<(), &'static str> {
     }
     writing_rows(&random.header(7))?;
     script_round_trip(&mut random)?;
-    self_test_client::self_test()
+    self_test_client::self_test()?;
+    self_test_server::self_test()?;
+    self_test_rows::self_test()
 }
 
 /// Document 01's bench rows of a fack.

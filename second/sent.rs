@@ -1,6 +1,6 @@
 //! The PDUs that are sent, and what an event gives besides the record.
 
-use crate::codec::{Header, Uuid};
+use crate::codec::{flags1, Header, Uuid};
 
 /// The operation data and the idempotent mark of a call.
 #[derive(Clone, Debug, PartialEq, Eq)]
@@ -21,6 +21,17 @@ impl Call {
             interface: [0; 16],
             version: 0,
             operation: 0,
+        }
+    }
+
+    /// The call as the header of a PDU names it.
+    pub fn of_header(header: &Header) -> Call {
+        Call {
+            idempotent: header.flags1 & flags1::IDEMPOTENT != 0,
+            object: header.object,
+            interface: header.interface,
+            version: header.interface_version,
+            operation: header.operation,
         }
     }
 }
@@ -73,6 +84,8 @@ pub enum Notice {
     Reject(u32),
     /// The local cause of a failure.
     Cause(u8),
+    /// The server has all of the request.
+    Dispatch,
 }
 
 impl Effect {

@@ -1,0 +1,162 @@
+//! What the coverage of both sides shares: names, and the counts of what is put.
+
+use crate::codec::{flags1, pdu_type, Pdu};
+use crate::counts::Counts;
+use crate::coverage_boundary::Boundary;
+use crate::incoming::{Fragment, Incoming};
+use crate::sent::{Effect, Notice};
+
+#[derive(Clone, Copy)]
+pub enum Side {
+    Client,
+    Server,
+}
+
+impl Side {
+    pub fn name(self) -> &'static str {
+        match self {
+            Side::Client => "client",
+            Side::Server => "server",
+        }
+    }
+
+    /// The event that brings a message to send.
+    pub fn first_event(self) -> &'static str {
+        match self {
+            Side::Client => "start",
+            Side::Server => "reply",
+        }
+    }
+
+    /// What takes the side to another call number.
+    pub fn beginning(self) -> &'static str {
+        match self {
+            Side::Client => "start",
+            Side::Server => "request",
+        }
+    }
+
+    /// The PDU that a fragment is put from.
+    pub fn received(self) -> &'static str {
+        match self {
+            Side::Client => "response",
+            Side::Server => "request",
+        }
+    }
+}
+
+/// What an event has reached that a system script counts once more.
+#[derive(Default)]
+pub struct Reached {
+    pub answer: u8,
+    pub notice: Option<Notice>,
+    names: Vec<String>,
+}
+
+impl Reached {
+    pub fn new(answer: u8, effect: &Effect) -> Reached {
+        Reached {
+            answer,
+            notice: effect.notice,
+            names: Vec::new(),
+        }
+    }
+
+    pub fn count(&mut self, name: String, counts: &mut Counts) {
+        self.names.push(name.clone());
+        counts.add(name);
+    }
+
+    pub fn into_names(self) -> Vec<String> {
+        self.names
+    }
+}
+
+pub fn type_name(pdu_type: u8) -> &'static str {
+    match pdu_type {
+        pdu_type::REQUEST => "request",
+        pdu_type::PING => "ping",
+        pdu_type::RESPONSE => "response",
+        pdu_type::FAULT => "fault",
+        pdu_type::WORKING => "working",
+        pdu_type::NOCALL => "nocall",
+        pdu_type::REJECT => "reject",
+        pdu_type::ACK => "ack",
+        pdu_type::FACK => "fack",
+        _ => "other type",
+    }
+}
+
+pub fn notice_name(notice: Notice) -> String {
+    match notice {
+        Notice::Last => "last".into(),
+        Notice::Count(_) => "count".into(),
+        Notice::Fault(_) => "fault".into(),
+        Notice::Reject(_) => "reject".into(),
+        Notice::Cause(cause) => format!("cause:{cause}"),
+        Notice::Dispatch => "dispatch".into(),
+    }
+}
+
+/// What is held before and after a put; before a begin it is nothing.
+pub struct Put<'a> {
+    pub side: Side,
+    pub before: &'a Incoming,
+    pub after: &'a Incoming,
+}
+
+pub fn count_put(put: &Put, pdu: &Pdu, effect: &Effect, counts: &mut Counts) {
+    let fragment = Fragment::of(&pdu.header);
+    let flags = pdu.header.flags1 & (flags1::LAST_FRAGMENT | flags1::FRAGMENT | flags1::NO_FACK);
+    let fack = match effect.pdu_length {
+        Some(_) => "a fack",
+        None => "no fack",
+    };
+    let prefix = format!("{} {} put", put.side.name(), put.side.received());
+    counts.add(Boundary::PutNumber(fragment.number, fragment.is_last).name(put.side));
+    counts.add(Boundary::PutLength(pdu.body.len()).name(put.side));
+    counts.add(format!("{prefix}: flags {flags} give {fack}"));
+    let last_before = put.before.last.map(u16::from);
+    if last_before == Some(fragment.number) && !fragment.is_last {
+        counts.add(format!("{prefix}: at the known last, not marked last"));
+    }
+    let last = put.after.last.map(u32::from);
+    if last == Some(put.after.held().contiguous()) {
+        counts.add(format!("{prefix}: all but the known last are held"));
+    }
+}
+
+/// Which contradiction with what is held there is, if there is one.
+pub fn contradiction_name(incoming: &Incoming, fragment: Fragment) -> Option<&'static str> {
+    if !incoming.contradicts(fragment) {
+        return None;
+    }
+    Some(match incoming.last.map(u16::from) {
+        Some(last) if fragment.number > last => "above the known last",
+        Some(_) => "another known last",
+        None => "a last one below one held",
+    })
+}
+
+/// The names of what `count_put` counts, but for the boundaries.
+pub fn put_names(side: Side) -> Vec<String> {
+    let prefix = format!("{} {}", side.name(), side.received());
+    let mut names = vec![
+        format!("{prefix} put: all but the known last are held"),
+        format!("{prefix} put: at the known last, not marked last"),
+    ];
+    for flags in [0, 2] {
+        names.push(format!("{prefix} put: flags {flags} give a fack"));
+    }
+    for flags in [4, 6, 8, 10, 12, 14] {
+        names.push(format!("{prefix} put: flags {flags} give no fack"));
+    }
+    for what in [
+        "above the known last",
+        "another known last",
+        "a last one below one held",
+    ] {
+        names.push(format!("{prefix} contradicts: {what}"));
+    }
+    names
+}

@@ -1,0 +1,192 @@
+//! The script of kind `server`: scenes, each a few events on one record.
+//!
+//! What must not be missed goes round by the turns of a scene; the rest is random.
+
+use crate::arriving::Arriving;
+use crate::codec::pdu_type;
+use crate::random::Random;
+use crate::script_record::message_length;
+use crate::script_server_calls::whole_call;
+use crate::script_server_cases::{
+    broken_record, changed_call, forbidden_bits, hand_up_case, impossible_number, malformed_body,
+    no_ticket_left, old_or_without_a_row, ticket_needed,
+};
+use crate::script_server_defects::{
+    crossed_defects, damaged_arrival, defects_at_arrival, defects_at_fault, defects_at_reply,
+    defects_at_timer, defects_at_transmit, refused_arrival,
+};
+use crate::script_server_pdu as pdu;
+use crate::script_server_record::sound_record;
+use crate::script_server_rows::{
+    acknowledgement, equal_request, fragment_case, newer_request, ping_row, replay_row,
+};
+use crate::server_author::Author;
+use crate::server_record::{Server, State, STATES};
+use std::io::{self, Write};
+
+/// Writes the events of its turn.
+type Scene = fn(usize, &mut Author);
+
+/// The scenes of one round, each with how often it comes.
+const ROUND: [(Scene, usize); 25] = [
+    (broken_record, 3),
+    (any_record, 3),
+    (defects_at_arrival, 10),
+    (crossed_defects, 3),
+    (forbidden_bits, 1),
+    (old_or_without_a_row, 2),
+    (hand_up_case, 1),
+    (ticket_needed, 1),
+    (refused_arrival, 2),
+    (damaged_arrival, 4),
+    (impossible_number, 2),
+    (malformed_body, 2),
+    (newer_request, 3),
+    (equal_request, 2),
+    (ping_row, 2),
+    (replay_row, 1),
+    (acknowledgement, 2),
+    (fragment_case, 2),
+    (changed_call, 2),
+    (no_ticket_left, 1),
+    (defects_at_transmit, 5),
+    (defects_at_timer, 4),
+    (defects_at_reply, 3),
+    (defects_at_fault, 2),
+    (last_scenes, 1),
+];
+
+pub fn write_script(seed: u64, count: u64, output: &mut impl Write) -> io::Result<()> {
+    let mut author = Author::new(seed, count);
+    let mut round = 0;
+    while !author.has_finished() {
+        for (scene, times) in ROUND {
+            for time in 0..times {
+                scene(round * times + time, &mut author);
+            }
+        }
+        output.write_all(&author.take_script())?;
+        round += 1;
+    }
+    Ok(())
+}
+
+fn any_record(turn: usize, author: &mut Author) {
+    let state = STATES[turn % STATES.len()];
+    let server = sound_record(state, &mut author.random);
+    author.set_record(server);
+    for _ in 0..author.random.between(2, 5) {
+        any_event(author);
+    }
+}
+
+fn last_scenes(turn: usize, author: &mut Author) {
+    wrong_lend(turn, author);
+    whole_call(turn, author);
+}
+
+fn wrong_lend(turn: usize, author: &mut Author) {
+    let mut server = sound_record(STATES[turn % STATES.len()], &mut author.random);
+    server.incoming.slots[0] = Some(4);
+    author.set_record(server);
+    author.lend_wrong();
+    for _ in 0..3 {
+        any_event(author);
+    }
+    author.write();
+    author.hand_up(0);
+    author.lend_wrong();
+    author.hand_up(0);
+    author.lend_right();
+}
+
+#[derive(Clone, Copy)]
+enum Happening {
+    Transmit,
+    Request,
+    RepeatedRequest,
+    NewerRequest,
+    Ping,
+    Fack,
+    Ack,
+    Timer,
+    LateTimer,
+    Reply,
+    Fault,
+    HandUp,
+    Other,
+}
+
+const HAPPENINGS: [Happening; 13] = [
+    Happening::Transmit,
+    Happening::Request,
+    Happening::RepeatedRequest,
+    Happening::NewerRequest,
+    Happening::Ping,
+    Happening::Fack,
+    Happening::Ack,
+    Happening::Timer,
+    Happening::LateTimer,
+    Happening::Reply,
+    Happening::Fault,
+    Happening::HandUp,
+    Happening::Other,
+];
+
+/// In how many of a hundred cases each of them happens in a state.
+fn shares(state: State) -> [usize; 13] {
+    match state {
+        State::IdleFresh | State::IdleSpent => [6, 36, 4, 16, 8, 5, 5, 4, 2, 3, 3, 6, 2],
+        State::IdleRepeatable => [4, 44, 8, 12, 8, 4, 4, 3, 1, 3, 2, 5, 2],
+        State::Collect => [3, 56, 8, 5, 7, 3, 3, 2, 1, 3, 2, 5, 2],
+        State::Running => [3, 8, 6, 5, 8, 3, 3, 2, 1, 38, 14, 6, 3],
+        State::Replying => [48, 2, 6, 4, 6, 14, 8, 2, 1, 2, 2, 3, 2],
+        State::HeldData | State::HeldFault => [2, 14, 4, 4, 12, 12, 12, 24, 6, 2, 2, 4, 2],
+    }
+}
+
+fn any_happening(author: &mut Author) -> Happening {
+    let mut drawn = author.random.between(0, 99);
+    for (happening, share) in HAPPENINGS.into_iter().zip(shares(author.server().state)) {
+        if drawn < share {
+            return happening;
+        }
+        drawn -= share;
+    }
+    Happening::Other
+}
+
+/// An event that mostly fits the state.
+pub fn any_event(author: &mut Author) {
+    let happening = any_happening(author);
+    match happening {
+        Happening::Transmit => author.transmit(),
+        Happening::Timer => author.timer(),
+        Happening::LateTimer => author.late_timer(),
+        Happening::Reply => {
+            let length = message_length(&mut author.random);
+            author.reply(length);
+        }
+        Happening::Fault => author.fault(),
+        Happening::HandUp => {
+            let number = author.random.pick(&[0, 1, 2, 31, 32, 255]);
+            author.hand_up(number);
+        }
+        _ => author.arrive(|server, random| any_arriving(happening, server, random)),
+    }
+}
+
+fn any_arriving(happening: Happening, server: &Server, random: &mut Random) -> Arriving {
+    match happening {
+        Happening::Request => pdu::request(server, random),
+        Happening::RepeatedRequest => pdu::repeated_request(server, random),
+        Happening::NewerRequest => {
+            let request = pdu::repeated_request(server, random);
+            pdu::newer(request, server, random)
+        }
+        Happening::Ping => pdu::ping(server, random),
+        Happening::Fack => pdu::fack(server, random),
+        Happening::Ack => pdu::of_type(pdu_type::ACK, server, random),
+        _ => pdu::other_type(server, random),
+    }
+}

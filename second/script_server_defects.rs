@@ -1,0 +1,279 @@
+//! Events of a server script that give grounds for a refusal, or for two and three at once.
+
+use crate::arriving::Arriving;
+use crate::codec::{flags1, pdu_type};
+use crate::command::LONG_LENGTH_LIMIT;
+use crate::defect::defect_set;
+use crate::random::Random;
+use crate::rule::SERVER_RULES;
+use crate::script_record::message_length;
+use crate::script_server_pdu as pdu;
+use crate::script_server_record::{break_rule, set_counter, sound_record};
+use crate::server_author::Author;
+use crate::server_command::ServerEvent;
+use crate::server_record::{can_break_alone, Server, State, STATES};
+use crate::turn::Choices;
+
+const OTHER_LENGTHS: [u32; 7] = [0, 1, 1_391, 1_392, 1_393, 2_784, 44_544];
+const OVER_THE_LIMIT: [u32; 3] = [44_545, 45_936, 65_536];
+
+/// The number that a PDU leads to, or 0 for a good one, before further defects are put in.
+const BASES: [u8; 9] = [0, 10, 11, 12, 13, 14, 15, 16, 17];
+
+/// The defects that can be put into any arrival, by the number that each leads to.
+const DEFECT_NUMBERS: [u8; 11] = [1, 2, 3, 4, 5, 6, 7, 8, 9, 11, 13];
+
+/// An arrival that leads to a number, with no, one or two further defects. The counts of these and
+/// of those have no common factor, so that in the end all combinations come.
+pub fn defects_at_arrival(turn: usize, author: &mut Author) {
+    let base = BASES[turn % BASES.len()];
+    let server = base_record(base, &mut author.random);
+    arrive(base, &defect_set(&DEFECT_NUMBERS, turn), server, author);
+}
+
+/// An arrival that leads to a number, with one of the defects that can stand before any of these.
+pub fn crossed_defects(turn: usize, author: &mut Author) {
+    let mut choices = Choices::of(turn);
+    let defect = choices.pick(&[1, 2, 4, 6, 7, 8, 9]);
+    let base = choices.pick(&BASES[1..]);
+    let server = base_record(base, &mut author.random);
+    arrive(base, &[defect], server, author);
+}
+
+/// An arrival that leads to a number on one ground.
+pub fn refused_arrival(turn: usize, author: &mut Author) {
+    let base = BASES[turn % BASES.len()];
+    let server = base_record(base, &mut author.random);
+    arrive(base, &[], server, author);
+}
+
+/// A PDU of a type that no server takes, or a good one with one defect, in any state.
+pub fn damaged_arrival(turn: usize, author: &mut Author) {
+    let mut choices = Choices::of(turn);
+    let mut server = sound_record(choices.pick(&STATES), &mut author.random);
+    server.number = server.number.max(1);
+    match choices.below(2 + DEFECT_NUMBERS.len()) {
+        0 => arrive(10, &[], server, author),
+        1 => arrive(15, &[], server, author),
+        defect => arrive(0, &[DEFECT_NUMBERS[defect - 2]], server, author),
+    }
+}
+
+fn arrive(base: u8, defects: &[u8], mut server: Server, author: &mut Author) {
+    let random = &mut author.random;
+    let mut arriving = base_pdu(base, &server, random);
+    if defects.contains(&13) {
+        arriving = pdu::older(arriving, &server, random);
+    }
+    if defects.contains(&2) {
+        break_any_rule(&mut server, random);
+    }
+    if defects.contains(&9) {
+        arriving.header.activity[random.between(0, 15)] ^= 1 << random.between(0, 7);
+    }
+    if defects.contains(&11) {
+        set_maybe_or_broadcast(&mut arriving, random);
+    }
+    let datagram = arriving.damaged(defects, random);
+    author.set_record(server);
+    if defects.contains(&1) {
+        author.lend_wrong();
+    }
+    author.arrive_datagram(&datagram);
+    author.lend_right();
+}
+
+/// In another PDU than a request the bits are not judged.
+fn set_maybe_or_broadcast(arriving: &mut Arriving, random: &mut Random) {
+    let both = flags1::MAYBE | flags1::BROADCAST;
+    arriving.header.flags1 |= random.pick(&[flags1::MAYBE, flags1::BROADCAST, both]);
+}
+
+/// A record for which there is a PDU that leads to the number.
+fn base_record(base: u8, random: &mut Random) -> Server {
+    let held = [State::HeldData, State::HeldFault];
+    let state = match base {
+        13 if random.percent(40) => random.pick(&[State::IdleSpent, State::IdleRepeatable]),
+        13 => random.pick(&STATES[1..]),
+        15 if random.percent(40) => State::Running,
+        16 => random.pick(&[State::Collect, State::Collect, State::Replying]),
+        17 if random.percent(30) => random.pick(&held),
+        17 => random.pick(&[
+            State::Collect,
+            State::Running,
+            State::Replying,
+            State::IdleRepeatable,
+        ]),
+        _ => random.pick(&STATES),
+    };
+    let mut server = sound_record(state, random);
+    server.number = server.number.clamp(1, u32::MAX - 1);
+    if base == 16 {
+        server.incoming.slots[0].get_or_insert(3);
+    }
+    server
+}
+
+fn base_pdu(base: u8, server: &Server, random: &mut Random) -> Arriving {
+    match base {
+        0 => pdu::good(server, random),
+        10 => pdu::other_type(server, random),
+        11 => {
+            let mut arriving = pdu::request(server, random);
+            set_maybe_or_broadcast(&mut arriving, random);
+            arriving
+        }
+        12 => pdu::any_impossible(server, random),
+        13 => old_pdu(server, random),
+        14 => pdu::any_malformed(server, random),
+        15 => pdu::without_a_row(server, random),
+        16 if server.state == State::Replying && random.percent(30) => {
+            pdu::of_type(pdu_type::PING, server, random)
+        }
+        16 => pdu::repeated_request(server, random),
+        _ => pdu::contradiction(server, random),
+    }
+}
+
+/// A request that is spent, or any older PDU.
+fn old_pdu(server: &Server, random: &mut Random) -> Arriving {
+    let mut request = pdu::repeated_request(server, random);
+    match server.state {
+        State::IdleSpent => return request,
+        State::IdleRepeatable if random.percent(60) => {
+            request.header.flags1 &= !flags1::IDEMPOTENT;
+            return request;
+        }
+        _ => {}
+    }
+    let arriving = match random.between(0, 9) {
+        0..=3 => request,
+        4..=5 => pdu::without_a_row(server, random),
+        6 => pdu::any_malformed(server, random),
+        7 => pdu::contradiction(server, random),
+        _ => pdu::good(server, random),
+    };
+    pdu::older(arriving, server, random)
+}
+
+fn break_any_rule(server: &mut Server, random: &mut Random) {
+    let mut rules = SERVER_RULES.to_vec();
+    rules.retain(|rule| can_break_alone(*rule, server.state));
+    break_rule(server, random.pick(&rules), random);
+}
+
+/// Every second record can transmit, and these mostly their last fragment.
+pub fn defects_at_transmit(turn: usize, author: &mut Author) {
+    let mut choices = Choices::of(turn);
+    let state = if choices.bool() {
+        choices.pick(&STATES)
+    } else {
+        State::Replying
+    };
+    let kind_of_length = choices.below(4);
+    let lends_wrong = choices.bool();
+    let is_broken = choices.bool();
+    let random = &mut author.random;
+    let mut server = sound_record(state, random);
+    if random.percent(50) {
+        set_counter(&mut server, u64::MAX);
+    }
+    if is_broken {
+        break_any_rule(&mut server, random);
+    }
+    let right = server.outgoing.length.min(LONG_LENGTH_LIMIT);
+    let length = match kind_of_length {
+        0 => right,
+        1 => random.pick(&[right.saturating_sub(1), (right + 1).min(LONG_LENGTH_LIMIT)]),
+        2 => OTHER_LENGTHS[turn / 8 % OTHER_LENGTHS.len()],
+        _ => random.pick(&OVER_THE_LIMIT),
+    };
+    let seed = random.u8();
+    author.set_record(server);
+    if lends_wrong {
+        author.lend_wrong_pdu();
+    }
+    author.event(ServerEvent::Transmit { length, seed });
+    author.lend_right();
+}
+
+/// Two of three records have the timer.
+pub fn defects_at_timer(turn: usize, author: &mut Author) {
+    let mut choices = Choices::of(turn);
+    let state = match choices.below(3) {
+        0 => choices.pick(&STATES),
+        1 => State::HeldData,
+        _ => State::HeldFault,
+    };
+    let random = &mut author.random;
+    let mut server = sound_record(state, random);
+    let lends_wrong = choices.bool();
+    let is_late = choices.bool();
+    let counter = choices.pick(&[server.tickets.counter, u64::MAX - 1, u64::MAX]);
+    set_counter(&mut server, counter);
+    if random.percent(15) {
+        server.resend = None;
+    }
+    if choices.bool() {
+        break_any_rule(&mut server, random);
+    }
+    author.set_record(server);
+    if lends_wrong {
+        author.lend_wrong_pdu();
+    }
+    if is_late {
+        author.late_timer();
+    } else {
+        author.timer();
+    }
+    author.lend_right();
+}
+
+/// Every second record can take a reply.
+pub fn defects_at_reply(turn: usize, author: &mut Author) {
+    let mut choices = Choices::of(turn);
+    let state = if choices.bool() {
+        choices.pick(&STATES)
+    } else {
+        State::Running
+    };
+    let random = &mut author.random;
+    let mut server = sound_record(state, random);
+    let mut length = match choices.bool() {
+        true => OTHER_LENGTHS[turn / 4 % OTHER_LENGTHS.len()],
+        false => message_length(random),
+    };
+    if choices.bool() {
+        length = [44_545, 44_546, 65_536, 356_353, u32::MAX][turn % 5];
+    }
+    if choices.bool() {
+        break_any_rule(&mut server, random);
+    }
+    author.set_record(server);
+    author.reply(length);
+}
+
+/// Every second record can take a fault.
+pub fn defects_at_fault(turn: usize, author: &mut Author) {
+    let mut choices = Choices::of(turn);
+    let state = if choices.bool() {
+        choices.pick(&STATES)
+    } else {
+        State::Running
+    };
+    let random = &mut author.random;
+    let mut server = sound_record(state, random);
+    let lends_wrong = choices.bool();
+    let counter = choices.pick(&[server.tickets.counter, u64::MAX, u64::MAX - 1]);
+    set_counter(&mut server, counter);
+    server.call.idempotent = random.percent(25);
+    if choices.bool() {
+        break_any_rule(&mut server, random);
+    }
+    author.set_record(server);
+    if lends_wrong {
+        author.lend_wrong_pdu();
+    }
+    author.fault();
+    author.lend_right();
+}
