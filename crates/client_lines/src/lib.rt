@@ -1,4 +1,4 @@
-// The line that tells what an event of the client gave and left, by patterns (see `lines::put_row`).
+// The line that tells what an event of the client gave and left.
 mod record;
 mod step;
 

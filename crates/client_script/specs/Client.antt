@@ -1,4 +1,4 @@
--- The client's record in 194 bytes of a script; bytes past the end count as 0.
+-- The client's record in 194 bytes of a script, and a fresh one in 24; bytes past the end count as 0.
 use Prim.Native.Nat.{ℕ}
 use mathlib.Core.Bool.{Bool, true}
 use mathlib.Core.List.{List}
@@ -12,6 +12,7 @@ use Rattle.record_fields.specs.Held.{incomingIn, marksIn}
 use Rattle.client_record.specs.declared.State.{State}
 use Rattle.client_record.specs.declared.State.the-variants.{Queued, SendFrags, Dispatched, ReceiveFrags, AckPending, Complete, Fault}
 use Rattle.client_record.specs.declared.Client.{Client}
+use Rattle.client_record.specs.Record.{fresh}
 
 -- The state that a number stands for.
 unfoldable pub stateOf : ℕ → State
@@ -23,6 +24,10 @@ stateOf number =
     (choose (eqb number 4) AckPending
     (choose (eqb number 5) Complete
     Fault)))))
+
+-- The fresh record of an activity and a ticket counter.
+unfoldable pub freshIn : List ℕ → Client
+freshIn s = fresh (uuidIn s 0) (number 8 true s 16)
 
 -- The record: each part stands where DRIVE.md's table has it.
 unfoldable pub clientIn : List ℕ → Client

@@ -5,10 +5,10 @@ use client_record::Client;
 use client_record::State;
 use client_table::TimerKind;
 ghost use mathlib.Core.Path.{_≡_};
-ghost use Rattle.client_script.specs.Client.{stateOf, clientIn, isClient};
+ghost use Rattle.client_script.specs.Client.{stateOf, freshIn, clientIn, isClient};
 ghost use Rattle.client_script.specs.Events.{startIn, isStart, kindOf, isTimer, sizeOf};
 
-// The bytes behind the first of a fresh client, a client record, a start, a timer and a hand up.
+// The bytes behind the first of a fresh client, a client record, a start and a timer.
 const FRESH_SIZE: usize = 24;
 
 const RECORD_SIZE: usize = 194;
@@ -16,8 +16,6 @@ const RECORD_SIZE: usize = 194;
 const START_SIZE: usize = 43;
 
 const TIMER_SIZE: usize = 9;
-
-const HAND_UP_SIZE: usize = 1;
 
 // The state that a number stands for; one above 6 stands for none, and counts as 6.
 fn state(number: u8) -> State
@@ -42,6 +40,15 @@ fn state(number: u8) -> State
         return State::Complete;
     }
     State::Fault
+}
+
+// The fresh record of an activity and a ticket counter u64.
+pub fn fresh(s: &[u8]) -> Client
+    ensures { λ r. ⌜ r ≡ freshIn (now (s .entry)) ⌝ }
+{
+    let activity = fields::uuid(s, 0);
+    let tickets = fields::number64(s, 16);
+    client_record::fresh(activity, tickets)
 }
 
 // The record in 194 bytes.
@@ -141,7 +148,7 @@ pub fn size(command: u8, s: &[u8]) -> usize
         return fields::sized(is_timer(s), TIMER_SIZE);
     }
     if command == 0x05 {
-        return fields::sized(HAND_UP_SIZE <= s.len(), HAND_UP_SIZE);
+        return fields::sized(fields::HAND_UP_SIZE <= s.len(), fields::HAND_UP_SIZE);
     }
     0
 }

@@ -2,11 +2,12 @@
 use Prim.Native.Nat.{ℕ, _+_}
 use mathlib.Core.Bool.{Bool, true}
 use mathlib.Core.List.{List}
-use lib.ListN.{length, take, drop, replicate}
+use lib.ListN.{length, getD, take, drop, replicate}
 use lib.Dec.{ltb, leb, eqb}
 use Rattle.words.specs.Choice.{choose, both}
 use Rattle.words.specs.Number.{number}
 use Rattle.words.specs.Place.{placed}
+use Rattle.lines.specs.Message.{message}
 
 -- The UUID that stands in s at `at`.
 unfoldable pub uuidIn : List ℕ → ℕ → List ℕ
@@ -19,6 +20,14 @@ endOf n size = choose (ltb 2048 n) 0 (choose (ltb size (2 + n)) 0 (2 + n))
 -- The same of a datagram behind its length.
 unfoldable pub datagramEnd : List ℕ → ℕ
 datagramEnd s = endOf (number 2 true s 0) (length s)
+
+-- The datagram itself.
+unfoldable pub datagramIn : List ℕ → List ℕ
+datagramIn s = drop 2 (take (datagramEnd s) s)
+
+-- The message that a transmit lends, by its length and its seed; the longest is 65,536 bytes.
+unfoldable pub messageIn : List ℕ → List ℕ
+messageIn s = take (number 4 true s 0) (message 65536 (getD s 4 0))
 
 -- A write is allowed: all its bytes are there, and its body is at most 2,048 long.
 unfoldable pub isWrite : List ℕ → Bool

@@ -1,10 +1,17 @@
 // The fields of a script's commands. Bytes past the end count as 0.
+mod lend;
+
+pub use lend::Lent;
+pub use lend::at_first;
+pub use lend::clear;
+pub use lend::lent_after;
 ghost use mathlib.Core.Bool.{true};
 ghost use mathlib.Core.Path.{_≡_};
 ghost use Prim.Native.Nat.{_+_, _*_};
 ghost use lib.ListN.{length};
 ghost use Rattle.words.specs.Number.{number};
-ghost use Rattle.fields.specs.Fields.{uuidIn, endOf, datagramEnd, isWrite, isTransmit, isLend, sizedWhere, sizeOf};
+ghost use Rattle.lines.specs.Message.{message as messageOf};
+ghost use Rattle.fields.specs.Fields.{uuidIn, endOf, datagramEnd, datagramIn, isWrite, isTransmit, isLend, sizedWhere, sizeOf};
 
 // The longest datagram and the longest body.
 const LENGTH_LIMIT: u16 = 2048;
@@ -12,10 +19,12 @@ const LENGTH_LIMIT: u16 = 2048;
 // The longest message, and the longest slot buffer.
 const MESSAGE_LIMIT: u32 = 65536;
 
-// The bytes behind the first of a write, a transmit, a lend and a fack.
+// The bytes behind the first of a write, a transmit, a hand up, a lend and a fack.
 const WRITE_SIZE: usize = 77;
 
 pub const TRANSMIT_SIZE: usize = 5;
+
+pub const HAND_UP_SIZE: usize = 1;
 
 const LEND_SIZE: usize = 6;
 
@@ -69,6 +78,22 @@ pub fn datagram_end(s: &[u8]) -> usize
 {
     let length = words::number16(s, 0, true);
     end_of(length, s.len())
+}
+
+// A datagram behind its length u16; none where it is too long or cut off.
+pub fn datagram(s: &[u8]) -> &[u8]
+    ensures { λ r. ⌜ now r ≡ datagramIn (now (s .entry)) ⌝ }
+{
+    lines::behind(lines::first(s, datagram_end(s)), 2)
+}
+
+// The longest message of a seed; a transmit lends its first bytes.
+pub fn message(seed: u8) -> [u8; 65536]
+    ensures { λ r. ⌜ r ≡ messageOf 65536 seed ⌝ }
+{
+    let mut bytes = [0u8; 65536];
+    lines::fill(&mut bytes, seed);
+    bytes
 }
 
 // Whether a write is whole, and its body no longer than it may be.

@@ -1,4 +1,3 @@
-pub mod ChoiceLaws
 pub mod HeldLaws
 pub mod PairLaws
 pub mod TextLaws

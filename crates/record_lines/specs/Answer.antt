@@ -1,4 +1,4 @@
--- What an event gave: its answer, its PDU and what the stub is told.
+-- What an event gave: its answer, its PDU and what the stub is told; and a part handed up.
 use Prim.Native.Nat.{ℕ}
 use mathlib.Core.List.{List, [], _∷_, _++_}
 use lib.ListN.{take}
@@ -7,6 +7,7 @@ use Rattle.answers.specs.Number.{numberOf}
 use Rattle.calls.specs.declared.Notice.{Notice}
 use Rattle.calls.specs.declared.Sent.{Sent}
 use Rattle.calls.specs.declared.Sent.the-variants.{Nothing, Pdu}
+use Rattle.lines.specs.Ascii.{ascii}
 use Rattle.lines.specs.Row.{row}
 use Rattle.record_lines.specs.Notice.{noticeText}
 
@@ -15,11 +16,15 @@ unfoldable pub lengthOf : Sent → ℕ
 lengthOf Nothing = 0
 lengthOf (Pdu length) = length
 
--- The answer's number and the PDU, by a pattern.
-unfoldable pub answerRow : List ℕ → Answer → Sent → List ℕ → List ℕ
-answerRow pattern answer sent buffer =
-    row pattern (numberOf answer ∷ []) (take (lengthOf sent) buffer) (take (lengthOf sent) buffer)
+-- The answer's number and the PDU.
+unfoldable pub answerRow : Answer → Sent → List ℕ → List ℕ
+answerRow answer sent buffer =
+    row (ascii "# * ") (numberOf answer ∷ []) (take (lengthOf sent) buffer) (take (lengthOf sent) buffer)
 
 -- The same, and behind it what the stub is told.
-unfoldable pub answerText : List ℕ → Answer → Sent → Notice → List ℕ → List ℕ
-answerText pattern answer sent notice buffer = answerRow pattern answer sent buffer ++ noticeText notice
+unfoldable pub answerText : Answer → Sent → Notice → List ℕ → List ℕ
+answerText answer sent notice buffer = answerRow answer sent buffer ++ noticeText notice
+
+-- The line of a part handed up.
+unfoldable pub partText : List ℕ → List ℕ
+partText part = row (ascii "handup *\n") [] part part

@@ -1,17 +1,18 @@
--- The fragments held, as a word in ASCII: `f:length,f:length` by rising f, or `-`.
+-- The fragments held, as a word: `f:length,f:length` by rising f, or `-`.
 use Prim.Native.Nat.{ℕ, _+_}
 use mathlib.Core.Bool.{Bool, true, false}
 use mathlib.Core.List.{List, [], _∷_, _++_}
 use Rattle.words.specs.Choice.{choose}
 use Rattle.incoming.specs.declared.Slot.{Slot}
+use Rattle.lines.specs.Ascii.{ascii}
 use Rattle.lines.specs.Row.{row}
 
 -- `f:length`, behind a comma unless it is the first.
 unfoldable pub fragmentText : Bool → ℕ → ℕ → List ℕ
 fragmentText first f length =
     choose first
-    (row (35 ∷ (58 ∷ (35 ∷ []))) (f ∷ (length ∷ [])) [] [])
-    (row (44 ∷ (35 ∷ (58 ∷ (35 ∷ [])))) (f ∷ (length ∷ [])) [] [])
+    (row (ascii "#:#") (f ∷ (length ∷ [])) [] [])
+    (row (ascii ",#:#") (f ∷ (length ∷ [])) [] [])
 
 -- The fragment of a slot, where it is held.
 unfoldable pub slotText : Bool → ℕ → Slot → List ℕ
@@ -23,7 +24,7 @@ stillFirst first held = choose held false first
 
 -- `-` where nothing is held.
 unfoldable pub endText : Bool → List ℕ
-endText first = choose first (45 ∷ []) []
+endText first = choose first (ascii "-") []
 
 -- The slots from f on.
 unfoldable pub heldFrom : ℕ → Bool → List Slot → List ℕ

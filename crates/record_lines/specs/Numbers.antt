@@ -1,9 +1,12 @@
 -- The numbers of a row of a record.
 use Prim.Native.Nat.{ℕ}
 use mathlib.Core.Bool.{Bool}
+use mathlib.Core.List.{List}
+use lib.ListN.{take}
 use Rattle.words.specs.Choice.{choose}
 use Rattle.incoming.specs.declared.Last.{Last}
 use Rattle.incoming.specs.declared.Last.the-variants.{Unknown, At}
+use Rattle.lines.specs.Adler.{adler}
 use Rattle.timers.specs.declared.Timer.{Timer}
 use Rattle.timers.specs.declared.Timer.the-variants.{Off, Armed}
 
@@ -30,3 +33,7 @@ armedOf (Armed ticket) = 1
 unfoldable pub ticketOf : Timer → ℕ
 ticketOf Off = 0
 ticketOf (Armed ticket) = ticket
+
+-- The sum of the slot buffer's first 44,544 bytes, whatever is lent.
+unfoldable pub slotsSum : List ℕ → ℕ
+slotsSum slots = adler (take 44544 slots)

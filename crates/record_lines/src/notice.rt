@@ -7,7 +7,7 @@ ghost use Rattle.lines.specs.Row.{row};
 ghost use Rattle.record_lines.specs.Notice.{noticeText};
 
 // A word with a number in it, by a pattern (see `lines::put_row`).
-fn put_word(out: &mut [u8], used: usize, pattern: &[u8], number: u64) -> usize
+pub fn put_word(out: &mut [u8], used: usize, pattern: &[u8], number: u64) -> usize
     ensures { λ r. ⌜ line r (now (out .exit)) ≡ written (row (now (pattern .entry)) (number ∷ []) [] []) (line used (now (out .entry))) ⌝ }
 {
     let numbers = [number];

@@ -3,7 +3,10 @@ use incoming::Last;
 use timers::Timer;
 ghost use mathlib.Core.List.{_++_};
 ghost use mathlib.Core.Path.{_≡_};
-ghost use Rattle.record_lines.specs.Numbers.{oneOf, lastKnown, lastNumber, armedOf, ticketOf};
+ghost use Rattle.record_lines.specs.Numbers.{oneOf, lastKnown, lastNumber, armedOf, ticketOf, slotsSum};
+
+// The bytes of the slot buffer that its sum is over.
+const SLOTS_SIZE: usize = 44544;
 
 // 1 where it holds, else 0.
 pub fn one_of(holds: bool) -> u64
@@ -53,6 +56,13 @@ pub fn ticket(timer: Timer) -> u64
         Timer::Off => 0,
         Timer::Armed(ticket) => ticket,
     }
+}
+
+// The sum of the slot buffer.
+pub fn slots_sum(slots: &[u8]) -> u64
+    ensures { λ r. ⌜ r ≡ slotsSum (now (slots .entry)) ⌝ }
+{
+    lines::adler(lines::first(slots, SLOTS_SIZE))
 }
 
 // Two UUIDs, one behind the other.

@@ -8,20 +8,18 @@ returns : tie.Need-returns
 unfolding timerNumbers
 returns c =
     rw (
-      c .adler2 .ensures,
-      c .before .adler .ensures,
-      c .before .before .first .ensures,
-      c .before .before .before .ticket2 .ensures,
-      c .before .before .before .before .armed2 .ensures,
-      c .before .before .before .before .before .ticket .ensures,
-      c .before .before .before .before .before .before .armed .ensures,
+      c .adler .ensures,
+      c .before .slots-sum .ensures,
+      c .before .before .ticket2 .ensures,
+      c .before .before .before .armed2 .ensures,
+      c .before .before .before .before .ticket .ensures,
+      c .before .before .before .before .before .armed .ensures,
     )
 
 pub numbers-spec : {M : Type 1} → statement M
 numbers-spec =
     tie.close
     (tie.spec
-    (λ c κs. search needs)
     (λ c κs. search needs)
     (λ c κs. search needs)
     (λ c κs. search needs)

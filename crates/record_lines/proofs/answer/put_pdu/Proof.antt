@@ -7,7 +7,7 @@ use Rattle.record_lines.proofs.answer.put_pdu.Tie as tie
 returns : tie.Need-returns
 unfolding answerRow
 returns c =
-    let first = c .before .before .before .before .before in
+    let first = c .before .before .before .before .before .before in
     rw (first .first .ensures, first .before .length .ensures, first .before .before .number .ensures) at (c .before .before .put-row .ensures)
 
 pub put-pdu-spec : {M : Type 1} → statement M
@@ -18,6 +18,7 @@ put-pdu-spec =
     (λ c. search needs)
     (λ c κs. search needs)
     (λ c κs. search needs)
+    (λ c. search needs)
     (λ c. search needs)
     (λ c κs. search needs)
     (λ c. search needs)

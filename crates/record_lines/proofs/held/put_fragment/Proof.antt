@@ -1,6 +1,6 @@
 -- `record_lines::put_fragment` meets its contract.
 use borrow.Author.Needs.{needs}
-use Rattle.record_lines.proofs.ChoiceLaws.{written-true, written-false}
+use Rattle.lines.proofs.ChoiceLaws.{written-true, written-false}
 use Rattle.record_lines.specs.Held.{fragmentText}
 use Rattle.record_lines.proofs.held.put_fragment.Statement.{statement}
 use Rattle.record_lines.proofs.held.put_fragment.Tie as tie

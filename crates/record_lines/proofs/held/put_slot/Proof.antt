@@ -1,6 +1,6 @@
 -- `record_lines::put_slot` meets its contract.
 use borrow.Author.Needs.{needs}
-use Rattle.record_lines.proofs.ChoiceLaws.{written-true, written-none}
+use Rattle.lines.proofs.ChoiceLaws.{written-true, written-none}
 use Rattle.record_lines.specs.Held.{slotText}
 use Rattle.record_lines.proofs.held.put_slot.Statement.{statement}
 use Rattle.record_lines.proofs.held.put_slot.Tie as tie

@@ -1,0 +1,2 @@
+pub mod EventReturns
+pub mod CommandReturns
