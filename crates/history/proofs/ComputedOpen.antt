@@ -28,8 +28,10 @@ use Rattle.client_arrivals.specs.Table as ClientArrivalTable
 use Rattle.server_record.specs.States as ServerStates
 use Rattle.server_record.specs.Rules as ServerRules
 use Rattle.server_record.specs.Record as ServerRecord
-use Rattle.server_table.specs.Events as ServerEvents
-use Rattle.server_table.specs.Table as ServerTable
+use Rattle.server_rows.specs.Events as ServerEvents
+use Rattle.server_rows.specs.Rows as ServerRowFor
+use Rattle.server_table.specs.Events as ServerEventGrounds
+use Rattle.server_rows.specs.Table as ServerTable
 use Rattle.server_table.specs.Arrival as ServerArrival
 use Rattle.server_table.specs.Local as ServerLocal
 use Rattle.server_steps.specs.Plan as ServerPlan
@@ -88,13 +90,13 @@ unfoldable pub serverTables : Unit {0}
 unfolding ServerStates.neverCalled ServerStates.isFresh ServerStates.isRunning ServerStates.isReplying ServerStates.isHeld
     ServerRules.idleRule ServerRules.heldRule ServerRules.messageRule ServerRules.outgoingSound ServerRules.sound
     ServerRecord.fresh ServerRecord.holding ServerRecord.unarmed
-    ServerEvents.clientEvent ServerEvents.eventOf ServerEvents.byEvent ServerEvents.sideGround
+    ServerEvents.clientEvent ServerEvents.eventOf ServerEventGrounds.byEvent ServerEventGrounds.sideGround
     ServerTable.orderBy ServerTable.orderOf ServerTable.requestNewer ServerTable.requestAgain ServerTable.requestIdle ServerTable.requestEqual ServerTable.requestRow
     ServerTable.pingEqual ServerTable.pingRow ServerTable.whereReplied ServerTable.acknowledgementRow ServerTable.finishRow ServerTable.fackRow ServerTable.ackRow
     ServerTable.rowOf
     ServerArrival.requestGround ServerArrival.oldGround ServerArrival.rowGround ServerArrival.agree ServerArrival.sameCall
-    ServerArrival.callGround ServerArrival.contradictionGround ServerArrival.slotGround ServerArrival.pduGround ServerArrival.tableGround ServerArrival.orderFor
-    ServerArrival.rowFor ServerArrival.arrivalGround
+    ServerArrival.callGround ServerArrival.contradictionGround ServerArrival.slotGround ServerArrival.pduGround ServerArrival.tableGround ServerRowFor.orderFor
+    ServerRowFor.rowFor ServerArrival.arrivalGround
     ServerLocal.runsAgain ServerLocal.armsResend ServerLocal.transmitGround ServerLocal.timerGround ServerLocal.replyGround
     ServerPlan.refused ServerPlan.accepted ServerPlan.withOutgoing
     ServerRows.answered ServerRows.replyPlan ServerRows.settled ServerRows.transmitted ServerRows.transmitPlan ServerRows.rewinding

@@ -18,8 +18,8 @@ use Rattle.server_record.specs.declared.State.the-variants.{Idle as IdleState, 
 use Rattle.server_record.specs.declared.Server.{Server}
 use Rattle.server_record.specs.States.{isFresh}
 use Rattle.server_record.specs.Rules.{sound as serverSound}
-use Rattle.server_table.specs.declared.Event.the-variants.{Request as RequestEvent}
-use Rattle.server_table.specs.Events.{eventOf as serverEventOf}
+use Rattle.server_rows.specs.declared.Event.the-variants.{Request as RequestEvent}
+use Rattle.server_rows.specs.Events.{eventOf as serverEventOf}
 use Rattle.client.specs.declared.Outcome.{Outcome as ClientOutcome}
 use Rattle.server.specs.declared.Outcome.{Outcome as ServerOutcome}
 use Rattle.history.specs.Lists.{In}

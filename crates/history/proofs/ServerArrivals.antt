@@ -32,13 +32,14 @@ use Rattle.server_record.specs.declared.State.the-variants.{Idle as IdleState, 
 use Rattle.server_record.specs.States.{isFresh, isRunning, isHeld}
 use Rattle.server_record.specs.Rules.{sound}
 use Rattle.server_record.proofs.StateLaws.{held-state}
-use Rattle.server_table.specs.declared.Event.the-variants.{Request as RequestEvent}
-use Rattle.server_table.specs.declared.Order.the-variants.{Equal, Newer}
-use Rattle.server_table.specs.declared.Row.{Row}
-use Rattle.server_table.specs.declared.Row.the-variants.{Old, Missing, Repeat, Begin, Put, Working, Nocall, Replay, Acknowledge, Finish}
-use Rattle.server_table.specs.Events.{eventOf}
-use Rattle.server_table.specs.Arrival.{oldGround, rowGround, orderFor, rowFor}
-use Rattle.server_table.proofs.TableLaws.{newer-told, equal-told, begin-told, put-told, replay-told, acknowledge-told, finish-told}
+use Rattle.server_rows.specs.declared.Event.the-variants.{Request as RequestEvent}
+use Rattle.server_rows.specs.declared.Order.the-variants.{Equal, Newer}
+use Rattle.server_rows.specs.declared.Row.{Row}
+use Rattle.server_rows.specs.declared.Row.the-variants.{Old, Missing, Repeat, Begin, Put, Working, Nocall, Replay, Acknowledge, Finish}
+use Rattle.server_rows.specs.Events.{eventOf}
+use Rattle.server_rows.specs.Rows.{orderFor, rowFor}
+use Rattle.server_table.specs.Arrival.{oldGround, rowGround}
+use Rattle.server_rows.proofs.TableLaws.{newer-told, equal-told, begin-told, put-told, replay-told, acknowledge-told, finish-told}
 use Rattle.server_arrivals.specs.Rows.{begun, putPlan, requestPlan, beginPlan, workingPlan, nocallPlan, fackPlan, ackPlan}
 use Rattle.server_arrivals.specs.Table.{arrivalRow, arrivalPlan}
 use Rattle.server_arrivals.proofs.ArrivalLaws.{fack-sound, ack-sound}

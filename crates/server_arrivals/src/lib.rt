@@ -10,7 +10,7 @@ use server_record::Server;
 use server_record::State;
 use server_steps::Plan;
 use server_steps::Send;
-use server_table::Row;
+use server_rows::Row;
 use timers::Timer;
 ghost use mathlib.Core.Path.{_≡_};
 ghost use Rattle.server_arrivals.specs.Rows.{callOf, begun as begunRecord, withIncoming, putState, putNotice, fackFor, putPlan, requestPlan, beginPlan, workingPlan, nocallPlan, fackPlan, ackPlan};
@@ -167,6 +167,6 @@ pub fn arrive(ground: Ground, s: Server, h: Header, length: u16) -> Plan
 {
     match ground {
         Ground::Refuse(answer) => server_steps::refused(s, answer),
-        Ground::Pass => act(server_table::row_for(s, h), s, h, length),
+        Ground::Pass => act(server_rows::row_for(s, h), s, h, length),
     }
 }

@@ -19,15 +19,15 @@ use Rattle.grounds.specs.Entry.{same, entryGround}
 use Rattle.grounds.specs.Fragment.{isLast, fragmentGround, putGround}
 use Rattle.grounds.specs.Fack.{fackCountGround, fackBodyGround}
 use Rattle.server_record.specs.declared.Server.{Server}
-use Rattle.server_record.specs.States.{isFresh}
 use Rattle.server_record.specs.Rules.{sound}
-use Rattle.server_table.specs.declared.Event.{Event}
-use Rattle.server_table.specs.declared.Order.{Order}
-use Rattle.server_table.specs.declared.Order.the-variants.{Below, Equal, Newer}
-use Rattle.server_table.specs.declared.Row.{Row}
-use Rattle.server_table.specs.declared.Row.the-variants.{Old, Missing, Repeat, Begin, Put, Working, Nocall, Replay, Acknowledge, Finish}
-use Rattle.server_table.specs.Events.{eventOf, byEvent, sideGround}
-use Rattle.server_table.specs.Table.{orderOf, rowOf}
+use Rattle.server_rows.specs.declared.Event.{Event}
+use Rattle.server_rows.specs.declared.Order.{Order}
+use Rattle.server_rows.specs.declared.Order.the-variants.{Below, Equal, Newer}
+use Rattle.server_rows.specs.declared.Row.{Row}
+use Rattle.server_rows.specs.declared.Row.the-variants.{Old, Missing, Repeat, Begin, Put, Working, Nocall, Replay, Acknowledge, Finish}
+use Rattle.server_rows.specs.Events.{eventOf}
+use Rattle.server_rows.specs.Rows.{orderFor, rowFor}
+use Rattle.server_table.specs.Events.{byEvent, sideGround}
 
 -- 11: a request with maybe or broadcast.
 unfoldable pub requestGround : ℕ → Ground
@@ -109,13 +109,6 @@ tableGround event order row s h =
     first (rowGround row)
     (byEvent event (first (slotGround row (s .incoming) (h .fragment) (isLast (h .flags1))) (callGround order (sameCall (s .call) h)))
     (fackCountGround (s .outgoing .count) (h .fragment)))
-
--- The order and the row of an arriving PDU.
-unfoldable pub orderFor : Server → Header → Order
-orderFor s h = orderOf (isFresh (s .state)) (s .number) (h .number)
-
-unfoldable pub rowFor : Server → Header → Row
-rowFor s h = rowOf (eventOf (h .kind)) (orderFor s h) (s .state) (hasFlag idempotent (h .flags1)) (s .call .idempotent)
 
 -- The ground of an arriving datagram: 1 to 9, then those of the PDU, then those of the table.
 unfoldable pub arrivalGround : Server → Ground → Reading → List ℕ → Ground

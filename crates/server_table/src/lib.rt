@@ -8,70 +8,16 @@ use outgoing::MESSAGE_SIZE;
 use outgoing::Outgoing;
 use pdu::Header;
 use reader::Reading;
-use server_record::Idle;
 use server_record::Reply;
 use server_record::Server;
 use server_record::State;
+use server_rows::Event;
+use server_rows::Order;
+use server_rows::Row;
 ghost use mathlib.Core.Path.{_≡_};
-ghost use Rattle.server_table.specs.Events.{clientEvent, eventOf, byEvent, sideGround};
-ghost use Rattle.server_table.specs.Table.{orderBy, orderOf, requestNewer, requestAgain, requestIdle, requestEqual, requestRow, pingEqual, pingRow, whereReplied, acknowledgementRow, finishRow, fackRow, ackRow, rowOf};
-ghost use Rattle.server_table.specs.Arrival.{requestGround, oldGround, rowGround, agree, sameCall, callGround, contradictionGround, slotGround, pduGround, tableGround, orderFor, rowFor, arrivalGround};
+ghost use Rattle.server_table.specs.Events.{byEvent, sideGround};
+ghost use Rattle.server_table.specs.Arrival.{requestGround, oldGround, rowGround, agree, sameCall, callGround, contradictionGround, slotGround, pduGround, tableGround, arrivalGround};
 ghost use Rattle.server_table.specs.Local.{runsAgain, armsResend, transmitGround, heldArmsAgain, armsAgain, timerGround, replyGround, faultGround};
-
-// What an arriving PDU is to the server.
-pub enum Event {
-    Request,
-    Ping,
-    Ack,
-    Fack,
-    // A type that is not for this side.
-    Foreign,
-}
-
-// The number of an arriving PDU against the server's.
-pub enum Order {
-    Below,
-    Equal,
-    Newer,
-}
-
-// The row that the table has for an arriving PDU; the first three are refusals 13, 15 and 16.
-pub enum Row {
-    Old,
-    Missing,
-    Repeat,
-    Begin,
-    Put,
-    Working,
-    Nocall,
-    Replay,
-    Acknowledge,
-    Finish,
-}
-
-// What the client calls with: types 0 and 1.
-fn client_event(kind: u8) -> Event
-    ensures { λ r. ⌜ r ≡ clientEvent kind ⌝ }
-{
-    match kind {
-        0 => Event::Request,
-        _ => Event::Ping,
-    }
-}
-
-// The server takes types 0, 1, 7 and 9.
-pub fn event_of(kind: u8) -> Event
-    ensures { λ r. ⌜ r ≡ eventOf kind ⌝ }
-{
-    match kind {
-        0..=1 => client_event(kind),
-        7 => Event::Ack,
-        9 => Event::Fack,
-        2..=6 => Event::Foreign,
-        8 => Event::Foreign,
-        10..=255 => Event::Foreign,
-    }
-}
 
 // What is judged of a request and of a fack.
 fn by_event(event: Event, request: Ground, fack: Ground) -> Ground
@@ -96,153 +42,6 @@ fn side(event: Event) -> Ground
         Event::Ack => Ground::Pass,
         Event::Fack => Ground::Pass,
         Event::Foreign => Ground::Refuse(Answer::WrongSide),
-    }
-}
-
-// A number that is not newer is equal or below.
-fn order_by(newer: bool, mine: u32, theirs: u32) -> Order
-    ensures { λ r. ⌜ r ≡ orderBy newer mine theirs ⌝ }
-{
-    if newer {
-        return Order::Newer;
-    }
-    if mine == theirs {
-        return Order::Equal;
-    }
-    Order::Below
-}
-
-// The number against the server's; to a fresh server every number is newer.
-fn order_of(fresh: bool, mine: u32, theirs: u32) -> Order
-    ensures { λ r. ⌜ r ≡ orderOf fresh mine theirs ⌝ }
-{
-    order_by(words::either(fresh, mine < theirs), mine, theirs)
-}
-
-// The row of a newer request.
-fn request_newer(state: State) -> Row
-    ensures { λ r. ⌜ r ≡ requestNewer state ⌝ }
-{
-    match state {
-        State::Idle(idle) => Row::Begin,
-        State::Collect => Row::Begin,
-        State::Running => Row::Missing,
-        State::Replying => Row::Begin,
-        State::Held(reply) => Row::Begin,
-    }
-}
-
-// Whether a repeatable call begins again: its request has the bit set.
-fn request_again(bit: bool) -> Row
-    ensures { λ r. ⌜ r ≡ requestAgain bit ⌝ }
-{
-    if bit {
-        return Row::Begin;
-    }
-    Row::Old
-}
-
-// The row of an equal request in IDLE.
-fn request_idle(idle: Idle, bit: bool) -> Row
-    ensures { λ r. ⌜ r ≡ requestIdle idle bit ⌝ }
-{
-    match idle {
-        Idle::Fresh => Row::Old,
-        Idle::Spent => Row::Old,
-        Idle::Repeatable => request_again(bit),
-    }
-}
-
-// The row of an equal request.
-fn request_equal(state: State, bit: bool) -> Row
-    ensures { λ r. ⌜ r ≡ requestEqual state bit ⌝ }
-{
-    match state {
-        State::Idle(idle) => request_idle(idle, bit),
-        State::Collect => Row::Put,
-        State::Running => Row::Working,
-        State::Replying => Row::Repeat,
-        State::Held(reply) => Row::Replay,
-    }
-}
-
-fn request_row(order: Order, state: State, bit: bool) -> Row
-    ensures { λ r. ⌜ r ≡ requestRow order state bit ⌝ }
-{
-    match order {
-        Order::Below => Row::Old,
-        Order::Equal => request_equal(state, bit),
-        Order::Newer => request_newer(state),
-    }
-}
-
-// The row of an equal ping.
-fn ping_equal(state: State) -> Row
-    ensures { λ r. ⌜ r ≡ pingEqual state ⌝ }
-{
-    match state {
-        State::Idle(idle) => Row::Nocall,
-        State::Collect => Row::Nocall,
-        State::Running => Row::Working,
-        State::Replying => Row::Repeat,
-        State::Held(reply) => Row::Replay,
-    }
-}
-
-fn ping_row(order: Order, state: State) -> Row
-    ensures { λ r. ⌜ r ≡ pingRow order state ⌝ }
-{
-    match order {
-        Order::Below => Row::Old,
-        Order::Equal => ping_equal(state),
-        Order::Newer => Row::Nocall,
-    }
-}
-
-// A row in REPLYING and HELD alone.
-fn where_replied(state: State, row: Row) -> Row
-    ensures { λ r. ⌜ r ≡ whereReplied state row ⌝ }
-{
-    match state {
-        State::Idle(idle) => Row::Missing,
-        State::Collect => Row::Missing,
-        State::Running => Row::Missing,
-        State::Replying => row,
-        State::Held(reply) => row,
-    }
-}
-
-// The row of a fack or ack.
-fn acknowledgement_row(order: Order, state: State, row: Row) -> Row
-    ensures { λ r. ⌜ r ≡ acknowledgementRow order state row ⌝ }
-{
-    match order {
-        Order::Below => Row::Old,
-        Order::Equal => where_replied(state, row),
-        Order::Newer => Row::Missing,
-    }
-}
-
-// What an ack does: finish a call that is not idempotent.
-fn finish_row(idempotent: bool) -> Row
-    ensures { λ r. ⌜ r ≡ finishRow idempotent ⌝ }
-{
-    if idempotent {
-        return Row::Missing;
-    }
-    Row::Finish
-}
-
-// The row of an arriving PDU: bit is the PDU's idempotent bit, mark the call's.
-fn row_of(event: Event, order: Order, state: State, bit: bool, mark: bool) -> Row
-    ensures { λ r. ⌜ r ≡ rowOf event order state bit mark ⌝ }
-{
-    match event {
-        Event::Request => request_row(order, state, bit),
-        Event::Ping => ping_row(order, state),
-        Event::Ack => acknowledgement_row(order, state, finish_row(mark)),
-        Event::Fack => acknowledgement_row(order, state, Row::Acknowledge),
-        Event::Foreign => Row::Missing,
     }
 }
 
@@ -382,26 +181,6 @@ fn table_ground(event: Event, order: Order, row: Row, s: Server, h: Header) -> G
     grounds::first_of(row_ground(row), clash)
 }
 
-fn order_for(s: Server, h: Header) -> Order
-    ensures { λ r. ⌜ r ≡ orderFor s h ⌝ }
-{
-    let state = s.state;
-    let fresh = server_record::is_fresh(state);
-    order_of(fresh, s.number, h.number)
-}
-
-// The row of an arriving PDU.
-pub fn row_for(s: Server, h: Header) -> Row
-    ensures { λ r. ⌜ r ≡ rowFor s h ⌝ }
-{
-    let state = s.state;
-    let call = s.call;
-    let event = event_of(h.kind);
-    let order = order_for(s, h);
-    let bit = flags::is_idempotent(h.flags1);
-    row_of(event, order, state, bit, call.idempotent)
-}
-
 // The ground of an arriving datagram.
 pub fn arrival(s: Server, lent: Ground, reading: Reading, body: &[u8]) -> Ground
     ensures { λ r. ⌜ r ≡ arrivalGround s lent reading (now (body .entry)) ⌝ }
@@ -412,10 +191,10 @@ pub fn arrival(s: Server, lent: Ground, reading: Reading, body: &[u8]) -> Ground
     let theirs = h.activity;
     let sound = server_record::is_sound(s);
     let entry = grounds::entry(lent, sound, answer, mine, theirs);
-    let event = event_of(h.kind);
-    let row = row_for(s, h);
+    let event = server_rows::event_of(h.kind);
+    let row = server_rows::row_for(s, h);
     let pdu = pdu_ground(event, row, h.flags1, h.fragment, body, reading.little);
-    let table = table_ground(event, order_for(s, h), row, s, h);
+    let table = table_ground(event, server_rows::order_for(s, h), row, s, h);
     grounds::first_of(entry, grounds::first_of(pdu, table))
 }
 

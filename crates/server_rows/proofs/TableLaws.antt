@@ -1,0 +1,158 @@
+-- What the order of an arriving PDU's number and its row tell.
+use Prim.Native.Nat.{ℕ, _<_}
+use mathlib.Core.Bool.{Bool, true, false}
+use mathlib.Core.Logic.{_⊎_, inl, inr}
+use mathlib.Core.Path.{_≡_, refl, subst}
+use lib.Dec.{ltb, eqb}
+use borrow.Author.Tests.{ltb-true, eqb-true}
+use Rattle.words.specs.Choice.{choose, either}
+use Rattle.server_record.specs.declared.Idle.the-variants.{Fresh, Spent, Repeatable}
+use Rattle.server_record.specs.declared.State.{State}
+use Rattle.server_record.specs.declared.State.the-variants.{Idle as IdleState, Collect, Running, Replying, Held}
+use Rattle.server_record.specs.States.{isRunning, isHeld}
+use Rattle.server_rows.specs.declared.Event.{Event}
+use Rattle.server_rows.specs.declared.Event.the-variants.{Request, Ping, Ack, Fack, Foreign}
+use Rattle.server_rows.specs.declared.Order.{Order}
+use Rattle.server_rows.specs.declared.Order.the-variants.{Below, Equal, Newer}
+use Rattle.server_rows.specs.declared.Row.{Row}
+use Rattle.server_rows.specs.declared.Row.the-variants.{Old, Missing, Repeat, Begin, Put, Working, Nocall, Replay, Acknowledge, Finish}
+use Rattle.server_rows.specs.Table.{orderBy, orderOf, requestNewer, requestAgain, requestIdle, requestEqual, requestRow, pingEqual, pingRow, whereReplied, acknowledgementRow, finishRow, fackRow, ackRow, rowOf}
+
+-- What an order tells of the two numbers.
+OrderTells : Bool → ℕ → ℕ → Order → Type 0
+OrderTells fresh mine theirs Below = Unit {0}
+OrderTells fresh mine theirs Equal = (fresh ≡ false) × (mine ≡ theirs)
+OrderTells fresh mine theirs Newer = (fresh ≡ true) ⊎ (mine < theirs)
+
+module _ (fresh : Bool) (mine theirs : ℕ) where
+  -- The order of two numbers tells it.
+  order-tells : OrderTells fresh mine theirs (orderOf fresh mine theirs)
+  unfolding OrderTells orderOf orderBy either choose
+  order-tells = by-fresh fresh refl
+    where
+      by-number : (t : Bool) → eqb mine theirs ≡ t → fresh ≡ false → OrderTells fresh mine theirs (choose t Equal Below)
+      by-number true e f = (f, eqb-true mine theirs e)
+      by-number false e f = tt
+
+      by-order : (t : Bool) → ltb mine theirs ≡ t → fresh ≡ false → OrderTells fresh mine theirs (choose t Newer (choose (eqb mine theirs) Equal Below))
+      by-order true e f = inr (ltb-true mine theirs e)
+      by-order false e f = by-number (eqb mine theirs) refl f
+
+      by-fresh : (t : Bool) → fresh ≡ t
+          → OrderTells fresh mine theirs (choose (choose t true (ltb mine theirs)) Newer (choose (eqb mine theirs) Equal Below))
+      by-fresh true e = inl e
+      by-fresh false e = by-order (ltb mine theirs) refl e
+
+  -- A newer number is greater, or the server is fresh.
+  pub newer-told : orderOf fresh mine theirs ≡ Newer → (fresh ≡ true) ⊎ (mine < theirs)
+  unfolding OrderTells
+  newer-told e = subst (OrderTells fresh mine theirs) e order-tells
+
+  -- An equal number is the server's, which is not fresh.
+  pub equal-told : orderOf fresh mine theirs ≡ Equal → (fresh ≡ false) × (mine ≡ theirs)
+  unfolding OrderTells
+  equal-told e = subst (OrderTells fresh mine theirs) e order-tells
+
+-- What a row tells of the event, the order of the numbers, the state, the PDU's bit and the call's mark.
+RowTells : Event → Order → State → Bool → Bool → Row → Type 0
+RowTells event order state bit mark Old = Unit {0}
+RowTells event order state bit mark Missing = Unit {0}
+RowTells event order state bit mark Repeat = Unit {0}
+RowTells event order state bit mark Begin =
+    (event ≡ Request) × (((order ≡ Newer) × (isRunning state ≡ false)) ⊎ ((order ≡ Equal) × (state ≡ IdleState Repeatable) × (bit ≡ true)))
+RowTells event order state bit mark Put = (event ≡ Request) × (order ≡ Equal) × (state ≡ Collect)
+RowTells event order state bit mark Working = Unit {0}
+RowTells event order state bit mark Nocall = Unit {0}
+RowTells event order state bit mark Replay = (order ≡ Equal) × (isHeld state ≡ true)
+RowTells event order state bit mark Acknowledge = (event ≡ Fack) × (order ≡ Equal) × ((state ≡ Replying) ⊎ (isHeld state ≡ true))
+RowTells event order state bit mark Finish = (order ≡ Equal) × (mark ≡ false) × ((state ≡ Replying) ⊎ (isHeld state ≡ true))
+
+-- The row of a request tells it,
+request-tells : (bit mark : Bool) (order : Order) (state : State) → RowTells Request order state bit mark (requestRow order state bit)
+unfolding RowTells requestRow requestEqual requestIdle requestAgain requestNewer isRunning isHeld choose
+request-tells bit mark Below state = tt
+request-tells bit mark Equal (IdleState Fresh) = tt
+request-tells bit mark Equal (IdleState Spent) = tt
+request-tells true mark Equal (IdleState Repeatable) = (refl, inr (refl, refl, refl))
+request-tells false mark Equal (IdleState Repeatable) = tt
+request-tells bit mark Equal Collect = (refl, refl, refl)
+request-tells bit mark Equal Running = tt
+request-tells bit mark Equal Replying = tt
+request-tells bit mark Equal (Held reply) = (refl, refl)
+request-tells bit mark Newer (IdleState idle) = (refl, inl (refl, refl))
+request-tells bit mark Newer Collect = (refl, inl (refl, refl))
+request-tells bit mark Newer Running = tt
+request-tells bit mark Newer Replying = (refl, inl (refl, refl))
+request-tells bit mark Newer (Held reply) = (refl, inl (refl, refl))
+
+-- so does that of a ping,
+ping-tells : (bit mark : Bool) (order : Order) (state : State) → RowTells Ping order state bit mark (pingRow order state)
+unfolding RowTells pingRow pingEqual isHeld
+ping-tells bit mark Below state = tt
+ping-tells bit mark Equal (IdleState idle) = tt
+ping-tells bit mark Equal Collect = tt
+ping-tells bit mark Equal Running = tt
+ping-tells bit mark Equal Replying = tt
+ping-tells bit mark Equal (Held reply) = (refl, refl)
+ping-tells bit mark Newer state = tt
+
+-- of an ack,
+ack-tells : (bit mark : Bool) (order : Order) (state : State) → RowTells Ack order state bit mark (ackRow order state mark)
+unfolding RowTells ackRow finishRow acknowledgementRow whereReplied isHeld choose
+ack-tells bit mark Below state = tt
+ack-tells bit mark Equal (IdleState idle) = tt
+ack-tells bit mark Equal Collect = tt
+ack-tells bit mark Equal Running = tt
+ack-tells bit true Equal Replying = tt
+ack-tells bit false Equal Replying = (refl, refl, inl refl)
+ack-tells bit true Equal (Held reply) = tt
+ack-tells bit false Equal (Held reply) = (refl, refl, inr refl)
+ack-tells bit mark Newer state = tt
+
+-- of a fack,
+fack-tells : (bit mark : Bool) (order : Order) (state : State) → RowTells Fack order state bit mark (fackRow order state)
+unfolding RowTells fackRow acknowledgementRow whereReplied isHeld
+fack-tells bit mark Below state = tt
+fack-tells bit mark Equal (IdleState idle) = tt
+fack-tells bit mark Equal Collect = tt
+fack-tells bit mark Equal Running = tt
+fack-tells bit mark Equal Replying = (refl, refl, inl refl)
+fack-tells bit mark Equal (Held reply) = (refl, refl, inr refl)
+fack-tells bit mark Newer state = tt
+
+-- and so of every event.
+row-tells : (event : Event) (order : Order) (state : State) (bit mark : Bool) → RowTells event order state bit mark (rowOf event order state bit mark)
+unfolding RowTells rowOf
+row-tells Request order state bit mark = request-tells bit mark order state
+row-tells Ping order state bit mark = ping-tells bit mark order state
+row-tells Ack order state bit mark = ack-tells bit mark order state
+row-tells Fack order state bit mark = fack-tells bit mark order state
+row-tells Foreign order state bit mark = tt
+
+module _ (event : Event) (order : Order) (state : State) (bit mark : Bool) where
+  -- Begin: a newer request, not in RUNNING, or an equal one with the bit set in IDLE repeatable.
+  pub begin-told : rowOf event order state bit mark ≡ Begin
+      → (event ≡ Request) × (((order ≡ Newer) × (isRunning state ≡ false)) ⊎ ((order ≡ Equal) × (state ≡ IdleState Repeatable) × (bit ≡ true)))
+  unfolding RowTells
+  begin-told e = subst (RowTells event order state bit mark) e (row-tells event order state bit mark)
+
+  -- Put: an equal request in COLLECT.
+  pub put-told : rowOf event order state bit mark ≡ Put → (event ≡ Request) × (order ≡ Equal) × (state ≡ Collect)
+  unfolding RowTells
+  put-told e = subst (RowTells event order state bit mark) e (row-tells event order state bit mark)
+
+  -- Replay: an equal number in HELD.
+  pub replay-told : rowOf event order state bit mark ≡ Replay → (order ≡ Equal) × (isHeld state ≡ true)
+  unfolding RowTells
+  replay-told e = subst (RowTells event order state bit mark) e (row-tells event order state bit mark)
+
+  -- Acknowledge: an equal fack in REPLYING or HELD.
+  pub acknowledge-told : rowOf event order state bit mark ≡ Acknowledge
+      → (event ≡ Fack) × (order ≡ Equal) × ((state ≡ Replying) ⊎ (isHeld state ≡ true))
+  unfolding RowTells
+  acknowledge-told e = subst (RowTells event order state bit mark) e (row-tells event order state bit mark)
+
+  -- Finish: an equal number in REPLYING or HELD, of a call that is not idempotent.
+  pub finish-told : rowOf event order state bit mark ≡ Finish → (order ≡ Equal) × (mark ≡ false) × ((state ≡ Replying) ⊎ (isHeld state ≡ true))
+  unfolding RowTells
+  finish-told e = subst (RowTells event order state bit mark) e (row-tells event order state bit mark)
