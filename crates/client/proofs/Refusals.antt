@@ -28,7 +28,8 @@ use Rattle.client_steps.proofs.PlanLaws.{start-settled, transmit-settled, timer
 use Rattle.client_arrivals.proofs.TableLaws.{arrival-settled}
 use Rattle.client.specs.declared.Outcome.{Outcome}
 use Rattle.client.specs.Sending.{sentOut}
-use Rattle.client.specs.Machine.{outcomeOf, Step, Arrival, sending, planOf, acted, starting, transmitting, timing, arriving}
+use Rattle.calls.specs.Events.{Step, Arrival}
+use Rattle.client.specs.Machine.{outcomeOf, sending, planOf, acted, starting, transmitting, timing, arriving}
 use Rattle.client.proofs.Judging.{timer-passes}
 use Rattle.client.proofs.Accepting.{timer-accepted}
 
@@ -39,12 +40,12 @@ pub record Untouched (c : Client) (o : Outcome) : Type 0 where
   pub notice : o .notice ≡ Untold
 
 -- so is the PDU buffer;
-pub record StepUntouched (c : Client) (out : List ℕ) (s : Step) : Type 0 where
+pub record StepUntouched (c : Client) (out : List ℕ) (s : Step Outcome) : Type 0 where
   pub outcome : Untouched c (s .outcome)
   pub buffer : s .out ≡ out
 
 -- so is the slot buffer.
-pub record ArrivalUntouched (c : Client) (slots out : List ℕ) (a : Arrival) : Type 0 where
+pub record ArrivalUntouched (c : Client) (slots out : List ℕ) (a : Arrival Outcome) : Type 0 where
   pub outcome : Untouched c (a .outcome)
   pub stored : a .slots ≡ slots
   pub buffer : a .out ≡ out

@@ -8,6 +8,7 @@ use Rattle.bodies.specs.Status.{statusReading}
 use Rattle.calls.specs.declared.Call.{Call}
 use Rattle.calls.specs.declared.Sent.{Sent}
 use Rattle.calls.specs.declared.Sent.the-variants.{Nothing}
+use Rattle.calls.specs.Events.{Step, Arrival}
 use Rattle.fragments.specs.Slots.{storing}
 use Rattle.fragments.specs.Joined.{partOf}
 use Rattle.grounds.specs.Entry.{lentGround}
@@ -34,42 +35,20 @@ outcomeOf plan sent = record { answer = plan .answer; client = plan .client; sen
 unfoldable pub starting : Client → Call → ℕ → Outcome
 starting c call length = outcomeOf (startPlan (startGround c length) c call length) Nothing
 
--- What an event with a PDU buffer gives and leaves.
-pub record Step : Type 0 where
-  pub outcome : Outcome
-  pub out : List ℕ
-
--- The result and the buffer after an event are those meant.
-pub record Stepped (s : Step) (r : Outcome) (out : List ℕ) : Type 0 where
-  pub outcome : r ≡ s .outcome
-  pub buffer : out ≡ s .out
-
 -- A plan whose PDU is sent, from a message that is lent.
-unfoldable pub sending : Plan → List ℕ → List ℕ → Step
+unfoldable pub sending : Plan → List ℕ → List ℕ → Step Outcome
 sending plan message out = record {
   outcome = outcomeOf plan (sentOut (plan .send) (plan .client) message out .sent);
   out = sentOut (plan .send) (plan .client) message out .out;
 }
 
 -- Transmit.
-unfoldable pub transmitting : Client → List ℕ → List ℕ → Step
+unfoldable pub transmitting : Client → List ℕ → List ℕ → Step Outcome
 transmitting c message out = sending (transmitPlan (transmitGround c (length message) (length out)) c) message out
 
 -- A timer event.
-unfoldable pub timing : Client → TimerKind → ℕ → List ℕ → Step
+unfoldable pub timing : Client → TimerKind → ℕ → List ℕ → Step Outcome
 timing c kind ticket out = sending (timerPlan (timerGround c kind ticket (length out)) kind c) [] out
-
--- What an arriving datagram gives and leaves.
-pub record Arrival : Type 0 where
-  pub outcome : Outcome
-  pub slots : List ℕ
-  pub out : List ℕ
-
--- The result and both buffers after it are those meant.
-pub record Arrived (a : Arrival) (r : Outcome) (slots out : List ℕ) : Type 0 where
-  pub outcome : r ≡ a .outcome
-  pub stored : slots ≡ a .slots
-  pub buffer : out ≡ a .out
 
 -- The plan of an arriving PDU.
 unfoldable pub planOf : Client → Ground → Reading → List ℕ → Plan
@@ -77,7 +56,7 @@ planOf c lent r body =
     arrivalPlan (arrivalGround c lent r body) c (r .header) (bodyLength body) (statusReading (r .little) body .status)
 
 -- What acting on a plan leaves.
-unfoldable pub acted : Plan → ℕ → List ℕ → List ℕ → List ℕ → Arrival
+unfoldable pub acted : Plan → ℕ → List ℕ → List ℕ → List ℕ → Arrival Outcome
 acted plan f body slots out = record {
   outcome = sending plan [] out .outcome;
   slots = storing (plan .put) f body slots;
@@ -85,7 +64,7 @@ acted plan f body slots out = record {
 }
 
 -- An arriving datagram.
-unfoldable pub arriving : Client → List ℕ → List ℕ → List ℕ → Arrival
+unfoldable pub arriving : Client → List ℕ → List ℕ → List ℕ → Arrival Outcome
 arriving c datagram slots out =
     acted (planOf c (lentGround (length slots) (length out)) (reading datagram) (bodyOf datagram)) (reading datagram .header .fragment)
     (bodyOf datagram) slots out

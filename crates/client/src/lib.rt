@@ -15,7 +15,8 @@ ghost use mathlib.Core.Path.{_≡_};
 ghost use mathlib.Core.List.{[]};
 ghost use Rattle.calls.specs.Sent.{Posted};
 ghost use Rattle.client.specs.Sending.{pduHeader, requestSent, emptySent, fackSent, sentOut};
-ghost use Rattle.client.specs.Machine.{outcomeOf, Stepped, Arrived, starting, transmitting, timing, planOf, acted, arriving, handedUpOf};
+ghost use Rattle.calls.specs.Events.{Stepped, Arrived};
+ghost use Rattle.client.specs.Machine.{outcomeOf, starting, transmitting, timing, planOf, acted, arriving, handedUpOf};
 
 // What an event gives back.
 pub struct Outcome {

@@ -1,2 +1,1 @@
 pub mod EventReturns
-pub mod CommandReturns

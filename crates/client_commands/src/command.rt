@@ -4,7 +4,8 @@ use client_record::Client;
 use fields::Lent;
 ghost use mathlib.Core.Path.{_≡_};
 ghost use Rattle.lines.specs.Line.{line, written};
-ghost use Rattle.client_commands.specs.Commands.{turnFirst, Turned, handUpText, eventAfter, commandAfter, stepAfter};
+ghost use Rattle.commands.specs.Commands.{Turned};
+ghost use Rattle.client_commands.specs.Commands.{turnFirst, handUpText, eventAfter, commandAfter, stepAfter};
 
 // The PDU buffer, and each byte of it before an event.
 const BUFFER_SIZE: usize = 2048;
@@ -35,7 +36,7 @@ fn event(
     slots: &mut [u8],
     out: &mut [u8],
 ) -> Turn
-    ensures { λ r. ⌜ Turned (eventAfter command (now (s .entry)) c lent (now (slots .entry))) used (now (out .entry)) r (now (slots .exit)) (now (out .exit)) ⌝ }
+    ensures { λ r. ⌜ Turned (eventAfter command (now (s .entry)) c lent (now (slots .entry))) used (now (out .entry)) (r .client) (r .used) (now (slots .exit)) (now (out .exit)) ⌝ }
 {
     let mut buffer = [FILL; BUFFER_SIZE];
     let outcome = event::lent_outcome(command, s, c, lent, slots, &mut buffer);
@@ -62,7 +63,7 @@ fn act(
     slots: &mut [u8],
     out: &mut [u8],
 ) -> Turn
-    ensures { λ r. ⌜ Turned (commandAfter command (now (s .entry)) c lent (now (slots .entry))) used (now (out .entry)) r (now (slots .exit)) (now (out .exit)) ⌝ }
+    ensures { λ r. ⌜ Turned (commandAfter command (now (s .entry)) c lent (now (slots .entry))) used (now (out .entry)) (r .client) (r .used) (now (slots .exit)) (now (out .exit)) ⌝ }
 {
     if command == b'C' {
         let client = client_script::fresh(s);
@@ -87,7 +88,7 @@ fn act(
 // The command that `rest` begins with, where it is one of the client's and whole; else all stays as
 // it was.
 pub fn step(rest: &[u8], turn: Turn, lent: Lent, slots: &mut [u8], out: &mut [u8]) -> Turn
-    ensures { λ r. ⌜ Turned (stepAfter (now (rest .entry)) (turn .client) lent (now (slots .entry))) (turn .used) (now (out .entry)) r (now (slots .exit)) (now (out .exit)) ⌝ }
+    ensures { λ r. ⌜ Turned (stepAfter (now (rest .entry)) (turn .client) lent (now (slots .entry))) (turn .used) (now (out .entry)) (r .client) (r .used) (now (slots .exit)) (now (out .exit)) ⌝ }
 {
     let command = words::byte_at(rest, 0);
     let s = lines::behind(rest, 1);

@@ -3,7 +3,7 @@ use client::Outcome;
 use client_record::Client;
 use fields::Lent;
 ghost use mathlib.Core.Path.{_≡_};
-ghost use Rattle.client.specs.Machine.{Stepped, Arrived};
+ghost use Rattle.calls.specs.Events.{Stepped, Arrived};
 ghost use Rattle.client_commands.specs.Events.{startOf, transmitOf, timerOf, arriveOf, eventOf, lentEvent};
 
 // A call's mark, the length of its message u32 and its other fields.

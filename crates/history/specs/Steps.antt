@@ -15,10 +15,11 @@ use Rattle.calls.specs.declared.Sent.the-variants.{Nothing, Pdu}
 use Rattle.reader.specs.Reading.{reading}
 use Rattle.client.specs.declared.Outcome.{Outcome as ClientOutcome}
 use Rattle.client.specs.HandUp.{handsUp as clientHandsUp}
-use Rattle.client.specs.Machine.{Step as ClientStep, Arrival as ClientArrival, starting, transmitting as clientTransmitting, timing as clientTiming, arriving as clientArriving}
+use Rattle.calls.specs.Events.{Step, Arrival}
+use Rattle.client.specs.Machine.{starting, transmitting as clientTransmitting, timing as clientTiming, arriving as clientArriving}
 use Rattle.server.specs.declared.Outcome.{Outcome as ServerOutcome}
 use Rattle.server.specs.HandUp.{handsUp as serverHandsUp}
-use Rattle.server.specs.Machine.{Step as ServerStep, Arrival as ServerArrival, replying, transmitting as serverTransmitting, timing as serverTiming, faulting, arriving as serverArriving}
+use Rattle.server.specs.Machine.{replying, transmitting as serverTransmitting, timing as serverTiming, faulting, arriving as serverArriving}
 use Rattle.history.specs.Lists.{andThen}
 use Rattle.history.specs.World.{Started, Dispatched, Replied, Completed, World}
 use Rattle.history.specs.Events.{Lent, Own, Other, Event, Start, ClientTransmit, ClientArrive, ClientTimer, ServerArrive, ServerTransmit, ServerTimer, Reply, Fault}
@@ -121,14 +122,14 @@ clientStarted w r idempotent message = record {
   world = clientWorld w r [] (w .clientSlots) (startsAfter (w .starts) r idempotent message);
 }
 
-abbrev pub clientStepped : World → ClientStep → Happened
+abbrev pub clientStepped : World → Step ClientOutcome → Happened
 clientStepped w s = record {
   answer = s .outcome .answer;
   notice = s .outcome .notice;
   world = clientWorld w (s .outcome) (s .out) (w .clientSlots) (w .starts);
 }
 
-abbrev pub clientArrived : World → Lent → ClientArrival → Happened
+abbrev pub clientArrived : World → Lent → Arrival ClientOutcome → Happened
 clientArrived w lent a = record {
   answer = a .outcome .answer;
   notice = a .outcome .notice;
@@ -143,14 +144,14 @@ serverReplied w r message = record {
   world = serverWorld w r [] (w .serverSlots) (w .server .number) (repliesAfter (w .replies) r (lastDispatched (w .dispatches)) message);
 }
 
-abbrev pub serverStepped : World → ServerStep → Happened
+abbrev pub serverStepped : World → Step ServerOutcome → Happened
 serverStepped w s = record {
   answer = s .outcome .answer;
   notice = s .outcome .notice;
   world = serverWorld w (s .outcome) (s .out) (w .serverSlots) (w .server .number) (w .replies);
 }
 
-abbrev pub serverArrived : World → Lent → ℕ → ServerArrival → Happened
+abbrev pub serverArrived : World → Lent → ℕ → Arrival ServerOutcome → Happened
 serverArrived w lent number a = record {
   answer = a .outcome .answer;
   notice = a .outcome .notice;

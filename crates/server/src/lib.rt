@@ -14,7 +14,8 @@ ghost use mathlib.Core.Path.{_≡_};
 ghost use mathlib.Core.List.{[]};
 ghost use Rattle.calls.specs.Sent.{Posted};
 ghost use Rattle.server.specs.Sending.{replyHeader, echoed as echoedCall, echoHeader, responseSent, faultSent, emptySent, fackSent, sentOut};
-ghost use Rattle.server.specs.Machine.{outcomeOf, Stepped, Arrived, replying, transmitting, timing, faulting, planOf, acted, arriving, handedUpOf};
+ghost use Rattle.calls.specs.Events.{Stepped, Arrived};
+ghost use Rattle.server.specs.Machine.{outcomeOf, replying, transmitting, timing, faulting, planOf, acted, arriving, handedUpOf};
 
 // What an event gives back.
 pub struct Outcome {

@@ -3,7 +3,7 @@ use fields::Lent;
 use server::Outcome;
 use server_record::Server;
 ghost use mathlib.Core.Path.{_≡_};
-ghost use Rattle.server.specs.Machine.{Stepped, Arrived};
+ghost use Rattle.calls.specs.Events.{Stepped, Arrived};
 ghost use Rattle.server_commands.specs.Events.{transmitOf, arriveOf, timerOf, replyOf, faultOf, eventOf, lentEvent};
 
 // The length of the message u32 and its seed u8.

@@ -3,7 +3,7 @@ use borrow.Author.Needs.{needs}
 use mathlib.Core.Path.{sym}
 use lib.Seq.{length-take-le}
 use native.Mathlib.Omega.{arith}
-use Rattle.server_commands.proofs.EventReturns.{lent-arrived}
+use Rattle.commands.proofs.EventLaws.{lent-arrived}
 use Rattle.server_commands.proofs.event.lent_outcome.Statement.{statement}
 use Rattle.server_commands.proofs.event.lent_outcome.Tie as tie
 
@@ -20,7 +20,7 @@ slice-aggregate-outcome-2 c =
 returns : tie.Need-returns
 returns c =
     let told = c .before .before .before .before .before .before .before in
-    lent-arrived _ _ _ _ (told .before .least .result) (told .least2 .result) _ _ _ _ _ (told .before .least .ensures) (told .least2 .ensures)
+    lent-arrived _ _ _ (told .before .least .result) (told .least2 .result) _ _ _ _ (told .before .least .ensures) (told .least2 .ensures)
     (c .before .before .before .before .outcome .ensures)
 
 pub lent-outcome-spec : {M : Type 1} → statement M

@@ -1,31 +1,47 @@
 -- `server_commands::outcome` meets its contract.
 use borrow.Author.Needs.{needs}
-use Rattle.server_commands.proofs.EventReturns.{event-transmit, event-arrive, event-timer, event-reply, event-fault}
+use Rattle.commands.proofs.EventLaws.{buffers-kept, slots-kept, arrived-here, arrived-behind}
+use Rattle.server_commands.specs.Events.{eventOf}
 use Rattle.server_commands.proofs.event.outcome.Statement.{statement}
 use Rattle.server_commands.proofs.event.outcome.Tie as tie
 
 returns : tie.Need-returns
-returns c = event-transmit _ _ _ _ _ _ _ (c .before .before .before .before .if1 .taken) (c .before .before .transmit .ensures)
+unfolding eventOf
+returns c =
+    arrived-here _ _ _ _ _ _ _ (c .before .before .before .before .if1 .taken) (slots-kept _ _ _ _ (c .before .before .transmit .ensures))
 
 returns-2 : tie.Need-returns-2
+unfolding eventOf
 returns-2 c =
     let test = c .before .before .before .before .before .before .before in
-    event-arrive _ _ _ _ _ _ (test .before .if1 .left) _ _ (test .if2 .taken) (c .before .before .before .before .arrive .ensures)
+    arrived-behind _ _ _ _ _ _ _ (test .before .if1 .left)
+    (arrived-here _ _ _ _ _ _ _ (test .if2 .taken) (c .before .before .before .before .arrive .ensures))
 
 returns-3 : tie.Need-returns-3
+unfolding eventOf
 returns-3 c =
     let test = c .before .before .before .before in
-    event-timer _ _ _ _ _ _ (test .before .before .if1 .left) (test .before .if2 .left) _ (test .if3 .taken) (c .before .before .timer .ensures)
+    arrived-behind _ _ _ _ _ _ _ (test .before .before .if1 .left)
+    (arrived-behind _ _ _ _ _ _ _ (test .before .if2 .left)
+    (arrived-here _ _ _ _ _ _ _ (test .if3 .taken) (slots-kept _ _ _ _ (c .before .before .timer .ensures))))
 
 returns-4 : tie.Need-returns-4
+unfolding eventOf
 returns-4 c =
     let test = c .before in
-    event-reply _ _ _ _ _ _ (test .before .before .before .if1 .left) (test .before .before .if2 .left) (test .before .if3 .left) (test .if4 .taken) (c .reply .ensures)
+    arrived-behind _ _ _ _ _ _ _ (test .before .before .before .if1 .left)
+    (arrived-behind _ _ _ _ _ _ _ (test .before .before .if2 .left)
+    (arrived-behind _ _ _ _ _ _ _ (test .before .if3 .left)
+    (arrived-here _ _ _ _ _ _ _ (test .if4 .taken) (buffers-kept _ _ _ _ (c .reply .ensures)))))
 
 returns-5 : tie.Need-returns-5
+unfolding eventOf
 returns-5 c =
     let test = c .before .before .before .before in
-    event-fault _ _ _ _ _ _ (test .before .before .before .if1 .left) (test .before .before .if2 .left) (test .before .if3 .left) _ (test .if4 .left) (c .before .before .fault .ensures)
+    arrived-behind _ _ _ _ _ _ _ (test .before .before .before .if1 .left)
+    (arrived-behind _ _ _ _ _ _ _ (test .before .before .if2 .left)
+    (arrived-behind _ _ _ _ _ _ _ (test .before .if3 .left)
+    (arrived-behind _ _ _ _ _ _ _ (test .if4 .left) (slots-kept _ _ _ _ (c .before .before .fault .ensures)))))
 
 pub outcome-spec : {M : Type 1} → statement M
 outcome-spec =
