@@ -1,0 +1,3 @@
+-- The rows, proved.
+pub mod Opened
+pub mod RowsHold

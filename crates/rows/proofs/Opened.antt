@@ -1,0 +1,72 @@
+-- What a row computes with: what unfolds one of these unfolds all that its line names.
+use Rattle.words.specs.Choice
+use Rattle.words.specs.Number
+use Rattle.words.specs.Place
+use Rattle.pdu.specs.Header
+use Rattle.reader.specs.Reading
+use Rattle.incoming.specs.Slots
+use Rattle.facks.specs.Mask
+use Rattle.outgoing.specs.Message
+use Rattle.outgoing.specs.Sending
+use Rattle.timers.specs.Tickets
+use Rattle.grounds.specs.Order
+use Rattle.grounds.specs.Timing
+use Rattle.client_record.specs.States as ClientStates
+use Rattle.client_record.specs.Rules as ClientRules
+use Rattle.client_record.specs.Record as ClientRecord
+use Rattle.client_table.specs.Local as ClientLocal
+use Rattle.client_steps.specs.Plan as ClientPlan
+use Rattle.client_steps.specs.Rows as ClientRows
+use Rattle.client.specs.Machine as ClientMachine
+use Rattle.server_record.specs.States as ServerStates
+use Rattle.server_record.specs.Rules as ServerRules
+use Rattle.server_record.specs.Record as ServerRecord
+use Rattle.server_table.specs.Local as ServerLocal
+use Rattle.server_steps.specs.Plan as ServerPlan
+use Rattle.server_steps.specs.Rows as ServerRows
+use Rattle.server.specs.Machine as ServerMachine
+
+-- Tests, messages and timers.
+unfoldable pub shared : Unit {0}
+unfolding Choice.choose Choice.both Choice.either
+    Slots.slotSound Slots.sound Slots.contiguous Slots.cleared Slots.slotsWith Slots.stored
+    Mask.lastContiguous Mask.maskOf
+    Message.fragments
+    Sending.nextSerial Sending.oneMore Sending.afterSend Sending.inByte Sending.messageOf Sending.started Sending.noMessage
+    Sending.bounded Sending.hasMessage Sending.hasNothing
+    Tickets.usedUp Tickets.armedWith Tickets.off Tickets.sound Tickets.timerSound
+    Order.first Order.refuseIf
+    Timing.lateGround Timing.ticketGround
+shared = tt
+
+-- The reader.
+unfoldable pub reads : Unit {0}
+unfolding shared
+    Number.number Place.putAt
+    Header.headerOf Header.blank
+    Reading.represents Reading.orderIs Reading.readGround Reading.groundBy Reading.readBy Reading.reading
+reads = tt
+
+-- The client's start and timers.
+unfoldable pub clientEvents : Unit {0}
+unfolding shared
+    ClientStates.mayStart ClientStates.isQueued ClientStates.isWaiting ClientStates.isAckPending
+    ClientRules.countsSound ClientRules.messageRule ClientRules.outgoingSound ClientRules.timersSound ClientRules.sound
+    ClientRecord.fresh
+    ClientLocal.startGround ClientLocal.namedTimer ClientLocal.namedBy ClientLocal.pings ClientLocal.timerGround
+    ClientPlan.refused ClientPlan.accepted ClientPlan.withOutgoing
+    ClientRows.startPlan ClientRows.waitPlan ClientRows.ackPlan ClientRows.timerRow ClientRows.timerPlan
+    ClientMachine.outcomeOf ClientMachine.starting ClientMachine.sending ClientMachine.timing
+clientEvents = tt
+
+-- The server's reply and timer.
+unfoldable pub serverEvents : Unit {0}
+unfolding shared
+    ServerStates.isRunning ServerStates.isHeld
+    ServerRules.heldRule ServerRules.messageRule ServerRules.outgoingSound ServerRules.sound
+    ServerRecord.fresh ServerRecord.unarmed
+    ServerLocal.heldArmsAgain ServerLocal.armsAgain ServerLocal.timerGround ServerLocal.replyGround
+    ServerPlan.refused ServerPlan.accepted ServerPlan.withOutgoing
+    ServerRows.replyPlan ServerRows.resendHeld ServerRows.resendRow ServerRows.timerRow ServerRows.timerPlan
+    ServerMachine.outcomeOf ServerMachine.replying ServerMachine.sending ServerMachine.timing
+serverEvents = tt
