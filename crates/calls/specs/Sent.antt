@@ -3,12 +3,14 @@ use Prim.Native.Nat.{ℕ}
 use mathlib.Core.Bool.{false}
 use mathlib.Core.List.{List}
 use mathlib.Core.Path.{_≡_}
+use lib.Dec.{eqb}
 use lib.ListN.{replicate}
+use Rattle.words.specs.Choice.{choose}
 use Rattle.pdu.specs.declared.Header.{Header}
 use Rattle.writer.specs.Writing.{writing}
 use Rattle.calls.specs.declared.Call.{Call}
 use Rattle.calls.specs.declared.Sent.{Sent}
-use Rattle.calls.specs.declared.Sent.the-variants.{Pdu}
+use Rattle.calls.specs.declared.Sent.the-variants.{Nothing, Pdu}
 
 -- The call of a record that has none.
 unfoldable pub blankCall : Call
@@ -39,9 +41,13 @@ pub record Posting : Type 0 where
   pub sent : Sent
   pub out : List ℕ
 
+-- What is sent of a PDU of n bytes; the writer gives 0 for one that it refused.
+unfoldable pub sentOf : ℕ → Sent
+sentOf n = choose (eqb n 0) Nothing (Pdu n)
+
 -- A PDU goes through the writer.
 unfoldable pub posting : Header → List ℕ → List ℕ → Posting
-posting h body out = record { sent = Pdu (writing h body out .result .length); out = writing h body out .out }
+posting h body out = record { sent = sentOf (writing h body out .result .length); out = writing h body out .out }
 
 -- What was sent and the buffer after it are those meant.
 pub record Posted (p : Posting) (r : Sent) (out : List ℕ) : Type 0 where

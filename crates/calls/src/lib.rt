@@ -1,7 +1,7 @@
 // A call as both machines see it: its operation data, the PDUs sent for it, and what the stub is told.
 use pdu::Header;
 ghost use mathlib.Core.Path.{_≡_};
-ghost use Rattle.calls.specs.Sent.{blankCall, sentHeader, posting, Posted};
+ghost use Rattle.calls.specs.Sent.{blankCall, sentHeader, sentOf, posting, Posted};
 
 // The data of an operation, and whether the call is marked idempotent. UUIDs are in the little-endian form.
 pub struct Call {
@@ -81,10 +81,20 @@ pub fn header(
     }
 }
 
+// What is sent of a PDU of this length; the writer gives 0 for one that it refused.
+fn sent_of(length: usize) -> Sent
+    ensures { λ r. ⌜ r ≡ sentOf length ⌝ }
+{
+    if length == 0 {
+        return Sent::Nothing;
+    }
+    Sent::Pdu(length)
+}
+
 // Writes a PDU to send into the lent buffer.
 pub fn post(h: Header, body: &[u8], out: &mut [u8]) -> Sent
     ensures { λ r. ⌜ Posted (posting h (now (body .entry)) (now (out .entry))) r (now (out .exit)) ⌝ }
 {
     let written = writer::write(h, body, out);
-    Sent::Pdu(written.length)
+    sent_of(written.length)
 }

@@ -1,6 +1,6 @@
 -- How the client's tickets move at every event, accepted or refused, and that a ticket that acts is spent.
-use Prim.Native.Nat.{ℕ}
-use mathlib.Core.Bool.{Bool, true, false, not}
+use Prim.Native.Nat.{ℕ, _≤_}
+use mathlib.Core.Bool.{Bool, true, false, not, false≢true}
 use mathlib.Core.List.{List}
 use mathlib.Core.Path.{_≡_, refl, sym, subst}
 use lib.Dec.{ltb}
@@ -22,12 +22,12 @@ use Rattle.reader.specs.declared.Reading.{Reading}
 use Rattle.reader.specs.Reading.{reading}
 use Rattle.timers.specs.declared.Timer.the-variants.{Off, Armed}
 use Rattle.timers.specs.Tickets.{usedUp, nextTicket, armedAfresh}
-use Rattle.timers.proofs.TimerLaws.{Moved, stays-moved, off-moved, armed-moved, off-raised, armed-most, off-has-none, armed-spends}
+use Rattle.timers.proofs.TimerLaws.{Moved, stays-moved, off-moved, armed-moved, off-raised, armed-most, ticket-most, off-has-none, armed-spends}
 use Rattle.grounds.specs.Entry.{lentGround}
 use Rattle.grounds.specs.Fragment.{isLast, bodyLength}
 use Rattle.client_record.specs.declared.Client.{Client}
-use Rattle.client_record.specs.States.{isWaiting}
-use Rattle.client_record.specs.Rules.{timersSound}
+use Rattle.client_record.specs.States.{isWaiting, isAckPending}
+use Rattle.client_record.specs.Rules.{timersSound, sound}
 use Rattle.client_record.specs.Record.{waiting, ackPending, unarmed}
 use Rattle.client_record.proofs.RuleLaws.{rules-told}
 use Rattle.client_table.specs.declared.Event.{Event}
@@ -44,7 +44,7 @@ use Rattle.client_arrivals.specs.Rows.{acknowledged, fackPlan, putRecord, withI
 use Rattle.client_arrivals.specs.Table.{arrivalRow, arrivalPlan}
 use Rattle.client.specs.Machine.{outcomeOf, sending, planOf, acted, starting, transmitting, timing, arriving}
 use Rattle.client.proofs.Judging.{CanAct, CanArrive, transmit-passes, timer-passes, arrival-passes}
-use Rattle.client.proofs.Accepting.{timer-accepted}
+use Rattle.client.proofs.Accepting.{timer-accepted, arrive-accepted}
 
 -- Both timers of the client move with its one counter.
 pub record ClientMoved (c d : Client) : Type 0 where
@@ -196,3 +196,77 @@ arrive-moves c datagram slots out = by-ground (arrivalGround c lent r (bodyOf da
     by-ground : (g : Ground) → arrivalGround c lent r (bodyOf datagram) ≡ g → ClientMoved c (arrivalPlan g c (r .header) n status .client)
     by-ground (Refuse a) e = still c c refl refl refl
     by-ground Pass e = row-moves c (r .header) n status (eventOf (r .header .kind)) (arrival-passes c lent r (bodyOf datagram) e .1)
+
+-- A response and working arm afresh, or end the waiting.
+abbrev pub renews : Event → Bool
+renews Response = true
+renews Fault = false
+renews Reject = false
+renews Working = true
+renews Nocall = false
+renews Fack = false
+renews Foreign = false
+
+module _ (c : Client) (kind : TimerKind) (ticket : ℕ) where
+  -- An armed ticket is at most the counter,
+  pub old-most : sound c ≡ true → namedTimer kind (c .wait) (c .ack) ≡ Armed ticket → ticket ≤ c .tickets
+  unfolding namedTimer timersSound
+  old-most kept = by-kind kind
+    where
+      by-kind : (k : TimerKind) → namedTimer k (c .wait) (c .ack) ≡ Armed ticket → ticket ≤ c .tickets
+      by-kind Wait = ticket-most (isWaiting (c .state)) (c .wait) (c .tickets) ticket (both-true _ _ (rules-told c kept .timers) .0)
+      by-kind Ack = ticket-most (isAckPending (c .state)) (c .ack) (c .tickets) ticket (both-true _ _ (rules-told c kept .timers) .1)
+
+  module _ (old : ticket ≤ c .tickets) where
+    -- so a response leaves it armed no more,
+    put-spends : (m : Incoming) (flags1 serial : ℕ) → (not (both (complete m) (c .call .idempotent)) ≡ true → usedUp (c .tickets) ≡ false)
+        → namedTimer kind (putPlan c m flags1 serial .client .wait) (putPlan c m flags1 serial .client .ack) ≡ Armed ticket → ⊥
+    unfolding putPlan putRecord withIncoming waiting ackPending unarmed both choose namedTimer
+    put-spends m flags1 serial free = by-tests (complete m) (c .call .idempotent) kind free
+      where
+        by-tests : (all idempotent : Bool) (k : TimerKind) → (not (both all idempotent) ≡ true → usedUp (c .tickets) ≡ false)
+            → namedTimer k (putRecord all idempotent c .wait) (putRecord all idempotent c .ack) ≡ Armed ticket → ⊥
+        by-tests true true Wait left = off-has-none ticket
+        by-tests true true Ack left = off-has-none ticket
+        by-tests true false Wait left = off-has-none ticket
+        by-tests true false Ack left = armed-spends (c .tickets) ticket (left refl) old
+        by-tests false idempotent Wait left = armed-spends (c .tickets) ticket (left refl) old
+        by-tests false idempotent Ack left = off-has-none ticket
+
+    -- nor does working.
+    working-spends : usedUp (c .tickets) ≡ false → namedTimer kind (workingPlan c .client .wait) (workingPlan c .client .ack) ≡ Armed ticket → ⊥
+    unfolding workingPlan withWaits waiting accepted namedTimer
+    working-spends free = by-kind kind
+      where
+        by-kind : (k : TimerKind) → namedTimer k (workingPlan c .client .wait) (workingPlan c .client .ack) ≡ Armed ticket → ⊥
+        by-kind Wait = armed-spends (c .tickets) ticket free old
+        by-kind Ack = off-has-none ticket
+
+    row-spends : (h : Header) (n status : ℕ) (event : Event) → CanArrive event c h n → renews event ≡ true
+        → namedTimer kind (arrivalRow event c h n status .client .wait) (arrivalRow event c h n status .client .ack) ≡ Armed ticket → ⊥
+    unfolding arrivalRow responsePlan arms completes
+    row-spends h n status Response j r = put-spends (stored (c .incoming) (h .fragment) n (isLast (h .flags1))) (h .flags1) (h .serial) (j .free)
+    row-spends h n status Working j r = working-spends (j .free refl)
+    row-spends h n status Fault j r = absurd (false≢true r)
+    row-spends h n status Reject j r = absurd (false≢true r)
+    row-spends h n status Nocall j r = absurd (false≢true r)
+    row-spends h n status Fack j r = absurd (false≢true r)
+    row-spends h n status Foreign j r = absurd (false≢true r)
+
+-- A response or working that is taken leaves no ticket armed that was so before.
+pub arrive-spends : (c : Client) (datagram slots out : List ℕ) → arriving c datagram slots out .outcome .answer ≡ Done
+    → renews (eventOf (reading datagram .header .kind)) ≡ true → (kind : TimerKind) (ticket : ℕ) → namedTimer kind (c .wait) (c .ack) ≡ Armed ticket
+    → namedTimer kind (arriving c datagram slots out .outcome .client .wait) (arriving c datagram slots out .outcome .client .ack) ≡ Armed ticket → ⊥
+unfolding arriving acted sending outcomeOf planOf arrivalPlan
+arrive-spends c datagram slots out done renewed kind ticket armed =
+    let pass = arrive-accepted c datagram slots out done in
+    let passed = arrival-passes c (lentGround (length slots) (length out)) (reading datagram) (bodyOf datagram) pass in
+    subst
+    (λ (g : Ground).
+        namedTimer kind
+        (arrivalPlan g c (reading datagram .header) (bodyLength (bodyOf datagram)) (statusReading (reading datagram .little) (bodyOf datagram) .status) .client .wait)
+        (arrivalPlan g c (reading datagram .header) (bodyLength (bodyOf datagram)) (statusReading (reading datagram .little) (bodyOf datagram) .status) .client .ack)
+        ≡ Armed ticket → ⊥)
+    (sym pass)
+    (row-spends c kind ticket (old-most c kind ticket (passed .0 .kept) armed) (reading datagram .header) (bodyLength (bodyOf datagram))
+    (statusReading (reading datagram .little) (bodyOf datagram) .status) (eventOf (reading datagram .header .kind)) (passed .1) renewed)

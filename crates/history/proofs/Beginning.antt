@@ -1,18 +1,20 @@
 -- A fresh world is as every world is known to be.
-use Prim.Native.Nat.{ℕ}
+use Prim.Native.Nat.{ℕ, _<_}
 use mathlib.Core.Bool.{Bool, true, false≢true}
 use mathlib.Core.List.{List, []}
-use mathlib.Core.Path.{_≡_, sym, ap, subst, _∙_}
+use mathlib.Core.Path.{_≡_, refl, sym, ap, subst, _∙_}
 use native.Mathlib.Omega.{arith}
 use borrow.Author.Tests.{le-leb, eq-eqb}
+use lib.ListN.{length}
+use Rattle.words.specs.Choice.{choose, either}
 use Rattle.words.proofs.Tests.{both-hold}
 use Rattle.fragments.specs.Judgement.{held}
 use Rattle.fragments.proofs.PutLaws.{none-held}
 use Rattle.incoming.specs.declared.Incoming.{Incoming}
-use Rattle.incoming.specs.Slots.{missing, lastSound, soundFrom, sound as incomingSound}
+use Rattle.incoming.specs.Slots.{missing, cleared, lastSound, soundFrom, sound as incomingSound}
 use Rattle.incoming.proofs.SlotLaws.{sound-all}
 use Rattle.outgoing.specs.declared.Outgoing.{Outgoing}
-use Rattle.outgoing.specs.Sending.{bounded, hasNothing}
+use Rattle.outgoing.specs.Sending.{noMessage, bounded, hasNothing}
 use Rattle.outgoing.proofs.SendLaws.{bounded-holds}
 use Rattle.timers.specs.declared.Timer.{Timer}
 use Rattle.timers.specs.declared.Timer.the-variants.{Off}
@@ -20,11 +22,13 @@ use Rattle.timers.specs.Tickets.{timerSound}
 use Rattle.timers.proofs.TimerLaws.{off-sound}
 use Rattle.client_record.specs.declared.State.{State as ClientState}
 use Rattle.client_record.specs.declared.Client.{Client}
+use Rattle.client_record.specs.Record.{fresh as clientRecord}
 use Rattle.client_record.specs.States.{isQueued, isWaiting, isAckPending}
 use Rattle.client_record.specs.Rules.{outgoingSound as clientOutgoing, messageRule as clientRule, timersSound}
 use Rattle.client_record.proofs.RuleLaws.{rules-hold as client-rules, counts-hold}
 use Rattle.server_record.specs.declared.State.{State as ServerState}
 use Rattle.server_record.specs.declared.Server.{Server}
+use Rattle.server_record.specs.Record.{fresh as serverRecord}
 use Rattle.server_record.specs.States.{neverCalled, isFresh, isRunning, isHeld}
 use Rattle.server_record.specs.Rules.{outgoingSound as serverOutgoing, idleRule, messageRule as serverRule}
 use Rattle.server_record.proofs.RuleLaws.{rules-hold as server-rules}
@@ -129,4 +133,30 @@ fresh-inv w f = record {
   requests = λ d m. absurd (subst (In d) (f .clientSent) m);
   responses = λ d m. absurd (subst (In d) (f .serverSent) m);
   completed = λ c m. absurd (subst (In c) (f .completions) m);
+}
+
+-- The records that the library's own functions make are fresh, whatever the activity, the boot value and the ticket counter.
+pub client-record-fresh : (activity : List ℕ) (tickets : ℕ) → length activity ≡ 16 → FreshClient (clientRecord activity tickets)
+unfolding clientRecord noMessage cleared either choose
+client-record-fresh activity tickets known = record {
+  state = refl;
+  activity = known;
+  outgoing = record { count = refl; sent = refl; acknowledged = refl };
+  incoming = record { slots = refl; none = refl; last = refl };
+  waits = refl;
+  resends = refl;
+  wait = refl;
+  ack = refl;
+}
+
+pub server-record-fresh : (activity : List ℕ) (boot tickets : ℕ) → length activity ≡ 16 → boot < 4294967296 → FreshServer (serverRecord activity boot tickets)
+unfolding serverRecord noMessage cleared either choose
+server-record-fresh activity boot tickets known small = record {
+  state = refl;
+  activity = known;
+  boot = small;
+  outgoing = record { count = refl; sent = refl; acknowledged = refl };
+  incoming = record { slots = refl; none = refl; last = refl };
+  resends = refl;
+  resend = refl;
 }

@@ -235,7 +235,7 @@ unfolding isLast withFlag flagsOf hasFlag either choose
 flags-last count f mark below = by-tests (eqb count 1) (eqb (f + 1) count) refl refl mark
   where
     by-tests : (one last : Bool) → eqb count 1 ≡ one → eqb (f + 1) count ≡ last → (t : Bool)
-        → isLast (withFlag idempotent t (choose one 0 (choose last (fragment + lastFragment) fragment))) ≡ last
+        → isLast (withFlag idempotent t (choose one 0 (withFlag lastFragment last fragment))) ≡ last
     by-tests true true p q true = refl
     by-tests true true p q false = refl
     by-tests true false p q t =
@@ -251,7 +251,7 @@ pub flags-mark : (count f : ℕ) (mark : Bool) → hasFlag idempotent (withFlag 
 unfolding withFlag flagsOf hasFlag choose
 flags-mark count f mark = by-tests (eqb count 1) (eqb (f + 1) count) mark
   where
-    by-tests : (one last t : Bool) → hasFlag idempotent (withFlag idempotent t (choose one 0 (choose last (fragment + lastFragment) fragment))) ≡ t
+    by-tests : (one last t : Bool) → hasFlag idempotent (withFlag idempotent t (choose one 0 (withFlag lastFragment last fragment))) ≡ t
     by-tests true last true = refl
     by-tests true last false = refl
     by-tests false true true = refl

@@ -5,8 +5,6 @@ use mathlib.Core.List.{List, [], _++_, append-assoc}
 use mathlib.Core.Logic.{_⊎_, inl, inr}
 use mathlib.Core.Path.{_≡_, refl, sym, ap, subst, _∙_}
 use native.Mathlib.Omega.{arith}
-use borrow.Author.Tests.{eq-eqb}
-use Rattle.words.proofs.Tests.{both-true}
 use lib.ListN.{drop, take-append-drop}
 use Rattle.fragments.specs.Judgement.{held}
 use Rattle.fragments.specs.Joined.{Leads}
@@ -16,15 +14,14 @@ use Rattle.incoming.specs.Slots.{missing, contiguous, complete}
 use Rattle.incoming.proofs.SlotLaws.{count-held}
 use Rattle.timers.specs.declared.Timer.{Timer}
 use Rattle.timers.specs.declared.Timer.the-variants.{Off, Armed}
-use Rattle.timers.specs.Tickets.{armedWith, timerSound}
-use Rattle.timers.proofs.TimerLaws.{armed-most}
+use Rattle.timers.proofs.TimerLaws.{ticket-most}
 use Rattle.client_record.specs.declared.State.{State}
 use Rattle.client_record.specs.declared.State.the-variants.{Queued, SendFrags, Dispatched as DispatchedState, ReceiveFrags, AckPending, Complete, Fault}
-use Rattle.client_record.specs.States.{isWaiting, isAckPending}
-use Rattle.client_record.specs.Rules.{timersSound}
 use Rattle.client_record.proofs.RuleLaws.{rules-told, complete-unarmed, fault-unarmed}
 use Rattle.client_table.specs.declared.TimerKind.the-variants.{Wait, Ack}
+use Rattle.client_table.specs.Local.{namedTimer}
 use Rattle.client.proofs.Growing.{hands-joined}
+use Rattle.client.proofs.TicketLaws.{old-most as client-most}
 use Rattle.server_record.specs.States.{isHeld}
 use Rattle.server_record.proofs.RuleLaws.{idle-unarmed, rules-told as server-rules-told}
 use Rattle.history.specs.World.{World}
@@ -38,7 +35,7 @@ use Rattle.history.proofs.Invariant.{ClientHolds, nothing, fragments-of
 use Rattle.history.proofs.Beginning.{fresh-inv}
 use Rattle.history.proofs.Refused.{late-nothing}
 use Rattle.history.proofs.Histories.{run-inv, run-append, fair-append, run-grows}
-use Rattle.history.proofs.Tickets.{counterOf, run-counts, run-gone, acts-once}
+use Rattle.history.proofs.Tickets.{counterOf, run-counts, run-gone, acts-once, armed-afresh}
 
 -- Where nothing is held nothing is joined.
 empty-joined : (m : Incoming) (slots : List ℕ) → Empty m → joined m slots ≡ []
@@ -108,19 +105,11 @@ module _ (w : World) (inv : Inv w) where
       by-state Complete e f = complete-unarmed (w .client) (inv .client .kept) e
       by-state Fault e f = fault-unarmed (w .client) (inv .client .kept) e
 
--- An armed ticket is at most the counter: that of a timer,
-ticket-most : (named : Bool) (timer : Timer) (tickets ticket : ℕ) → timerSound named timer tickets ≡ true → timer ≡ Armed ticket → ticket ≤ tickets
-unfolding armedWith
-ticket-most named timer tickets ticket kept e =
-    armed-most named timer ticket tickets kept (ap (λ (t : Timer). armedWith t ticket) e ∙ eq-eqb ticket ticket refl)
-
--- and so of each timer of the world.
+-- An armed ticket is at most the counter of its side.
 armed-in-most : (w : World) → Inv w → (timer : TimerOf) (ticket : ℕ) → timerIn w timer ≡ Armed ticket → ticket ≤ counterOf w timer
-unfolding timerIn timersSound
-armed-in-most w inv (OfClient Wait) ticket e =
-    ticket-most (isWaiting (w .client .state)) (w .client .wait) (w .client .tickets) ticket (both-true _ _ (rules-told (w .client) (inv .client .kept) .timers) .0) e
-armed-in-most w inv (OfClient Ack) ticket e =
-    ticket-most (isAckPending (w .client .state)) (w .client .ack) (w .client .tickets) ticket (both-true _ _ (rules-told (w .client) (inv .client .kept) .timers) .1) e
+unfolding timerIn namedTimer
+armed-in-most w inv (OfClient Wait) ticket e = client-most (w .client) Wait ticket (inv .client .kept) e
+armed-in-most w inv (OfClient Ack) ticket e = client-most (w .client) Ack ticket (inv .client .kept) e
 armed-in-most w inv OfServer ticket e =
     ticket-most (isHeld (w .server .state)) (w .server .resend) (w .server .tickets) ticket (server-rules-told (w .server) (inv .server .kept) .timer) e
 
@@ -162,6 +151,7 @@ theorem w fresh events fair =
       late = late-nothing (run w events);
       gone = gone-tickets w events start fair;
       acts = acts-once (run w events);
+      afresh = armed-afresh (run w events);
       quiet = quiet (run w events) inv;
       rules = record { client = inv .client .kept; server = inv .server .kept };
       order = inv .calls .rising;

@@ -1,21 +1,26 @@
 -- Tickets over lists of events: one that is gone never comes back.
 use Prim.Native.Nat.{ℕ, _≤_, _<_}
+use mathlib.Core.Bool.{true}
 use mathlib.Core.List.{List, [], _∷_}
 use mathlib.Core.Logic.{_⊎_, inl, inr}
-use mathlib.Core.Path.{_≡_, refl, subst}
+use mathlib.Core.Path.{_≡_, refl, ap, subst}
 use native.Mathlib.Omega.{arith}
+use Rattle.words.specs.Choice.{choose}
+use Rattle.reader.specs.Reading.{reading}
 use Rattle.timers.specs.declared.Timer.the-variants.{Armed}
 use Rattle.timers.proofs.TimerLaws.{Moved, stays-moved}
 use Rattle.client_record.specs.declared.Client.{Client}
+use Rattle.client_table.specs.declared.TimerKind.{TimerKind}
 use Rattle.client_table.specs.declared.TimerKind.the-variants.{Wait, Ack}
+use Rattle.client_table.specs.Events.{serverEvent, eventOf}
 use Rattle.client_table.specs.Local.{namedTimer}
-use Rattle.client.proofs.TicketLaws.{ClientMoved, start-moves, transmit-moves as client-transmit-moves, timer-moves as client-timer-moves, arrive-moves as client-arrive-moves, timer-spends as client-timer-spends}
+use Rattle.client.proofs.TicketLaws.{ClientMoved, start-moves, transmit-moves as client-transmit-moves, timer-moves as client-timer-moves, arrive-moves as client-arrive-moves, timer-spends as client-timer-spends, renews, arrive-spends}
 use Rattle.server_record.specs.declared.Server.{Server}
 use Rattle.server.proofs.TicketLaws.{ServerMoved, reply-moves, transmit-moves as server-transmit-moves, fault-moves, timer-moves as server-timer-moves, arrive-moves as server-arrive-moves, timer-spends as server-timer-spends}
 use Rattle.history.specs.World.{World}
 use Rattle.history.specs.Events.{Event, Start, ClientTransmit, ClientArrive, ClientTimer, ServerArrive, ServerTransmit, ServerTimer, Reply, Fault}
 use Rattle.history.specs.Steps.{bytesLent, happens, answerTo, step, run}
-use Rattle.history.specs.Claim.{TimerOf, OfClient, OfServer, timerIn, timerEvent, ActsOnce}
+use Rattle.history.specs.Claim.{TimerOf, OfClient, OfServer, timerIn, timerEvent, ActsOnce, ArmedAfresh}
 
 -- The ticket counter of a timer's side.
 abbrev pub counterOf : World → TimerOf → ℕ
@@ -92,3 +97,17 @@ unfolding ActsOnce answerTo happens timerEvent timerIn step namedTimer
 acts-once w (OfClient Wait) ticket out done = client-timer-spends (w .client) Wait ticket out done
 acts-once w (OfClient Ack) ticket out done = client-timer-spends (w .client) Ack ticket out done
 acts-once w OfServer ticket out done = server-timer-spends (w .server) ticket out done
+
+-- What arms afresh leaves no ticket armed that was so before.
+pub armed-afresh : (w : World) → ArmedAfresh w
+unfolding ArmedAfresh answerTo happens step timerIn namedTimer
+armed-afresh w datagram lent out done known = by-timer (renewing known)
+  where
+    renewing : (reading datagram .header .kind ≡ 2) ⊎ (reading datagram .header .kind ≡ 4) → renews (eventOf (reading datagram .header .kind)) ≡ true
+    renewing (inl response) = unfold eventOf serverEvent choose in ap (λ (k : ℕ). renews (eventOf k)) response
+    renewing (inr working) = unfold eventOf serverEvent choose in ap (λ (k : ℕ). renews (eventOf k)) working
+
+    by-timer : renews (eventOf (reading datagram .header .kind)) ≡ true → (kind : TimerKind) (ticket : ℕ)
+        → timerIn w (OfClient kind) ≡ Armed ticket → timerIn (step w (ClientArrive datagram lent out)) (OfClient kind) ≡ Armed ticket → ⊥
+    by-timer r Wait ticket = arrive-spends (w .client) datagram (bytesLent lent (w .clientSlots)) out done r Wait ticket
+    by-timer r Ack ticket = arrive-spends (w .client) datagram (bytesLent lent (w .clientSlots)) out done r Ack ticket

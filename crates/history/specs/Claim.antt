@@ -9,6 +9,7 @@ use Rattle.words.specs.Choice.{choose}
 use Rattle.answers.specs.declared.Answer.the-variants.{Done}
 use Rattle.calls.specs.declared.Notice.the-variants.{Nothing as Untold}
 use Rattle.fragments.specs.Joined.{Leads}
+use Rattle.reader.specs.Reading.{reading}
 use Rattle.timers.specs.declared.Timer.{Timer}
 use Rattle.timers.specs.declared.Timer.the-variants.{Off, Armed}
 use Rattle.client_record.specs.declared.State.{State as ClientState}
@@ -21,7 +22,7 @@ use Rattle.server_record.specs.States.{isIdle}
 use Rattle.server_record.specs.Rules.{sound as serverSound}
 use Rattle.history.specs.Lists.{In}
 use Rattle.history.specs.World.{Started, Dispatched, Replied, Completed, World}
-use Rattle.history.specs.Events.{Event, ClientTimer, ServerTimer}
+use Rattle.history.specs.Events.{Lent, Event, ClientArrive, ClientTimer, ServerTimer}
 use Rattle.history.specs.Steps.{answerTo, noticeOf, step, run}
 
 -- How often a number was dispatched.
@@ -121,6 +122,13 @@ ActsOnce w =
     (timer : TimerOf) (ticket : ℕ) (out : List ℕ) → answerTo w (timerEvent timer ticket out) ≡ Done
     → timerIn (step w (timerEvent timer ticket out)) timer ≡ Armed ticket → ⊥
 
+-- A response, 2, or working, 4, that is taken arms afresh or ends the waiting: no ticket of the client is armed that was so before.
+unfoldable pub ArmedAfresh : World → Type 0
+ArmedAfresh w =
+    (datagram : List ℕ) (lent : Lent) (out : List ℕ) → answerTo w (ClientArrive datagram lent out) ≡ Done
+    → (reading datagram .header .kind ≡ 2) ⊎ (reading datagram .header .kind ≡ 4) → (kind : TimerKind) (ticket : ℕ)
+    → timerIn w (OfClient kind) ≡ Armed ticket → timerIn (step w (ClientArrive datagram lent out)) (OfClient kind) ≡ Armed ticket → ⊥
+
 -- Nothing is armed in a finished call: COMPLETE, FAULT, IDLE.
 abbrev pub finished : ClientState → Bool
 finished Queued = false
@@ -157,6 +165,7 @@ pub record Claim (w : World) (events : List Event) : Type 0 where
   pub late : LateTimers (run w events)
   pub gone : GoneTickets w events
   pub acts : ActsOnce (run w events)
+  pub afresh : ArmedAfresh (run w events)
   pub quiet : Quiet (run w events)
   pub rules : RulesKept (run w events)
   pub order : NeverFall (run w events .dispatches)

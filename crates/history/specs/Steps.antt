@@ -1,5 +1,5 @@
 -- What an event gives, and what it makes of the world. Each side steps by the definition that the contract of its public function
--- cites, or will cite.
+-- cites.
 use Prim.Native.Nat.{ℕ}
 use mathlib.Core.Bool.{Bool}
 use mathlib.Core.List.{List, [], _∷_}

@@ -59,24 +59,3 @@ unfolding fragmentOf
 fragment-rest m f h =
     let left = length-drop (1392 * f) m in
     take-all (length m - 1392 * f) (drop (1392 * f) m) (omega arith) ∙ sym (take-all 1392 (drop (1392 * f) m) (omega arith))
-
--- Bench rows: lengths 0, 1392, 1393, 44544, and serial 65535.
-pub fragments-empty : fragments 0 ≡ 1
-unfolding fragments
-fragments-empty = refl
-
-pub fragments-one : fragments 1392 ≡ 1
-unfolding fragments
-fragments-one = refl
-
-pub fragments-two : fragments 1393 ≡ 2
-unfolding fragments
-fragments-two = refl
-
-pub fragments-largest : fragments 44544 ≡ 32
-unfolding fragments
-fragments-largest = refl
-
-pub serial-wraps : nextSerial 65535 ≡ 0
-unfolding nextSerial
-serial-wraps = refl

@@ -9,9 +9,6 @@ ghost use Rattle.outgoing.specs.Sending.{nextSerial, oneMore, inByte, af
 // A message has at most as many bytes: 32 fragments of 1,392.
 pub const MESSAGE_SIZE: u32 = 44544;
 
-// flags1 of the last of several fragments.
-const FRAGMENT_AND_LAST: u8 = FRAGMENT + LAST_FRAGMENT;
-
 // Length and fragment count of the message; sent is the next fragment to send, so also how many are sent.
 pub struct Outgoing {
     pub length: u32,
@@ -54,10 +51,7 @@ pub fn flags(count: u8, f: u8) -> u8
     if count == 1 {
         return 0;
     }
-    if f as u16 + 1 == count as u16 {
-        return FRAGMENT_AND_LAST;
-    }
-    FRAGMENT
+    flags::with(FRAGMENT, LAST_FRAGMENT, f as u16 + 1 == count as u16)
 }
 
 // The serial of the next request, response or ping.

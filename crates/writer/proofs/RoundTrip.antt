@@ -19,6 +19,7 @@ use Rattle.pdu.specs.declared.Header.{Header}
 use Rattle.reader.specs.declared.Reading.{Reading}
 use Rattle.pdu.specs.Header.{uuidAt, headerOf, frontBytes, numberBytes, hintBytes, backBytes, headerBytes, datagram, bodyOf}
 use Rattle.reader.specs.Reading.{represents, orderIs, groundBy, readBy, reading}
+use Rattle.words.specs.Place.{placed}
 use Rattle.words.proofs.Place.{placed-front}
 use Rattle.writer.specs.Writing.{writeGround, writeBy, writing}
 use Rattle.pdu.proofs.HeaderLaws.{same-header}
@@ -193,6 +194,33 @@ written-read s octets done little =
     header-same s octets (length (drop 80 s)) (r .version-4) (representation 16 (getD s 4 0) (getD s 5 0) (getD s 6 0) order) rest in
     ap (λ (h : Header). headerBytes h (length (drop 80 s)) ++ drop 80 s) header
     ∙ ap (λ (l : List ℕ). l ++ drop 80 s) (front ∙ part-take 80 s 0 (omega arith)) ∙ take-append-drop 80 s
+
+-- So the write of an accepted little-endian datagram's header and body is answered 0, and leaves its bytes at the front of the buffer.
+module _ (s out : List ℕ) (octets : (i : ℕ) → getD s i 0 < 256) (done : reading s .answer ≡ Done) (room : length out ≡ 1472) where
+  write-passes : writeGround (length out) (reading s .header .kind) (reading s .header .authentication) (length (bodyOf s)) ≡ Pass
+  unfolding headerOf
+  write-passes =
+      let r = accepted-readable s done in
+      let is = accepted-reading s done in
+      let kind : reading s .header .kind ≡ getD s 1 0 = ap (λ (x : Reading). x .header .kind) is in
+      let authentication : reading s .header .authentication ≡ getD s 78 0 = ap (λ (x : Reading). x .header .authentication) is in
+      writable-passes (length out) (reading s .header .kind) (reading s .header .authentication) (length (bodyOf s))
+      (record {
+        room = room;
+        known-type = rw kind (r .known-type);
+        unauthenticated = authentication ∙ r .unauthenticated;
+        short = body-short s done;
+      })
+
+  pub write-back : reading s .little ≡ true
+      → (writing (reading s .header) (bodyOf s) out .result ≡ record { answer = Done; length = length s })
+      × (writing (reading s .header) (bodyOf s) out .out ≡ placed 0 s out)
+  unfolding writing writeBy bodyOf
+  write-back little =
+      let r = accepted-readable s done in
+      let size : 80 + length (drop 80 s) ≡ length s = omega (arith, length-drop 80 s, r .whole) in
+      let bytes = written-read s octets done little in
+      rw write-passes (ap (λ (n : ℕ). record { answer = Done; length = n }) size, ap (λ (d : List ℕ). placed 0 d out) bytes)
 
 write-answers : (g : Ground) (h : Header) (body out : List ℕ) → writeBy g h body out .result .answer ≡ answerOf g
 unfolding writeBy
