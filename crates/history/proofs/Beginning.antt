@@ -1,6 +1,6 @@
 -- A fresh world is as every world is known to be.
 use Prim.Native.Nat.{ℕ, _<_}
-use mathlib.Core.Bool.{Bool, true, false≢true}
+use mathlib.Core.Bool.{Bool, true, false, false≢true}
 use mathlib.Core.List.{List, []}
 use mathlib.Core.Path.{_≡_, refl, sym, ap, subst, _∙_}
 use native.Mathlib.Omega.{arith}
@@ -36,20 +36,19 @@ use Rattle.history.specs.Lists.{In}
 use Rattle.history.specs.World.{Started, Dispatched, Replied, World}
 use Rattle.history.specs.Claim.{NeverFall}
 use Rattle.history.specs.Freshness.{NothingHeld, NothingSent, FreshClient, FreshServer, Fresh}
-use Rattle.history.proofs.Holding.{Empty}
-use Rattle.history.proofs.Invariant.{nothing, ClientInv, unanswered, hasData, ServerInv, CallInv, Inv}
+use Rattle.history.proofs.Invariant.{ClientInv, unanswered, hasData, ServerInv, CallInv, Inv}
 
 -- Nothing held keeps the rules of what is held,
 held-sound : (m : Incoming) → NothingHeld m → incomingSound m ≡ true
 unfolding incomingSound
 held-sound m n =
-    both-hold (lastSound (m .last)) (soundFrom (m .last) 0 (m .slots)) (ap lastSound (n .last))
+    both-hold (lastSound (m .last)) (soundFrom (m .last) 0 (m .slots)) (n .last)
     (sound-all (m .last) 0 (m .slots) missing (λ g below h. absurd (false≢true (sym (none-held (m .slots) g (n .none)) ∙ h))))
 
 -- and is nothing at every number.
-held-empty : (m : Incoming) → NothingHeld m → Empty m
+unheld : (m : Incoming) → NothingHeld m → (f : ℕ) → held m f ≡ false
 unfolding held
-held-empty m n = record { none = λ f. none-held (m .slots) f (n .none); last = n .last }
+unheld m n f = none-held (m .slots) f (n .none)
 
 -- No message out keeps the rules of what is sent.
 sent-bounded : (o : Outgoing) → NothingSent o → bounded o ≡ true
@@ -82,7 +81,8 @@ client-fresh c slots starts replies f none = record {
   slotted = f .incoming .slots;
   begun = λ s m. absurd (subst (In s) none m);
   current = λ e. absurd (false≢true (sym e ∙ ap isQueued (f .state)));
-  holds = nothing (held-empty (c .incoming) (f .incoming));
+  unasked = λ e. unheld (c .incoming) (f .incoming);
+  holds = λ e. absurd (false≢true (sym e ∙ ap isQueued (f .state)));
 }
 
 -- a fresh server

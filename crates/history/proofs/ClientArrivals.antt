@@ -1,6 +1,7 @@
 -- An arriving PDU keeps what is known of the world: the client puts only fragments of one reply.
 use Prim.Native.Nat.{ℕ, _≤_, _<_}
 use mathlib.Core.Bool.{Bool, true, false, false≢true}
+use borrow.Author.Tests.{le-ltb}
 use mathlib.Core.List.{List, []}
 use mathlib.Core.Logic.{_⊎_, inl, inr}
 use mathlib.Core.Path.{_≡_, refl, sym, ap, subst, _∙_}
@@ -47,7 +48,7 @@ use Rattle.history.specs.Lists.{In}
 use Rattle.history.specs.World.{Started, Completed, Replied, World}
 use Rattle.history.specs.Steps.{completionsAfter}
 use Rattle.history.specs.Claim.{WholeReply}
-use Rattle.history.proofs.Holding.{PartOf, Empty, holding-whole, Holding, Single, empty-holding, put-holding, other-empty}
+use Rattle.history.proofs.Holding.{PartOf, unheld-none, holding-whole, Holding, Single, empty-holding, put-holding, other-empty}
 use Rattle.history.proofs.Network.{Request, Response}
 use Rattle.history.proofs.Invariant.{ClientHolds, nothing, fragments-of, ClientInv, Inv, clientStep}
 use Rattle.history.proofs.ClientSteps.{GoesOn, goes-on, failed-goes-on, fack-goes-on, working-goes-on, nocall-goes-on}
@@ -56,6 +57,7 @@ use Rattle.history.proofs.ListLaws.{tellsLast, completed-more}
 use Rattle.client.specs.HandUp.{handsUp}
 use Rattle.client.proofs.Growing.{hands-joined}
 use Rattle.incoming.specs.declared.Last.{Last}
+use Rattle.incoming.specs.declared.Last.the-variants.{Unknown, At}
 use Rattle.calls.specs.declared.Notice.{Notice}
 
 -- The client's holdings after a response that passed 16 and 17: fragments of one reply.
@@ -81,17 +83,21 @@ module _ (number : ℕ) (m : Incoming) (slots : List ℕ) (replies : List Replie
       (put-holding m slots (r .message) flags1 f body (same-reply h) kept long whole part small)
 
 -- Where nothing is held, not all is.
-empty-unfinished : (m : Incoming) → Empty m → complete m ≡ false
+unheld-unfinished : (m : Incoming) → ((f : ℕ) → held m f ≡ false) → complete m ≡ false
 unfolding complete
-empty-unfinished m e = ap (λ (l : Last). allTo l (contiguous m)) (e .last)
+unheld-unfinished m none = by-last (m .last)
+  where
+    by-last : (l : Last) → allTo l (contiguous m) ≡ false
+    by-last Unknown = refl
+    by-last (At k) = le-ltb k (contiguous m) (omega (arith, unheld-none m none))
 
 -- Where all is held, what is handed up is the whole of one reply,
 whole-handed : (c : Client) (slots : List ℕ) (starts : List Started) (replies : List Replied) → ClientInv c slots starts replies → complete (c .incoming) ≡ true
     → WholeReply replies (record { number = c .number; bytes = handsUp c slots })
-whole-handed c slots starts replies inv all = by-holds (inv .holds)
+whole-handed c slots starts replies inv all = by-state (isQueued (c .state)) refl
   where
     by-holds : ClientHolds (c .number) (c .incoming) slots replies → WholeReply replies (record { number = c .number; bytes = handsUp c slots })
-    by-holds (nothing e) = absurd (false≢true (sym (empty-unfinished (c .incoming) e) ∙ all))
+    by-holds (nothing e) = absurd (false≢true (sym (unheld-unfinished (c .incoming) (e .none)) ∙ all))
     by-holds (fragments-of r m n whole h) =
         record {
           reply = r;
@@ -101,6 +107,10 @@ whole-handed c slots starts replies inv all = by-holds (inv .holds)
               hands-joined c slots (inv .kept)
               ∙ holding-whole (c .incoming) slots (r .message) h (rules-told c (inv .kept) .incoming) whole all;
         }
+
+    by-state : (queued : Bool) → isQueued (c .state) ≡ queued → WholeReply replies (record { number = c .number; bytes = handsUp c slots })
+    by-state true e = absurd (false≢true (sym (unheld-unfinished (c .incoming) (inv .unasked e)) ∙ all))
+    by-state false e = by-holds (inv .holds e)
 
 -- so it is where "last" is told of such a record.
 completed-known : (w : World) → Inv w → (c : Client) (slots : List ℕ) → ClientInv c slots (w .starts) (w .replies) → (notice : Notice)
@@ -175,11 +185,13 @@ module _ (w : World) (inv : Inv w) (h : Header) (body : List ℕ) (status : ℕ)
               typed = rw (same .call) (now .typed);
               small = rw (same .number) (now .small);
             };
+        unasked = λ e. absurd (false≢true (sym (put-started (complete m) (c .call .idempotent) c m) ∙ e));
         holds =
+            λ q.
             rw (same .number, body-length body short)
             (put-holds (c .number) (c .incoming) (w .clientSlots) (w .replies) (h .flags1) (h .fragment) body (rules-told c kept .incoming)
             (inv .client .slotted) whole (inv .calls .alike) (from .reply) (from .given) (from .number ∙ sym (j .mine)) (from .part) (omega arith) (new .0) (new .1)
-            (inv .client .holds));
+            (inv .client .holds begun));
       }
 
   other : (event : Event) → CanArrive event (w .client) h (bodyLength body) → isQueued (w .client .state) ≡ false

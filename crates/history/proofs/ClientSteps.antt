@@ -1,8 +1,8 @@
 -- What is known of the client stays known at the rows that go on with its call.
 use Prim.Native.Nat.{ℕ}
-use mathlib.Core.Bool.{Bool, true, false}
+use mathlib.Core.Bool.{Bool, true, false, false≢true}
 use mathlib.Core.List.{List}
-use mathlib.Core.Path.{_≡_, refl}
+use mathlib.Core.Path.{_≡_, refl, sym, _∙_}
 use lib.Dec.{ltb}
 use lib.ListN.{length}
 use Rattle.words.specs.Choice.{choose}
@@ -54,7 +54,8 @@ goes-on c d slots starts replies inv begun kept g = record {
         typed = rw (g .call) (now .typed);
         small = rw (g .number) (now .small);
       };
-  holds = rw (g .number, g .incoming) (inv .holds);
+  unasked = λ e. absurd (false≢true (sym (g .started) ∙ e));
+  holds = λ e. rw (g .number, g .incoming) (inv .holds begun);
 }
 
 -- The rows that go on with a call: transmit,

@@ -1,5 +1,5 @@
 -- What a receiver holds of one message.
-use Prim.Native.Nat.{ℕ, _+_, _-_, _<_, _≤_}
+use Prim.Native.Nat.{ℕ, zero, suc, _+_, _-_, _<_, _≤_}
 use mathlib.Core.Bool.{Bool, true, false, false≢true, true≢false}
 use mathlib.Core.List.{List}
 use mathlib.Core.Logic.{_⊎_, inl, inr}
@@ -16,7 +16,8 @@ use Rattle.incoming.specs.declared.Slot.{Slot}
 use Rattle.incoming.specs.declared.Last.{Last}
 use Rattle.incoming.specs.declared.Last.the-variants.{Unknown, At}
 use Rattle.incoming.specs.declared.Incoming.{Incoming}
-use Rattle.incoming.specs.Slots.{missing, allTo, sound, contiguous, complete, lastWith, stored}
+use Rattle.incoming.specs.Slots.{missing, allTo, sound, contiguousFrom, contiguous, complete, lastWith, stored}
+use Rattle.incoming.proofs.SlotLaws.{count-held}
 use Rattle.outgoing.specs.Message.{fragments, fragmentOf, flagsOf}
 use Rattle.outgoing.proofs.OutgoingLaws.{fragments-reach, fragment-most}
 use Rattle.fragments.specs.Judgement.{held, heldAbove, aboveLast, otherLast, lastBelowHeld, contradicts}
@@ -43,6 +44,15 @@ pub record Holding (m : Incoming) (slots message : List ℕ) : Type 0 where
 pub record Empty (m : Incoming) : Type 0 where
   pub none : (f : ℕ) → held m f ≡ false
   pub last : m .last ≡ Unknown
+
+-- Where nothing is held, none is contiguous.
+pub unheld-none : (m : Incoming) → ((f : ℕ) → held m f ≡ false) → contiguous m ≡ 0
+unfolding contiguous held
+unheld-none m none = by-count (contiguousFrom (m .slots)) refl
+  where
+    by-count : (n : ℕ) → contiguousFrom (m .slots) ≡ n → contiguousFrom (m .slots) ≡ 0
+    by-count zero k = k
+    by-count (suc n) k = absurd (false≢true (sym (none 0) ∙ count-held (m .slots) 0 missing (omega (arith, k))))
 
 -- An unknown last is at no number.
 abbrev isKnown : Last → Bool

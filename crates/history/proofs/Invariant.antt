@@ -5,6 +5,7 @@ use mathlib.Core.List.{List}
 use mathlib.Core.Logic.{_⊎_}
 use mathlib.Core.Path.{_≡_}
 use lib.ListN.{length}
+use Rattle.fragments.specs.Judgement.{held}
 use Rattle.incoming.specs.declared.Incoming.{Incoming}
 use Rattle.client_record.specs.declared.Client.{Client}
 use Rattle.client_record.specs.States.{isQueued}
@@ -54,7 +55,8 @@ pub record ClientInv (c : Client) (slots : List ℕ) (starts : List Started) (re
   pub slotted : length (c .incoming .slots) ≡ 32
   pub begun : (s : Started) → In s starts → (isQueued (c .state) ≡ false) × (s .number ≤ c .number)
   pub current : isQueued (c .state) ≡ false → CurrentStart c starts
-  pub holds : ClientHolds (c .number) (c .incoming) slots replies
+  pub unasked : isQueued (c .state) ≡ true → (f : ℕ) → held (c .incoming) f ≡ false
+  pub holds : isQueued (c .state) ≡ false → ClientHolds (c .number) (c .incoming) slots replies
 
 -- The server's call is one that was started.
 pub record CalledStart (s : Server) (starts : List Started) : Type 0 where

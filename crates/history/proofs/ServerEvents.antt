@@ -203,7 +203,8 @@ module _ (w : World) (inv : Inv w) (n : ℕ) (message : List ℕ) (can : CanRepl
         slotted = old .slotted;
         begun = old .begun;
         current = old .current;
-        holds = more (old .holds);
+        unasked = old .unasked;
+        holds = λ e. more (old .holds e);
       }
     where
       more : ClientHolds (w .client .number) (w .client .incoming) (w .clientSlots) (w .replies)

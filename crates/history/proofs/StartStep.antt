@@ -106,7 +106,8 @@ module _ (w : World) (inv : Inv w) (call : Call) (n : ℕ) (message : List ℕ) 
           typed = fair .typed;
           small = next-small (w .client) (w .clientSlots) (w .starts) (w .replies) (inv .client) n can;
         };
-    holds = nothing cleared-none;
+    unasked = λ e. absurd (false≢true e);
+    holds = λ e. nothing cleared-none;
   }
 
   -- the server's call is still one that was started,

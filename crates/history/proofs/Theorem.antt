@@ -1,6 +1,6 @@
 -- The theorem over every list of events.
-use Prim.Native.Nat.{ℕ, zero, suc, _*_, _≤_}
-use mathlib.Core.Bool.{Bool, true, false≢true}
+use Prim.Native.Nat.{ℕ, _*_, _≤_}
+use mathlib.Core.Bool.{Bool, true, false, false≢true}
 use mathlib.Core.List.{List, [], _++_, append-assoc}
 use mathlib.Core.Logic.{_⊎_, inl, inr}
 use mathlib.Core.Path.{_≡_, refl, sym, ap, subst, _∙_}
@@ -10,13 +10,13 @@ use Rattle.fragments.specs.Judgement.{held}
 use Rattle.fragments.specs.Joined.{Leads}
 use Rattle.fragments.proofs.BufferLaws.{handedBelow, joined, joined-front}
 use Rattle.incoming.specs.declared.Incoming.{Incoming}
-use Rattle.incoming.specs.Slots.{missing, contiguous, complete}
-use Rattle.incoming.proofs.SlotLaws.{count-held}
+use Rattle.incoming.specs.Slots.{contiguous, complete}
 use Rattle.timers.specs.declared.Timer.{Timer}
 use Rattle.timers.specs.declared.Timer.the-variants.{Off, Armed}
 use Rattle.timers.proofs.TimerLaws.{ticket-most}
 use Rattle.client_record.specs.declared.State.{State}
 use Rattle.client_record.specs.declared.State.the-variants.{Queued, SendFrags, Dispatched as DispatchedState, ReceiveFrags, AckPending, Complete, Fault}
+use Rattle.client_record.specs.States.{isQueued}
 use Rattle.client_record.proofs.RuleLaws.{rules-told, complete-unarmed, fault-unarmed}
 use Rattle.client_table.specs.declared.TimerKind.the-variants.{Wait, Ack}
 use Rattle.client_table.specs.Local.{namedTimer}
@@ -30,7 +30,7 @@ use Rattle.history.specs.Steps.{run}
 use Rattle.history.specs.Fairness.{Fair}
 use Rattle.history.specs.Freshness.{Fresh}
 use Rattle.history.specs.Claim.{AtMostOnce, WholeMessages, replyHandedUp, RepliesToDispatches, LeadsReply, OneReply, WholeReplies, OnlyGrows, TimerOf, OfClient, OfServer, timerIn, LateTimers, GoneTickets, finished, Quiet, Claim}
-use Rattle.history.proofs.Holding.{Empty}
+use Rattle.history.proofs.Holding.{unheld-none}
 use Rattle.history.proofs.Invariant.{ClientHolds, nothing, fragments-of, Inv}
 use Rattle.history.proofs.Beginning.{fresh-inv}
 use Rattle.history.proofs.Refused.{late-nothing}
@@ -38,14 +38,9 @@ use Rattle.history.proofs.Histories.{run-inv, run-append, fair-append, 
 use Rattle.history.proofs.Tickets.{counterOf, run-counts, run-gone, acts-once, armed-afresh}
 
 -- Where nothing is held nothing is joined.
-empty-joined : (m : Incoming) (slots : List ℕ) → Empty m → joined m slots ≡ []
-unfolding joined contiguous held
-empty-joined m slots e = by-count (contiguous m) refl
-  where
-    by-count : (n : ℕ) → contiguous m ≡ n → handedBelow m slots n ≡ []
-    by-count zero k = unfold handedBelow in refl
-    by-count (suc n) k =
-        absurd (false≢true (sym (e .none 0) ∙ unfold held contiguous in count-held (m .slots) 0 missing (omega (arith, k))))
+unheld-joined : (m : Incoming) (slots : List ℕ) → ((f : ℕ) → held m f ≡ false) → joined m slots ≡ []
+unfolding joined handedBelow
+unheld-joined m slots none = rw (unheld-none m none)
 
 module _ (w : World) (inv : Inv w) where
   joins : replyHandedUp w ≡ joined (w .client .incoming) (w .clientSlots)
@@ -54,11 +49,11 @@ module _ (w : World) (inv : Inv w) where
   -- What the client hands up is nothing, or a leading part of one reply,
   one-reply : OneReply w
   unfolding OneReply
-  one-reply = by-holds (inv .client .holds)
+  one-reply = by-state (isQueued (w .client .state)) refl
     where
       by-holds : ClientHolds (w .client .number) (w .client .incoming) (w .clientSlots) (w .replies)
           → (replyHandedUp w ≡ []) ⊎ LeadsReply w
-      by-holds (nothing e) = inl (joins ∙ empty-joined (w .client .incoming) (w .clientSlots) e)
+      by-holds (nothing e) = inl (joins ∙ unheld-joined (w .client .incoming) (w .clientSlots) (e .none))
       by-holds (fragments-of r m n whole h) =
           let count = contiguous (w .client .incoming) in
           let front =
@@ -74,6 +69,10 @@ module _ (w : World) (inv : Inv w) where
                   whole = sym (take-append-drop (1392 * count) (r .message)) ∙ ap (λ (l : List ℕ). l ++ drop (1392 * count) (r .message)) (sym (joins ∙ front));
                 };
           })
+
+      by-state : (queued : Bool) → isQueued (w .client .state) ≡ queued → (replyHandedUp w ≡ []) ⊎ LeadsReply w
+      by-state true e = inl (joins ∙ unheld-joined (w .client .incoming) (w .clientSlots) (inv .client .unasked e))
+      by-state false e = by-holds (inv .client .holds e)
 
   -- Each dispatch gets the whole message of the one start that has its number.
   whole-messages : WholeMessages w
