@@ -47,7 +47,7 @@ use Rattle.client.proofs.Keeping.{row-sound}
 use Rattle.history.specs.Lists.{In}
 use Rattle.history.specs.World.{Started, Completed, Replied, World}
 use Rattle.history.specs.Steps.{completionsAfter}
-use Rattle.history.specs.Claim.{WholeReply}
+use Rattle.history.specs.Claim.{WholeReply, answered}
 use Rattle.history.proofs.Holding.{PartOf, unheld-none, holding-whole, Holding, Single, empty-holding, put-holding, other-empty}
 use Rattle.history.proofs.Network.{Request, Response}
 use Rattle.history.proofs.Invariant.{ClientHolds, nothing, fragments-of, ClientInv, Inv, clientStep}
@@ -92,7 +92,7 @@ unheld-unfinished m none = by-last (m .last)
     by-last (At k) = le-ltb k (contiguous m) (omega (arith, unheld-none m none))
 
 -- Where all is held, what is handed up is the whole of one reply,
-whole-handed : (c : Client) (slots : List ℕ) (starts : List Started) (replies : List Replied) → ClientInv c slots starts replies → complete (c .incoming) ≡ true
+pub whole-handed : (c : Client) (slots : List ℕ) (starts : List Started) (replies : List Replied) → ClientInv c slots starts replies → complete (c .incoming) ≡ true
     → WholeReply replies (record { number = c .number; bytes = handsUp c slots })
 whole-handed c slots starts replies inv all = by-state (isQueued (c .state)) refl
   where
@@ -137,6 +137,12 @@ unfolding withIncoming putRecord waiting ackPending unarmed choose isQueued
 put-started true true c m = refl
 put-started true false c m = refl
 put-started false idempotent c m = refl
+
+-- Only one that completes its reply ends the call.
+put-ends : (all idempotent : Bool) (c : Client) (m : Incoming) → answered (withIncoming (putRecord all idempotent c) m .state) ≡ true → all ≡ true
+unfolding withIncoming putRecord waiting ackPending unarmed choose
+put-ends true idempotent c m e = refl
+put-ends false idempotent c m e = absurd (false≢true e)
 
 -- The rest of the record stays.
 pub record SameCall (c d : Client) : Type 0 where
@@ -185,6 +191,7 @@ module _ (w : World) (inv : Inv w) (h : Header) (body : List ℕ) (status : ℕ)
               typed = rw (same .call) (now .typed);
               small = rw (same .number) (now .small);
             };
+        whole = put-ends (complete m) (c .call .idempotent) c m;
         unasked = λ e. absurd (false≢true (sym (put-started (complete m) (c .call .idempotent) c m) ∙ e));
         holds =
             λ q.

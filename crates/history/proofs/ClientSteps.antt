@@ -2,7 +2,7 @@
 use Prim.Native.Nat.{ℕ}
 use mathlib.Core.Bool.{Bool, true, false, false≢true}
 use mathlib.Core.List.{List}
-use mathlib.Core.Path.{_≡_, refl, sym, _∙_}
+use mathlib.Core.Path.{_≡_, refl, sym, ap, _∙_}
 use lib.Dec.{ltb}
 use lib.ListN.{length}
 use Rattle.words.specs.Choice.{choose}
@@ -13,7 +13,7 @@ use Rattle.client_record.specs.declared.Client.{Client}
 use Rattle.client_record.specs.States.{isQueued}
 use Rattle.client_record.specs.Rules.{sound}
 use Rattle.client_record.specs.Record.{waiting, unarmed}
-use Rattle.client_record.proofs.StateLaws.{waiting-state}
+use Rattle.client_record.proofs.StateLaws.{ack-pending-state, waiting-state}
 use Rattle.client_table.specs.declared.TimerKind.{TimerKind}
 use Rattle.client_table.specs.declared.TimerKind.the-variants.{Wait, Ack as AckKind}
 use Rattle.client_table.specs.Local.{namedBy}
@@ -22,6 +22,7 @@ use Rattle.client_steps.specs.Plan.{accepted, withOutgoing, withWaits, failed}
 use Rattle.client_steps.specs.Rows.{transmitted, pinged, waitPlan, ackPlan, timerRow}
 use Rattle.client_arrivals.specs.Rows.{acknowledged, fackPlan, withResends, workingPlan, resent, nocallPlan}
 use Rattle.history.specs.World.{Started, Replied}
+use Rattle.history.specs.Claim.{answered}
 use Rattle.history.proofs.Invariant.{ClientInv}
 
 -- A client that goes on with its call: the call, what is held and the message's length stay.
@@ -32,6 +33,7 @@ pub record GoesOn (c d : Client) : Type 0 where
   pub incoming : d .incoming ≡ c .incoming
   pub size : d .outgoing .length ≡ c .outgoing .length
   pub started : isQueued (d .state) ≡ false
+  pub ends : answered (d .state) ≡ true → answered (c .state) ≡ true
 
 -- What is known of it stays known.
 pub goes-on : (c d : Client) (slots : List ℕ) (starts : List Started) (replies : List Replied) → ClientInv c slots starts replies
@@ -55,6 +57,7 @@ goes-on c d slots starts replies inv begun kept g = record {
         small = rw (g .number) (now .small);
       };
   unasked = λ e. absurd (false≢true (sym (g .started) ∙ e));
+  whole = λ e. rw (g .incoming) (inv .whole (g .ends e));
   holds = λ e. rw (g .number, g .incoming) (inv .holds begun);
 }
 
@@ -68,6 +71,7 @@ transmitted-goes-on true c e = record {
   incoming = refl;
   size = refl;
   started = refl;
+  ends = λ q. absurd (false≢true q);
 }
 transmitted-goes-on false c e = record {
   activity = refl;
@@ -76,6 +80,7 @@ transmitted-goes-on false c e = record {
   incoming = refl;
   size = refl;
   started = e;
+  ends = λ q. q;
 }
 
 -- a call that fails,
@@ -88,6 +93,7 @@ failed-goes-on c notice = record {
   incoming = refl;
   size = refl;
   started = refl;
+  ends = λ q. absurd (false≢true q);
 }
 
 -- a timer,
@@ -103,6 +109,7 @@ timer-goes-on Wait c named = by-count (ltb (c .waits) 5)
       incoming = refl;
       size = refl;
       started = waiting-state (c .state) named .0;
+      ends = λ q. q;
     }
     by-count false = failed-goes-on c (Cause 1)
 timer-goes-on AckKind c named = record {
@@ -112,6 +119,7 @@ timer-goes-on AckKind c named = record {
   incoming = refl;
   size = refl;
   started = refl;
+  ends = λ q. ap answered (ack-pending-state (c .state) named);
 }
 
 -- fack,
@@ -124,6 +132,7 @@ fack-goes-on c g e = record {
   incoming = refl;
   size = refl;
   started = e;
+  ends = λ q. q;
 }
 
 -- working
@@ -136,6 +145,7 @@ working-goes-on c = record {
   incoming = refl;
   size = refl;
   started = refl;
+  ends = λ q. absurd (false≢true q);
 }
 
 -- and nocall.
@@ -151,5 +161,6 @@ nocall-goes-on c = by-count (ltb (c .resends) 5)
       incoming = refl;
       size = refl;
       started = refl;
+      ends = λ q. absurd (false≢true q);
     }
     by-count false = failed-goes-on c (Cause 2)

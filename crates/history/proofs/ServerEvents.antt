@@ -204,6 +204,7 @@ module _ (w : World) (inv : Inv w) (n : ℕ) (message : List ℕ) (can : CanRepl
         begun = old .begun;
         current = old .current;
         unasked = old .unasked;
+        whole = old .whole;
         holds = λ e. more (old .holds e);
       }
     where

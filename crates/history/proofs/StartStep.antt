@@ -107,6 +107,7 @@ module _ (w : World) (inv : Inv w) (call : Call) (n : ℕ) (message : List ℕ) 
           small = next-small (w .client) (w .clientSlots) (w .starts) (w .replies) (inv .client) n can;
         };
     unasked = λ e. absurd (false≢true e);
+    whole = λ e. absurd (false≢true e);
     holds = λ e. nothing cleared-none;
   }
 

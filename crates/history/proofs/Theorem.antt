@@ -29,10 +29,11 @@ use Rattle.history.specs.Events.{Event}
 use Rattle.history.specs.Steps.{run}
 use Rattle.history.specs.Fairness.{Fair}
 use Rattle.history.specs.Freshness.{Fresh}
-use Rattle.history.specs.Claim.{AtMostOnce, WholeMessages, replyHandedUp, RepliesToDispatches, LeadsReply, OneReply, WholeReplies, OnlyGrows, TimerOf, OfClient, OfServer, timerIn, LateTimers, GoneTickets, finished, Quiet, Claim}
+use Rattle.history.specs.Claim.{AtMostOnce, WholeMessages, replyHandedUp, RepliesToDispatches, LeadsReply, OneReply, WholeReplies, WholeWhereAnswered, OnlyGrows, TimerOf, OfClient, OfServer, timerIn, LateTimers, GoneTickets, finished, Quiet, Claim}
 use Rattle.history.proofs.Holding.{unheld-none}
 use Rattle.history.proofs.Invariant.{ClientHolds, nothing, fragments-of, Inv}
 use Rattle.history.proofs.Beginning.{fresh-inv}
+use Rattle.history.proofs.ClientArrivals.{whole-handed}
 use Rattle.history.proofs.Refused.{late-nothing}
 use Rattle.history.proofs.Histories.{run-inv, run-append, fair-append, run-grows}
 use Rattle.history.proofs.Tickets.{counterOf, run-counts, run-gone, acts-once, armed-afresh}
@@ -136,7 +137,7 @@ only-grows w events fair before after split same =
 
 -- After every fair list of events of a fresh world the claim holds.
 pub theorem : (w : World) → Fresh w → (events : List Event) → Fair w events → Claim w events
-unfolding AtMostOnce RepliesToDispatches WholeReplies LateTimers
+unfolding AtMostOnce RepliesToDispatches WholeReplies WholeWhereAnswered LateTimers
 theorem w fresh events fair =
     let start = fresh-inv w fresh in
     let inv = run-inv w events start fair in
@@ -146,6 +147,7 @@ theorem w fresh events fair =
       replied = inv .calls .replied;
       reply = one-reply (run w events) inv;
       complete = inv .completed;
+      answered = λ e. whole-handed (run w events .client) (run w events .clientSlots) (run w events .starts) (run w events .replies) (inv .client) (inv .client .whole e);
       grows = only-grows w events fair;
       late = late-nothing (run w events);
       gone = gone-tickets w events start fair;

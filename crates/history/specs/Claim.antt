@@ -78,6 +78,20 @@ pub record WholeReply (replies : List Replied) (c : Completed) : Type 0 where
 unfoldable pub WholeReplies : World → Type 0
 WholeReplies w = (c : Completed) → In c (w .completions) → WholeReply (w .replies) c
 
+-- It is so still in ACK_PENDING and COMPLETE, where the call has its reply.
+abbrev pub answered : ClientState → Bool
+answered Queued = false
+answered SendFrags = false
+answered DispatchedState = false
+answered ReceiveFrags = false
+answered AckPending = true
+answered Complete = true
+answered FaultState = false
+
+unfoldable pub WholeWhereAnswered : World → Type 0
+WholeWhereAnswered w =
+    answered (w .client .state) ≡ true → WholeReply (w .replies) (record { number = w .client .number; bytes = replyHandedUp w })
+
 -- It only grows: while no further start is accepted, what was handed up before leads what is handed up now.
 unfoldable pub OnlyGrows : World → List Event → Type 0
 OnlyGrows w events =
@@ -161,6 +175,7 @@ pub record Claim (w : World) (events : List Event) : Type 0 where
   pub replied : RepliesToDispatches (run w events)
   pub reply : OneReply (run w events)
   pub complete : WholeReplies (run w events)
+  pub answered : WholeWhereAnswered (run w events)
   pub grows : OnlyGrows w events
   pub late : LateTimers (run w events)
   pub gone : GoneTickets w events
