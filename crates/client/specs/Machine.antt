@@ -1,7 +1,6 @@
 -- What each event of the client gives and leaves, for all that a caller can hand in.
 use Prim.Native.Nat.{ℕ}
 use mathlib.Core.List.{List, []}
-use mathlib.Core.Path.{_≡_}
 use lib.ListN.{length}
 use Rattle.answers.specs.declared.Ground.{Ground}
 use Rattle.bodies.specs.Status.{statusReading}

@@ -11,7 +11,6 @@ use Rattle.fragments.specs.Joined.{Leads}
 use Rattle.fragments.proofs.BufferLaws.{handedBelow, joined, joined-front}
 use Rattle.incoming.specs.declared.Incoming.{Incoming}
 use Rattle.incoming.specs.Slots.{contiguous, complete}
-use Rattle.timers.specs.declared.Timer.{Timer}
 use Rattle.timers.specs.declared.Timer.the-variants.{Off, Armed}
 use Rattle.timers.proofs.TimerLaws.{ticket-most}
 use Rattle.client_record.specs.declared.State.{State}

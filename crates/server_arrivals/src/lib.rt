@@ -13,7 +13,7 @@ use server_steps::Send;
 use server_rows::Row;
 use timers::Timer;
 ghost use mathlib.Core.Path.{_≡_};
-ghost use Rattle.server_arrivals.specs.Rows.{callOf, begun as begunRecord, withIncoming, putState, putNotice, fackFor, putPlan, requestPlan, beginPlan, workingPlan, nocallPlan, fackPlan, ackPlan};
+ghost use Rattle.server_arrivals.specs.Rows.{callOf, begun as begunRecord, withIncoming, putState, putNotice, fackFor, putPlan, requestPlan, beginPlan, fackPlan, ackPlan};
 ghost use Rattle.server_arrivals.specs.Table.{arrivalRow, arrivalPlan};
 
 // The call that a request carries.

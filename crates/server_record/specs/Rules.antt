@@ -1,5 +1,4 @@
 -- The record rules of the server: a record that breaks one is refused with 2.
-use Prim.Native.Nat.{ℕ}
 use mathlib.Core.Bool.{Bool}
 use lib.Dec.{ltb, leb}
 use Rattle.words.specs.Choice.{both, either}

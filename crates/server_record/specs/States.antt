@@ -2,7 +2,6 @@
 use mathlib.Core.Bool.{Bool, true, false}
 use Rattle.server_record.specs.declared.Idle.{Idle}
 use Rattle.server_record.specs.declared.Idle.the-variants.{Fresh, Spent, Repeatable}
-use Rattle.server_record.specs.declared.Reply.{Reply}
 use Rattle.server_record.specs.declared.State.{State}
 use Rattle.server_record.specs.declared.State.the-variants.{Idle as IdleState, Collect, Running, Replying, Held}
 

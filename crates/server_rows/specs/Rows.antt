@@ -1,5 +1,4 @@
 -- The order and the row that an arriving PDU has for a record.
-use mathlib.Core.Bool.{Bool}
 use Rattle.flags.specs.Flags.{idempotent, hasFlag}
 use Rattle.pdu.specs.declared.Header.{Header}
 use Rattle.server_record.specs.declared.Server.{Server}

@@ -6,7 +6,7 @@ use server_record::Server;
 use server_record::State;
 ghost use mathlib.Core.Path.{_≡_};
 ghost use Rattle.server_rows.specs.Events.{clientEvent, eventOf};
-ghost use Rattle.server_rows.specs.Table.{orderBy, orderOf, requestNewer, requestAgain, requestIdle, requestEqual, requestRow, pingEqual, pingRow, whereReplied, acknowledgementRow, finishRow, fackRow, ackRow, rowOf};
+ghost use Rattle.server_rows.specs.Table.{orderBy, orderOf, requestNewer, requestAgain, requestIdle, requestEqual, requestRow, pingEqual, pingRow, whereReplied, acknowledgementRow, finishRow, rowOf};
 ghost use Rattle.server_rows.specs.Rows.{orderFor, rowFor};
 
 // What an arriving PDU is to the server.

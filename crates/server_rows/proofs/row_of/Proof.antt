@@ -1,5 +1,4 @@
 -- `server_rows::row_of` meets its contract.
-use Rattle.words.proofs.Tests.{tests}
 use Rattle.server_rows.specs.Table.{fackRow, ackRow, rowOf}
 use borrow.Author.Needs.{needs}
 use Rattle.server_rows.proofs.row_of.Statement.{statement}
