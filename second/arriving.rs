@@ -4,12 +4,23 @@ use crate::codec::{flags1, pdu_type, ByteOrder, Header, Uuid, BODY_LIMIT, HEADER
 use crate::datagram::{datagram, u16_bytes};
 use crate::defect::{Defect, Draft, DEFECTS};
 use crate::random::Random;
+use crate::record::Record;
+use crate::side::Side;
 
 /// The fragment bits of a request or response that is a whole message, one of several fragments, or
 /// the last of them.
 pub const WHOLE: u8 = 0;
 pub const ONE_OF_SEVERAL: u8 = flags1::FRAGMENT;
 pub const LAST_OF_SEVERAL: u8 = flags1::FRAGMENT | flags1::LAST_FRAGMENT;
+
+/// The fragment bits of one of so many fragments.
+pub fn bits_of(number: u16, count: u16) -> u8 {
+    match (count, number + 1 == count) {
+        (1, _) => WHOLE,
+        (_, false) => ONE_OF_SEVERAL,
+        (_, true) => LAST_OF_SEVERAL,
+    }
+}
 
 pub const IMPOSSIBLE_NUMBERS: [u16; 5] = [32, 33, 255, 256, 65_535];
 
@@ -49,7 +60,7 @@ impl Arriving {
     }
 
     /// A PDU of a call with a body of the type; what is not judged is anything.
-    pub fn of_call(pdu_type: u8, activity: Uuid, number: u32, random: &mut Random) -> Arriving {
+    fn of_call(pdu_type: u8, activity: Uuid, number: u32, random: &mut Random) -> Arriving {
         let order = random.pick(&[ByteOrder::Little, ByteOrder::Big]);
         let mut header = random.header(pdu_type);
         header.activity = activity;
@@ -64,6 +75,54 @@ impl Arriving {
             order,
             body,
         }
+    }
+
+    /// A PDU of the record's call with a body of the type; what is not judged is anything.
+    pub fn of_type<S: Side>(pdu_type: u8, record: &Record<S>, random: &mut Random) -> Arriving {
+        Arriving::of_call(pdu_type, record.activity, record.number, random)
+    }
+
+    /// A fack that mostly fits what is out.
+    pub fn fack<S: Side>(record: &Record<S>, random: &mut Random) -> Arriving {
+        let count = u16::from(record.outgoing.fragments);
+        let acknowledged = u16::from(record.outgoing.acknowledged);
+        let number = random.pick(&[
+            65_535,
+            0,
+            acknowledged.wrapping_sub(1),
+            acknowledged,
+            count.wrapping_sub(1),
+            count.wrapping_sub(1),
+            count,
+        ]);
+        Arriving::fack_of(number, record, random)
+    }
+
+    /// A fack with the number given.
+    pub fn fack_of<S: Side>(number: u16, record: &Record<S>, random: &mut Random) -> Arriving {
+        let mut arriving = Arriving::of_type(pdu_type::FACK, record, random);
+        arriving.header.fragment_number = number;
+        arriving
+    }
+
+    /// A fack of more than is out.
+    pub fn fack_of_more<S: Side>(record: &Record<S>, random: &mut Random) -> Arriving {
+        let count = u16::from(record.outgoing.fragments);
+        let number = random.pick(&[count, count + 1, 32, 255, 65_534]);
+        Arriving::fack_of(number, record, random)
+    }
+
+    /// A fack whose body is malformed in one of so many ways.
+    pub fn malformed_fack<S: Side>(
+        way: usize,
+        record: &Record<S>,
+        random: &mut Random,
+    ) -> Arriving {
+        let count = u16::from(record.outgoing.fragments);
+        let number = random.pick(&[65_535, 0, count]);
+        let mut arriving = Arriving::fack_of(number, record, random);
+        arriving.damage_fack(way, random);
+        arriving
     }
 
     /// The same PDU from a sender of the byte order given.
@@ -94,7 +153,7 @@ impl Arriving {
     }
 
     /// The body of a fack becomes malformed in one of so many ways.
-    pub fn damage_fack(&mut self, way: usize, random: &mut Random) {
+    fn damage_fack(&mut self, way: usize, random: &mut Random) {
         let body = &mut self.body;
         match way {
             0 => body[0] = random.pick(&[1, 4, 255]),

@@ -1,14 +1,14 @@
 //! Writes the commands of a script and takes the same steps itself, so that it knows the records
 //! that the next event meets.
 
-use crate::client_command::ClientEvent;
 use crate::codec::{Header, PDU_LIMIT};
 use crate::command::{encode, Command, Setting};
+use crate::event::Event;
 use crate::incoming::SLOT_BUFFER_LENGTH;
 use crate::random::Random;
 use crate::refusal::Refusal;
+use crate::scripted::Scripted;
 use crate::sent::Effect;
-use crate::server_command::ServerEvent;
 use crate::stage::Stage;
 use std::marker::PhantomData;
 
@@ -84,24 +84,14 @@ impl<Kind> Author<Kind> {
         true
     }
 
-    /// What an event of the client gives, if it was written.
-    pub fn client_event(&mut self, event: &ClientEvent) -> Option<Result<Effect, Refusal>> {
-        self.add_event(&Command::Client(event.clone()))
-            .then(|| self.stage.client_event(event))
+    /// What an event of a side gives, if it was written.
+    pub fn event_of<S: Scripted>(&mut self, event: &Event<S>) -> Option<Result<Effect, Refusal>> {
+        self.add_event(&S::command(event.clone()))
+            .then(|| self.stage.event(event))
     }
 
-    /// What an event of the server gives, if it was written.
-    pub fn server_event(&mut self, event: &ServerEvent) -> Option<Result<Effect, Refusal>> {
-        self.add_event(&Command::Server(event.clone()))
-            .then(|| self.stage.server_event(event))
-    }
-
-    pub fn client_hand_up(&mut self, fragment_number: u8) {
-        self.add_event(&Command::ClientHandUp { fragment_number });
-    }
-
-    pub fn server_hand_up(&mut self, fragment_number: u8) {
-        self.add_event(&Command::ServerHandUp { fragment_number });
+    pub fn hand_up_of<S: Scripted>(&mut self, fragment_number: u8) {
+        self.add_event(&S::hand_up_command(fragment_number));
     }
 
     fn lend(&mut self, pdu_length: u16, slot_buffer_length: u32) {
@@ -153,13 +143,4 @@ impl<Kind> Author<Kind> {
         };
         self.add_event(&command);
     }
-}
-
-/// A late ticket beside the right one.
-pub fn late_ticket(ticket: u64, random: &mut Random) -> u64 {
-    random.pick(&[
-        ticket.wrapping_sub(1),
-        ticket.wrapping_add(1),
-        ticket ^ 1 << 32,
-    ])
 }

@@ -1,11 +1,11 @@
 //! The client record: its states and its rules.
 
 use crate::codec::Uuid;
-use crate::incoming::Incoming;
-use crate::outgoing::Outgoing;
+use crate::record::Record;
 use crate::rule::Rule;
 use crate::sent::Call;
-use crate::timer::{Tickets, Timer, RETRY_LIMIT};
+use crate::side::{MessageOut, Side, Words};
+use crate::timer::{Timer, RETRY_LIMIT};
 
 #[derive(Clone, Copy, Debug, PartialEq, Eq)]
 pub enum State {
@@ -62,18 +62,6 @@ impl State {
     }
 }
 
-/// Whether a record in the state can break the rule and no other.
-pub fn can_break_alone(rule: Rule, state: State) -> bool {
-    match rule {
-        Rule::SentBelow => state == State::SendFrags,
-        Rule::WaitState => !state.names(TimerKind::Wait),
-        Rule::AckState => !state.names(TimerKind::Ack),
-        Rule::WaitTicket => state.names(TimerKind::Wait),
-        Rule::AckTicket => state.names(TimerKind::Ack),
-        _ => true,
-    }
-}
-
 #[derive(Clone, Copy, Debug, PartialEq, Eq)]
 pub enum TimerKind {
     Wait,
@@ -89,93 +77,108 @@ impl TimerKind {
     }
 }
 
+/// The event that only a client has: it starts a call with a message of so many bytes.
 #[derive(Clone, Debug, PartialEq, Eq)]
-pub struct Client {
-    pub state: State,
-    pub activity: Uuid,
-    /// Means nothing in QUEUED, like the call.
-    pub number: u32,
+pub struct Start {
     pub call: Call,
-    pub outgoing: Outgoing,
-    pub incoming: Incoming,
+    pub length: u32,
+}
+
+/// The fields that only a client record has.
+#[derive(Clone, Debug, PartialEq, Eq)]
+pub struct ClientFields {
     /// The WAIT count.
     pub waits: u8,
-    pub resends: u8,
-    pub tickets: Tickets,
     pub wait: Timer,
     pub ack: Timer,
 }
 
+/// The side that starts calls.
+#[derive(Clone, Copy, Debug, PartialEq, Eq)]
+pub struct ClientSide;
+
+/// The record of a client.
+pub type Client = Record<ClientSide>;
+
 impl Client {
+    /// A client that has had no call.
     pub fn fresh(activity: Uuid, ticket_counter: u64) -> Client {
-        Client {
-            state: State::Queued,
-            activity,
-            number: 0,
-            call: Call::none(),
-            outgoing: Outgoing::none(),
-            incoming: Incoming::empty(),
+        let own = ClientFields {
             waits: 0,
-            resends: 0,
-            tickets: Tickets {
-                counter: ticket_counter,
-            },
             wait: None,
             ack: None,
-        }
+        };
+        Client::fresh_of(activity, ticket_counter, own)
+    }
+}
+
+impl Side for ClientSide {
+    type State = State;
+    type Own = ClientFields;
+    type TimerKind = TimerKind;
+    type OwnEvent = Start;
+
+    const WORDS: Words = Words {
+        side: "client",
+        first_event: "start",
+        beginning: "start",
+        received: "response",
+        raising: &["transmit", "timer"],
+        arming: &["transmit", "arrive", "timer"],
+    };
+    const STATES: &'static [State] = &STATES;
+    const FRESH: State = State::Queued;
+    const SENDING: State = State::SendFrags;
+    const TIMERS: &'static [TimerKind] = &[TimerKind::Wait, TimerKind::Ack];
+    const COUNT_RULES: &'static [Rule] = &[Rule::WaitCount, Rule::Resends];
+    const TIMER_RULES: &'static [Rule] = &[
+        Rule::WaitState,
+        Rule::AckState,
+        Rule::WaitTicket,
+        Rule::AckTicket,
+    ];
+
+    fn state_name(state: State) -> &'static str {
+        state.name()
     }
 
-    pub fn timer_of(&self, kind: TimerKind) -> Timer {
+    fn names(state: State, kind: TimerKind) -> bool {
+        state.names(kind)
+    }
+
+    fn timer_of(client: &Client, kind: TimerKind) -> Timer {
         match kind {
-            TimerKind::Wait => self.wait,
-            TimerKind::Ack => self.ack,
+            TimerKind::Wait => client.own.wait,
+            TimerKind::Ack => client.own.ack,
         }
     }
 
-    /// All rules that the record breaks.
-    pub fn broken_rules(&self) -> Vec<Rule> {
-        let out = &self.outgoing;
-        let rules = [
-            (Rule::WaitCount, self.waits > RETRY_LIMIT),
-            (Rule::Resends, self.resends > RETRY_LIMIT),
-            (Rule::Sent, out.sent > out.fragments),
-            (
-                Rule::SentBelow,
-                self.state == State::SendFrags && out.sent == out.fragments,
-            ),
-            (Rule::Acknowledged, out.acknowledged > out.fragments),
-            (Rule::FragmentCount, !self.fragment_count_is_right()),
-            (Rule::KnownLast, self.incoming.last_is_too_high()),
-            (Rule::HeldLength, self.incoming.holds_one_too_long()),
-            (
-                Rule::HeldAboveLast,
-                self.incoming.holds_one_above_the_last(),
-            ),
-            (Rule::WaitState, self.is_armed_elsewhere(TimerKind::Wait)),
-            (Rule::AckState, self.is_armed_elsewhere(TimerKind::Ack)),
-            (Rule::WaitTicket, !self.tickets.reach(self.wait)),
-            (Rule::AckTicket, !self.tickets.reach(self.ack)),
-        ];
-        rules
-            .into_iter()
-            .filter(|(_, is_broken)| *is_broken)
-            .map(|(rule, _)| rule)
-            .collect()
-    }
-
-    pub fn is_sound(&self) -> bool {
-        self.broken_rules().is_empty()
-    }
-
-    /// A message is out in every state but QUEUED.
-    fn fragment_count_is_right(&self) -> bool {
-        match self.state {
-            State::Queued => self.outgoing.fragments == 0,
-            _ => self.outgoing.count_is_the_lengths(),
+    fn message_out(state: State) -> MessageOut {
+        match state {
+            State::Queued => MessageOut::Never,
+            _ => MessageOut::Always,
         }
     }
 
-    fn is_armed_elsewhere(&self, kind: TimerKind) -> bool {
-        self.timer_of(kind).is_some() && !self.state.names(kind)
+    fn breaks_own(client: &Client, rule: Rule) -> bool {
+        match rule {
+            Rule::WaitCount => client.own.waits > RETRY_LIMIT,
+            Rule::Resends => client.resends > RETRY_LIMIT,
+            Rule::WaitState => client.is_armed_elsewhere(TimerKind::Wait),
+            Rule::AckState => client.is_armed_elsewhere(TimerKind::Ack),
+            Rule::WaitTicket => client.is_armed_above(TimerKind::Wait),
+            Rule::AckTicket => client.is_armed_above(TimerKind::Ack),
+            _ => false,
+        }
+    }
+
+    fn can_break_alone(rule: Rule, state: State) -> bool {
+        match rule {
+            Rule::WaitState => !state.names(TimerKind::Wait),
+            Rule::AckState => !state.names(TimerKind::Ack),
+            Rule::WaitTicket => state.names(TimerKind::Wait),
+            Rule::AckTicket => state.names(TimerKind::Ack),
+            _ => true,
+        }
     }
 }

@@ -201,57 +201,28 @@ pub fn put_pdu(header: &Header, body: &[u8], lent: &mut [u8]) -> usize {
 fn written_header(header: &Header, body_length: u16) -> HeaderBytes {
     let [serial_high, serial_low] = header.serial.to_be_bytes();
     let mut bytes = [0; HEADER_LENGTH];
-    bytes[offset::VERSION] = VERSION;
-    bytes[offset::TYPE] = header.pdu_type;
-    bytes[offset::FLAGS1] = header.flags1;
-    bytes[offset::FLAGS2] = header.flags2;
-    put(
-        &mut bytes,
-        offset::REPRESENTATION,
-        ByteOrder::Little.representation(),
-    );
-    bytes[offset::SERIAL_HIGH] = serial_high;
-    put(&mut bytes, offset::OBJECT, header.object);
-    put(&mut bytes, offset::INTERFACE, header.interface);
-    put(&mut bytes, offset::ACTIVITY, header.activity);
-    put(
-        &mut bytes,
-        offset::SERVER_BOOT,
-        header.server_boot.to_le_bytes(),
-    );
-    put(
-        &mut bytes,
-        offset::INTERFACE_VERSION,
-        header.interface_version.to_le_bytes(),
-    );
-    put(
-        &mut bytes,
-        offset::CALL_NUMBER,
-        header.call_number.to_le_bytes(),
-    );
-    put(
-        &mut bytes,
-        offset::OPERATION,
-        header.operation.to_le_bytes(),
-    );
-    put(
-        &mut bytes,
-        offset::INTERFACE_HINT,
-        header.interface_hint.to_le_bytes(),
-    );
-    put(
-        &mut bytes,
-        offset::ACTIVITY_HINT,
-        header.activity_hint.to_le_bytes(),
-    );
-    put(&mut bytes, offset::BODY_LENGTH, body_length.to_le_bytes());
-    put(
-        &mut bytes,
-        offset::FRAGMENT_NUMBER,
-        header.fragment_number.to_le_bytes(),
-    );
-    bytes[offset::AUTHENTICATION] = header.authentication;
-    bytes[offset::SERIAL_LOW] = serial_low;
+    let mut put = |at: usize, field: &[u8]| bytes[at..at + field.len()].copy_from_slice(field);
+    put(offset::VERSION, &[VERSION]);
+    put(offset::TYPE, &[header.pdu_type]);
+    put(offset::FLAGS1, &[header.flags1]);
+    put(offset::FLAGS2, &[header.flags2]);
+    put(offset::REPRESENTATION, &ByteOrder::Little.representation());
+    put(offset::SERIAL_HIGH, &[serial_high]);
+    put(offset::OBJECT, &header.object);
+    put(offset::INTERFACE, &header.interface);
+    put(offset::ACTIVITY, &header.activity);
+    put(offset::SERVER_BOOT, &header.server_boot.to_le_bytes());
+    let version = header.interface_version.to_le_bytes();
+    put(offset::INTERFACE_VERSION, &version);
+    put(offset::CALL_NUMBER, &header.call_number.to_le_bytes());
+    put(offset::OPERATION, &header.operation.to_le_bytes());
+    put(offset::INTERFACE_HINT, &header.interface_hint.to_le_bytes());
+    put(offset::ACTIVITY_HINT, &header.activity_hint.to_le_bytes());
+    put(offset::BODY_LENGTH, &body_length.to_le_bytes());
+    let fragment_number = header.fragment_number.to_le_bytes();
+    put(offset::FRAGMENT_NUMBER, &fragment_number);
+    put(offset::AUTHENTICATION, &[header.authentication]);
+    put(offset::SERIAL_LOW, &[serial_low]);
     bytes
 }
 
@@ -282,8 +253,4 @@ fn array_at<const LENGTH: usize>(bytes: &HeaderBytes, at: usize) -> [u8; LENGTH]
     let mut array = [0; LENGTH];
     array.copy_from_slice(&bytes[at..at + LENGTH]);
     array
-}
-
-fn put<const LENGTH: usize>(bytes: &mut HeaderBytes, at: usize, field: [u8; LENGTH]) {
-    bytes[at..at + LENGTH].copy_from_slice(&field);
 }

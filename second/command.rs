@@ -1,12 +1,17 @@
 //! The commands of a script, decoded from their bytes and encoded into them.
 
-use crate::client_command::{self, ClientEvent};
-use crate::client_record::Client;
+use crate::client_command;
+use crate::client_record::{Client, ClientSide};
 use crate::codec::{Header, Uuid};
+use crate::event::Event;
+use crate::event_command::{
+    decode_arrive, decode_datagram, decode_transmit, encode_datagram, encode_event,
+};
 use crate::fack::Held;
 use crate::fields::{Bad, Fields};
-use crate::server_command::{self, ServerEvent};
-use crate::server_record::Server;
+use crate::server_command;
+use crate::server_record::{Answer, Server, ServerSide};
+use crate::write_command;
 
 const FRESH_CLIENT: u8 = b'C';
 const CLIENT_RECORD: u8 = b'c';
@@ -37,11 +42,11 @@ pub const LONG_LENGTH_LIMIT: u32 = 65_536;
 #[derive(Clone, Debug, PartialEq, Eq)]
 pub enum Command<'a> {
     Set(Setting),
-    Client(ClientEvent<'a>),
+    Client(Event<'a, ClientSide>),
     ClientHandUp {
         fragment_number: u8,
     },
-    Server(ServerEvent<'a>),
+    Server(Event<'a, ServerSide>),
     ServerHandUp {
         fragment_number: u8,
     },
@@ -117,26 +122,32 @@ fn decode<'a>(byte: u8, fields: &mut Fields<'a>) -> Result<Command<'a>, Bad> {
         READ => Ok(Command::Read {
             datagram: decode_datagram(fields)?,
         }),
-        WRITE => decode_write(fields),
+        WRITE => write_command::decode_write(fields),
         FACK => decode_fack(fields),
         _ => Err(Bad),
     }
 }
 
-fn decode_client_event<'a>(byte: u8, fields: &mut Fields<'a>) -> Result<ClientEvent<'a>, Bad> {
+fn decode_client_event<'a>(
+    byte: u8,
+    fields: &mut Fields<'a>,
+) -> Result<Event<'a, ClientSide>, Bad> {
     match byte {
         CLIENT_START => client_command::decode_start(fields),
-        CLIENT_TRANSMIT => client_command::decode_transmit(fields),
-        CLIENT_ARRIVE => client_command::decode_arrive(fields),
+        CLIENT_TRANSMIT => decode_transmit(fields),
+        CLIENT_ARRIVE => decode_arrive(fields),
         CLIENT_TIMER => client_command::decode_timer(fields),
         _ => Err(Bad),
     }
 }
 
-fn decode_server_event<'a>(byte: u8, fields: &mut Fields<'a>) -> Result<ServerEvent<'a>, Bad> {
+fn decode_server_event<'a>(
+    byte: u8,
+    fields: &mut Fields<'a>,
+) -> Result<Event<'a, ServerSide>, Bad> {
     match byte {
-        SERVER_TRANSMIT => server_command::decode_transmit(fields),
-        SERVER_ARRIVE => server_command::decode_arrive(fields),
+        SERVER_TRANSMIT => decode_transmit(fields),
+        SERVER_ARRIVE => decode_arrive(fields),
         SERVER_TIMER => server_command::decode_timer(fields),
         SERVER_REPLY => server_command::decode_reply(fields),
         SERVER_FAULT => server_command::decode_fault(fields),
@@ -165,39 +176,6 @@ fn decode_setting(byte: u8, fields: &mut Fields) -> Result<Setting, Bad> {
     }
 }
 
-pub fn decode_datagram<'a>(fields: &mut Fields<'a>) -> Result<&'a [u8], Bad> {
-    let length = fields.limited_u16(LENGTH_LIMIT)?;
-    fields.bytes(usize::from(length))
-}
-
-fn decode_write<'a>(fields: &mut Fields<'a>) -> Result<Command<'a>, Bad> {
-    // The fields stand in the command in the order in which they are taken here.
-    let header = Header {
-        pdu_type: fields.u8()?,
-        flags1: fields.u8()?,
-        flags2: fields.u8()?,
-        serial: fields.u16()?,
-        object: fields.array()?,
-        interface: fields.array()?,
-        activity: fields.array()?,
-        server_boot: fields.u32()?,
-        interface_version: fields.u32()?,
-        call_number: fields.u32()?,
-        operation: fields.u16()?,
-        interface_hint: fields.u16()?,
-        activity_hint: fields.u16()?,
-        fragment_number: fields.u16()?,
-        authentication: fields.u8()?,
-    };
-    let body_length = fields.limited_u16(LENGTH_LIMIT)?;
-    let seed = fields.u8()?;
-    Ok(Command::Write {
-        header,
-        body_length,
-        seed,
-    })
-}
-
 fn decode_fack<'a>(fields: &mut Fields<'a>) -> Result<Command<'a>, Bad> {
     Ok(Command::Fack {
         serial_answered: fields.u16()?,
@@ -210,8 +188,8 @@ pub fn encode(command: &Command, script: &mut Vec<u8>) {
     script.push(command_byte(command));
     match command {
         Command::Set(setting) => encode_setting(setting, script),
-        Command::Client(event) => client_command::encode_event(event, script),
-        Command::Server(event) => server_command::encode_event(event, script),
+        Command::Client(event) => encode_event(event, script),
+        Command::Server(event) => encode_event(event, script),
         Command::ClientHandUp { fragment_number } | Command::ServerHandUp { fragment_number } => {
             script.push(*fragment_number);
         }
@@ -220,7 +198,7 @@ pub fn encode(command: &Command, script: &mut Vec<u8>) {
             header,
             body_length,
             seed,
-        } => encode_write(header, *body_length, *seed, script),
+        } => write_command::encode_write(header, *body_length, *seed, script),
         Command::Fack {
             serial_answered,
             held,
@@ -238,16 +216,16 @@ fn command_byte(command: &Command) -> u8 {
         Command::Set(Setting::FreshServer { .. }) => FRESH_SERVER,
         Command::Set(Setting::ServerRecord(_)) => SERVER_RECORD,
         Command::Set(Setting::Lend { .. }) => LEND,
-        Command::Client(ClientEvent::Start { .. }) => CLIENT_START,
-        Command::Client(ClientEvent::Transmit { .. }) => CLIENT_TRANSMIT,
-        Command::Client(ClientEvent::Arrive { .. }) => CLIENT_ARRIVE,
-        Command::Client(ClientEvent::Timer { .. }) => CLIENT_TIMER,
+        Command::Client(Event::Own(_)) => CLIENT_START,
+        Command::Client(Event::Transmit { .. }) => CLIENT_TRANSMIT,
+        Command::Client(Event::Arrive { .. }) => CLIENT_ARRIVE,
+        Command::Client(Event::Timer { .. }) => CLIENT_TIMER,
         Command::ClientHandUp { .. } => CLIENT_HAND_UP,
-        Command::Server(ServerEvent::Transmit { .. }) => SERVER_TRANSMIT,
-        Command::Server(ServerEvent::Arrive { .. }) => SERVER_ARRIVE,
-        Command::Server(ServerEvent::Timer { .. }) => SERVER_TIMER,
-        Command::Server(ServerEvent::Reply { .. }) => SERVER_REPLY,
-        Command::Server(ServerEvent::Fault { .. }) => SERVER_FAULT,
+        Command::Server(Event::Transmit { .. }) => SERVER_TRANSMIT,
+        Command::Server(Event::Arrive { .. }) => SERVER_ARRIVE,
+        Command::Server(Event::Timer { .. }) => SERVER_TIMER,
+        Command::Server(Event::Own(Answer::Reply { .. })) => SERVER_REPLY,
+        Command::Server(Event::Own(Answer::Fault { .. })) => SERVER_FAULT,
         Command::ServerHandUp { .. } => SERVER_HAND_UP,
         Command::Read { .. } => READ,
         Command::Write { .. } => WRITE,
@@ -283,27 +261,4 @@ fn encode_setting(setting: &Setting, script: &mut Vec<u8>) {
             script.extend(slot_buffer_length.to_le_bytes());
         }
     }
-}
-
-pub fn encode_datagram(datagram: &[u8], script: &mut Vec<u8>) {
-    script.extend((datagram.len() as u16).to_le_bytes());
-    script.extend(datagram);
-}
-
-fn encode_write(header: &Header, body_length: u16, seed: u8, script: &mut Vec<u8>) {
-    script.extend([header.pdu_type, header.flags1, header.flags2]);
-    script.extend(header.serial.to_le_bytes());
-    script.extend(header.object);
-    script.extend(header.interface);
-    script.extend(header.activity);
-    script.extend(header.server_boot.to_le_bytes());
-    script.extend(header.interface_version.to_le_bytes());
-    script.extend(header.call_number.to_le_bytes());
-    script.extend(header.operation.to_le_bytes());
-    script.extend(header.interface_hint.to_le_bytes());
-    script.extend(header.activity_hint.to_le_bytes());
-    script.extend(header.fragment_number.to_le_bytes());
-    script.push(header.authentication);
-    script.extend(body_length.to_le_bytes());
-    script.push(seed);
 }

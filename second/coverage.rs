@@ -1,18 +1,20 @@
 //! Counts what a script reaches. What it does not reach is told too, with a count of 0.
 
+use crate::client_record::ClientSide;
 use crate::command::{commands, Command};
 use crate::counts::Counts;
+use crate::coverage_step::{count_event, count_hand_up};
 use crate::coverage_system::System;
+use crate::server_record::ServerSide;
 use crate::stage::Stage;
-use crate::{coverage_client, coverage_client_names, coverage_codec};
-use crate::{coverage_server, coverage_server_names, coverage_system_names};
+use crate::{coverage_codec, coverage_side_names, coverage_system_names};
 use std::io::{self, Write};
 
 pub fn coverage(script: &[u8], output: &mut impl Write) -> io::Result<()> {
     let mut names = vec!["bad".to_string()];
     names.extend(coverage_codec::names());
-    names.extend(coverage_client_names::names());
-    names.extend(coverage_server_names::names());
+    names.extend(coverage_side_names::names::<ClientSide>());
+    names.extend(coverage_side_names::names::<ServerSide>());
     names.extend(coverage_system_names::names());
     let mut counts = Counts::new(names);
     let mut stage = Stage::new();
@@ -33,18 +35,18 @@ fn count(command: &Command, stage: &mut Stage, system: &mut System, counts: &mut
             system.set(setting, counts);
         }
         Command::Client(event) => {
-            let reached = coverage_client::count_event(event, stage, counts);
+            let reached = count_event(event, stage, counts);
             system.count(command, reached, stage, counts);
         }
         Command::ClientHandUp { fragment_number } => {
-            coverage_client::count_hand_up(*fragment_number, stage, counts);
+            count_hand_up::<ClientSide>(*fragment_number, stage, counts);
         }
         Command::Server(event) => {
-            let reached = coverage_server::count_event(event, stage, counts);
+            let reached = count_event(event, stage, counts);
             system.count(command, reached, stage, counts);
         }
         Command::ServerHandUp { fragment_number } => {
-            coverage_server::count_hand_up(*fragment_number, stage, counts);
+            count_hand_up::<ServerSide>(*fragment_number, stage, counts);
         }
         Command::Read { datagram } => coverage_codec::count_read(datagram, counts),
         Command::Write {

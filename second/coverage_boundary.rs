@@ -1,7 +1,7 @@
 //! Values at which something changes, by name.
 
 use crate::codec::BODY_LIMIT;
-use crate::coverage_side::Side;
+use crate::side::Words;
 use std::cmp::Ordering;
 
 /// A value at which something changes, or none of these.
@@ -44,13 +44,13 @@ const LENGTHS: [u32; 10] = [
 const ANOTHER_LENGTH: u32 = 2;
 
 impl Boundary {
-    pub fn name(self, side: Side) -> String {
-        format!("{} {}", side.name(), self.name_of_value(side))
+    pub fn name(self, words: &Words) -> String {
+        format!("{} {}", words.side, self.name_of_value(words))
     }
 
-    fn name_of_value(self, side: Side) -> String {
-        let first = side.first_event();
-        let received = side.received();
+    fn name_of_value(self, words: &Words) -> String {
+        let first = words.first_event;
+        let received = words.received;
         match self {
             Boundary::MessageLength(length) => format!("{first} of {}", length_name(length)),
             Boundary::TransmitLength(length, answer) => format!(
@@ -58,7 +58,7 @@ impl Boundary {
                 length_name(length),
                 if answer == 0 { "sent" } else { "refused" }
             ),
-            Boundary::LastCallNumber => format!("{} to call number 4294967295", side.beginning()),
+            Boundary::LastCallNumber => format!("{} to call number 4294967295", words.beginning),
             Boundary::LateTimer(true) => "late timer: another ticket".into(),
             Boundary::LateTimer(false) => "late timer: not armed".into(),
             Boundary::Serial(event, 0) => format!("{event}: serial 65535, next 0"),
@@ -108,18 +108,14 @@ impl Boundary {
 }
 
 /// The names of one side: which events raise the serial and which arm a timer differs.
-pub fn boundary_names(side: Side) -> Vec<String> {
-    let (raising, arming): (&[&str], &[&str]) = match side {
-        Side::Client => (&["transmit", "timer"], &["transmit", "arrive", "timer"]),
-        Side::Server => (&["transmit"], &["transmit", "timer", "fault"]),
-    };
+pub fn boundary_names(words: &Words) -> Vec<String> {
     let mut all = Boundary::all();
-    for event in raising {
+    for event in words.raising {
         all.extend([0, 1].map(|serial| Boundary::Serial(event, serial)));
     }
-    all.extend(arming.iter().map(|event| Boundary::LastTicket(event)));
+    all.extend(words.arming.iter().map(|event| Boundary::LastTicket(event)));
     all.into_iter()
-        .map(|boundary| boundary.name(side))
+        .map(|boundary| boundary.name(words))
         .collect()
 }
 

@@ -7,40 +7,10 @@
 //! the type decides, those of different types, and those of rows that exclude each other.
 
 use crate::counts::pair_names;
-use crate::coverage_boundary::boundary_names;
-use crate::coverage_side::{put_names, Side};
-use crate::rule::SERVER_RULES;
-use crate::server_command::ServerEvent;
-use crate::server_record::{can_break_alone, State, STATES};
-
-const EVENTS: [&str; 5] = ["transmit", "arrive", "timer", "reply", "fault"];
-
-pub fn event_name(event: &ServerEvent) -> &'static str {
-    match event {
-        ServerEvent::Transmit { .. } => EVENTS[0],
-        ServerEvent::Arrive { .. } => EVENTS[1],
-        ServerEvent::Timer { .. } => EVENTS[2],
-        ServerEvent::Reply { .. } => EVENTS[3],
-        ServerEvent::Fault { .. } => EVENTS[4],
-    }
-}
-
-/// The answers that an event can get in a state.
-fn answers(event: &str, state: State) -> Vec<u8> {
-    let arrival = [0, 1, 2, 3, 4, 5, 6, 7, 8, 9, 10, 11, 12, 14, 15];
-    match (event, state) {
-        ("transmit", State::Replying) => vec![0, 1, 2, 20],
-        ("timer", State::HeldData) => vec![0, 1, 2, 18],
-        ("timer", State::HeldFault) => vec![0, 1, 2, 18, 20],
-        ("reply", State::Running) => vec![0, 1, 2],
-        ("fault", State::Running) => vec![0, 1, 2, 20],
-        ("arrive", State::IdleFresh) => arrival.to_vec(),
-        ("arrive", State::IdleSpent) => [&arrival[..], &[13]].concat(),
-        ("arrive", State::Collect | State::Replying) => [&arrival[..], &[13, 16, 17]].concat(),
-        ("arrive", _) => [&arrival[..], &[13, 17]].concat(),
-        _ => vec![1, 2, 15],
-    }
-}
+use crate::coverage_side::put_names;
+use crate::coverage_side_names::{lent_names, Named};
+use crate::server_record::{ServerSide, State};
+use crate::side::Side;
 
 /// The rows of document 01's table; @ stands for each state that has the row.
 const BEGIN_ROWS: [&str; 3] = [
@@ -96,96 +66,8 @@ const OTHER_ROWS: [&str; 8] = [
     "server fault, not idempotent",
 ];
 
-pub fn row_names() -> Vec<String> {
-    let mut names = OTHER_ROWS.map(String::from).to_vec();
-    for state in STATES {
-        let may_put = matches!(state, State::Collect | State::IdleRepeatable);
-        let has_no_call = matches!(
-            state,
-            State::Collect | State::IdleSpent | State::IdleRepeatable
-        );
-        let groups: [(bool, &[&str]); 9] = [
-            (state != State::Running, &BEGIN_ROWS),
-            (may_put, &PUT_ROWS),
-            (true, &NEWER_PING_ROWS),
-            (has_no_call, &EQUAL_PING_ROWS),
-            (state == State::Running, &RUNNING_ROWS),
-            (state == State::Replying, &REPLYING_ROWS),
-            (state == State::HeldData, &DATA_ROWS),
-            (state == State::HeldFault, &FAULT_ROWS),
-            (state.has_answer(), &ACK_ROWS),
-        ];
-        for (_, rows) in groups.iter().filter(|(has_rows, _)| *has_rows) {
-            names.extend(rows.iter().map(|row| row.replace('@', state.name())));
-        }
-    }
-    names
-}
-
-/// The states that a state is left for, itself included.
-pub fn state_names() -> Vec<String> {
-    let reached = |state: State| match state {
-        State::IdleFresh => "IDLE_FRESH COLLECT RUNNING",
-        State::IdleSpent => "IDLE_SPENT COLLECT RUNNING",
-        State::IdleRepeatable => "IDLE_REPEATABLE COLLECT RUNNING",
-        State::Collect => "COLLECT RUNNING",
-        State::Running => "RUNNING REPLYING HELD_FAULT IDLE_REPEATABLE",
-        State::Replying => "REPLYING HELD_DATA IDLE_REPEATABLE IDLE_SPENT COLLECT RUNNING",
-        State::HeldData => "HELD_DATA REPLYING IDLE_SPENT COLLECT RUNNING",
-        State::HeldFault => "HELD_FAULT IDLE_SPENT COLLECT RUNNING",
-    };
-    STATES
-        .iter()
-        .flat_map(|state| {
-            let to = reached(*state).split(' ');
-            to.map(|name| format!("server {} to {name}", state.name()))
-        })
-        .collect()
-}
-
-fn rule_names() -> Vec<String> {
-    let mut names = Vec::new();
-    for rule in SERVER_RULES {
-        let broken = rule.broken_name();
-        let states = STATES.iter().filter(|state| can_break_alone(rule, **state));
-        names
-            .extend(states.map(|state| format!("server rule alone: {broken} in {}", state.name())));
-        let events = EVENTS.iter().chain(&["hand up"]);
-        names.extend(events.map(|event| format!("server rule alone: {broken} at {event}")));
-    }
-    names
-}
-
-/// The pairs of grounds that one event can give.
-fn ground_names() -> Vec<String> {
-    let mut names = pair_names("server-transmit", &[1, 2, 15, 20]);
-    names.extend(pair_names("server-timer", &[1, 2, 15, 18]));
-    names.extend([1, 2, 18].map(|low| format!("server-timer-both-{low}-20")));
-    names.extend(pair_names("server-reply", &[1, 2, 15]));
-    names.extend(pair_names("server-fault", &[1, 2, 15, 20]));
-    let reader = [1, 2, 3, 4, 5, 6, 7, 8];
-    names.extend(pair_names("server-arrive", &reader));
-    let mut cross = |low: &[u8], high: &[u8]| {
-        for low in low {
-            names.extend(
-                high.iter()
-                    .map(|high| format!("server-arrive-both-{low}-{high}")),
-            );
-        }
-    };
-    cross(&[1, 2, 4, 6, 7, 8], &[9, 10, 11, 12, 13, 14, 15, 16, 17]);
-    cross(&[5], &[9, 13]);
-    cross(&[9], &[10, 11, 12, 13, 14, 15, 16, 17]);
-    cross(&[10], &[12, 13, 14, 15]);
-    cross(&[11], &[12, 13, 15, 16, 17]);
-    cross(&[12], &[13, 15, 16, 17]);
-    cross(&[13], &[14, 15, 16, 17]);
-    cross(&[14], &[15, 17]);
-    cross(&[15, 16], &[17]);
-    names
-}
-
-const DETAILS: [&str; 69] = [
+/// What is done without a ticket left, noticed and sent.
+const DONE: [&str; 14] = [
     "server done without a ticket left: transmit",
     "server done without a ticket left: timer",
     "server done without a ticket left: reply",
@@ -200,21 +82,9 @@ const DETAILS: [&str; 69] = [
     "server sends working",
     "server sends nocall",
     "server sends fack",
-    "server hand up: a part",
-    "server hand up: an empty fragment",
-    "server hand up: held but not contiguous",
-    "server hand up: a number above 31",
-    "server hand up: not held",
-    "server hand up: a part, but for the broken record",
-    "server hand up: a part, but for the length lent",
-    "server hand up: nothing, on several grounds",
-    "server length refused at transmit: PDU buffer",
-    "server length refused at transmit: message over 44544",
-    "server length refused at transmit: message",
-    "server length refused at transmit: message, record broken too",
-    "server length refused at arrive: PDU buffer",
-    "server length refused at arrive: slot buffer",
-    "server length refused at timer: PDU buffer",
+];
+
+const DETAILS: [&str; 40] = [
     "server length refused at fault: PDU buffer",
     "server request taken, little",
     "server request taken, big",
@@ -257,31 +127,81 @@ const DETAILS: [&str; 69] = [
     "server fack malformed: length",
 ];
 
-pub fn names() -> Vec<String> {
-    let mut names = row_names();
-    for event in EVENTS {
-        let mut all = Vec::new();
-        for state in STATES {
-            for answer in answers(event, state) {
-                all.push(answer);
-                names.push(format!(
-                    "server-{event}-answer-{answer}-in-{}",
-                    state.name()
-                ));
-            }
+impl Named for ServerSide {
+    const EVENTS: &'static [&'static str] = &["transmit", "arrive", "timer", "reply", "fault"];
+    const OTHER_ROWS: &'static [&'static str] = &OTHER_ROWS;
+
+    fn answers(event: &str, state: State) -> Vec<u8> {
+        let arrival = [0, 1, 2, 3, 4, 5, 6, 7, 8, 9, 10, 11, 12, 14, 15];
+        match (event, state) {
+            ("transmit", State::Replying) => vec![0, 1, 2, 20],
+            ("timer", State::HeldData) => vec![0, 1, 2, 18],
+            ("timer", State::HeldFault) => vec![0, 1, 2, 18, 20],
+            ("reply", State::Running) => vec![0, 1, 2],
+            ("fault", State::Running) => vec![0, 1, 2, 20],
+            ("arrive", State::IdleFresh) => arrival.to_vec(),
+            ("arrive", State::IdleSpent) => [&arrival[..], &[13]].concat(),
+            ("arrive", State::Collect | State::Replying) => [&arrival[..], &[13, 16, 17]].concat(),
+            ("arrive", _) => [&arrival[..], &[13, 17]].concat(),
+            _ => vec![1, 2, 15],
         }
-        all.sort_unstable();
-        all.dedup();
-        names.extend(
-            all.iter()
-                .map(|answer| format!("server-{event}-answer-{answer}")),
-        );
     }
-    names.extend(state_names());
-    names.extend(rule_names());
-    names.extend(ground_names());
-    names.extend(DETAILS.map(String::from));
-    names.extend(put_names(Side::Server));
-    names.extend(boundary_names(Side::Server));
-    names
+
+    fn rows(state: State) -> Vec<(bool, &'static [&'static str])> {
+        let may_put = matches!(state, State::Collect | State::IdleRepeatable);
+        let has_no_call = may_put || state == State::IdleSpent;
+        vec![
+            (state != State::Running, &BEGIN_ROWS),
+            (may_put, &PUT_ROWS),
+            (true, &NEWER_PING_ROWS),
+            (has_no_call, &EQUAL_PING_ROWS),
+            (state == State::Running, &RUNNING_ROWS),
+            (state == State::Replying, &REPLYING_ROWS),
+            (state == State::HeldData, &DATA_ROWS),
+            (state == State::HeldFault, &FAULT_ROWS),
+            (state.has_answer(), &ACK_ROWS),
+        ]
+    }
+
+    fn reached(state: State) -> &'static str {
+        match state {
+            State::IdleFresh => "IDLE_FRESH COLLECT RUNNING",
+            State::IdleSpent => "IDLE_SPENT COLLECT RUNNING",
+            State::IdleRepeatable => "IDLE_REPEATABLE COLLECT RUNNING",
+            State::Collect => "COLLECT RUNNING",
+            State::Running => "RUNNING REPLYING HELD_FAULT IDLE_REPEATABLE",
+            State::Replying => "REPLYING HELD_DATA IDLE_REPEATABLE IDLE_SPENT COLLECT RUNNING",
+            State::HeldData => "HELD_DATA REPLYING IDLE_SPENT COLLECT RUNNING",
+            State::HeldFault => "HELD_FAULT IDLE_SPENT COLLECT RUNNING",
+        }
+    }
+
+    fn ground_names() -> Vec<String> {
+        let mut names = pair_names("server-transmit", &[1, 2, 15, 20]);
+        names.extend(pair_names("server-timer", &[1, 2, 15, 18]));
+        names.extend([1, 2, 18].map(|low| format!("server-timer-both-{low}-20")));
+        names.extend(pair_names("server-reply", &[1, 2, 15]));
+        names.extend(pair_names("server-fault", &[1, 2, 15, 20]));
+        names
+    }
+
+    const ARRIVE_PAIRS: &'static [(&'static [u8], &'static [u8])] = &[
+        (&[1, 2, 4, 6, 7, 8], &[9, 10, 11, 12, 13, 14, 15, 16, 17]),
+        (&[5], &[9, 13]),
+        (&[9], &[10, 11, 12, 13, 14, 15, 16, 17]),
+        (&[10], &[12, 13, 14, 15]),
+        (&[11], &[12, 13, 15, 16, 17]),
+        (&[12], &[13, 15, 16, 17]),
+        (&[13], &[14, 15, 16, 17]),
+        (&[14], &[15, 17]),
+        (&[15, 16], &[17]),
+    ];
+
+    fn detail_names() -> Vec<String> {
+        let mut names = DONE.map(String::from).to_vec();
+        names.extend(lent_names(&ServerSide::WORDS));
+        names.extend(DETAILS.map(String::from));
+        names.extend(put_names(&ServerSide::WORDS));
+        names
+    }
 }

@@ -3,21 +3,19 @@
 use crate::codec::{flags1, pdu_type, Header, Pdu};
 use crate::counts::Counts;
 use crate::coverage_boundary::Boundary;
-use crate::coverage_codec::order_name;
-use crate::coverage_server::Step;
-use crate::coverage_side::{contradiction_name, count_put, type_name, Put, Side};
+use crate::coverage_server::ServerStep;
+use crate::coverage_side::{contradiction_name, count_put, type_name, Put};
 use crate::incoming::{Fragment, Incoming};
-use crate::outgoing::acknowledged_by;
 use crate::sent::Call;
-use crate::server::Age;
-use crate::server_record::{Server, State};
+use crate::server_record::{Server, ServerSide, State};
+use crate::server_row::Age;
+use crate::side::Side;
 
-pub fn count_pdu(pdu: &Pdu, step: &Step, counts: &mut Counts) {
+pub fn count_pdu(pdu: &Pdu, step: &ServerStep, counts: &mut Counts) {
     let header = &pdu.header;
     let kind = type_name(header.pdu_type);
     let state = step.before.state.name();
     match step.answer {
-        0 => counts.add(format!("server {kind} taken, {}", order_name(pdu.order))),
         13 => counts.add(format!("server old {kind}: {}", old_name(step, header))),
         15 => counts.add(format!(
             "server has no row for {}",
@@ -26,30 +24,19 @@ pub fn count_pdu(pdu: &Pdu, step: &Step, counts: &mut Counts) {
         16 => counts.add(format!("server repeated {kind} in {state}")),
         _ => {}
     }
-    match (header.pdu_type, step.answer) {
-        (pdu_type::REQUEST, _) => count_request(pdu, step, counts),
-        (pdu_type::FACK, 14) => {
-            let version = pdu.body.first().copied().unwrap_or(0);
-            let what = if version != 0 { "version" } else { "length" };
-            counts.add(format!("server fack malformed: {what}"));
-        }
-        (pdu_type::FACK, 0 | 17) => {
-            let count = u16::from(step.before.outgoing.fragments);
-            let above = acknowledged_by(header.fragment_number).cmp(&count);
-            counts.add(Boundary::Fack(header.fragment_number, above).name(Side::Server));
-        }
-        _ => {}
+    if header.pdu_type == pdu_type::REQUEST {
+        count_request(pdu, step, counts);
     }
 }
 
-fn old_name(step: &Step, header: &Header) -> String {
+fn old_name(step: &ServerStep, header: &Header) -> String {
     match step.before.age(header.call_number) {
         Age::Older => "older".into(),
         _ => format!("spent in {}", step.before.state.name()),
     }
 }
 
-fn no_row_name(step: &Step, header: &Header) -> String {
+fn no_row_name(step: &ServerStep, header: &Header) -> String {
     let kind = type_name(header.pdu_type);
     let age = match step.before.age(header.call_number) {
         Age::Newer => "a newer",
@@ -62,22 +49,20 @@ fn no_row_name(step: &Step, header: &Header) -> String {
     }
 }
 
-fn count_request(pdu: &Pdu, step: &Step, counts: &mut Counts) {
-    let fragment = Fragment::of(&pdu.header);
+fn count_request(pdu: &Pdu, step: &ServerStep, counts: &mut Counts) {
     match step.answer {
         0 => count_taken_request(pdu, step, counts),
         11 => {
             let bits = pdu.header.flags1 & (flags1::MAYBE | flags1::BROADCAST);
             counts.add(format!("server request with the forbidden bits {bits}"));
         }
-        12 => counts.add(Boundary::ImpossibleNumber(fragment.number).name(Side::Server)),
         17 => count_contradiction(pdu, step, counts),
         _ => {}
     }
 }
 
 /// A request that is put: one that begins, or one in COLLECT.
-fn count_taken_request(pdu: &Pdu, step: &Step, counts: &mut Counts) {
+fn count_taken_request(pdu: &Pdu, step: &ServerStep, counts: &mut Counts) {
     let number = pdu.header.call_number;
     let is_newer = step.before.age(number) == Age::Newer;
     let empty = Incoming::empty();
@@ -88,17 +73,17 @@ fn count_taken_request(pdu: &Pdu, step: &Step, counts: &mut Counts) {
         _ => return,
     };
     let put = Put {
-        side: Side::Server,
+        words: ServerSide::WORDS,
         before,
         after: &step.after.incoming,
     };
     count_put(&put, pdu, &step.effect, counts);
     if is_newer && number == u32::MAX {
-        counts.add(Boundary::LastCallNumber.name(Side::Server));
+        counts.add(Boundary::LastCallNumber.name(&ServerSide::WORDS));
     }
 }
 
-fn count_contradiction(pdu: &Pdu, step: &Step, counts: &mut Counts) {
+fn count_contradiction(pdu: &Pdu, step: &ServerStep, counts: &mut Counts) {
     let fragment = Fragment::of(&pdu.header);
     let is_begin = step.before.state == State::IdleRepeatable;
     let differences = differences(&step.before, &pdu.header);

@@ -4,46 +4,9 @@ use crate::codec::{flags1, pdu_type, Pdu};
 use crate::counts::Counts;
 use crate::coverage_boundary::Boundary;
 use crate::incoming::{Fragment, Incoming};
+use crate::outgoing::Outgoing;
 use crate::sent::{Effect, Notice};
-
-#[derive(Clone, Copy)]
-pub enum Side {
-    Client,
-    Server,
-}
-
-impl Side {
-    pub fn name(self) -> &'static str {
-        match self {
-            Side::Client => "client",
-            Side::Server => "server",
-        }
-    }
-
-    /// The event that brings a message to send.
-    pub fn first_event(self) -> &'static str {
-        match self {
-            Side::Client => "start",
-            Side::Server => "reply",
-        }
-    }
-
-    /// What takes the side to another call number.
-    pub fn beginning(self) -> &'static str {
-        match self {
-            Side::Client => "start",
-            Side::Server => "request",
-        }
-    }
-
-    /// The PDU that a fragment is put from.
-    pub fn received(self) -> &'static str {
-        match self {
-            Side::Client => "response",
-            Side::Server => "request",
-        }
-    }
-}
+use crate::side::Words;
 
 /// What an event has reached that a system script counts once more.
 #[derive(Default)]
@@ -98,9 +61,20 @@ pub fn notice_name(notice: Notice) -> String {
     }
 }
 
+/// From where a message is sent again.
+pub fn again_name(outgoing: &Outgoing) -> &'static str {
+    if outgoing.acknowledged == outgoing.fragments {
+        "again from 0, all are acknowledged"
+    } else if outgoing.acknowledged == 0 {
+        "again from 0, none is acknowledged"
+    } else {
+        "again from the first unacknowledged"
+    }
+}
+
 /// What is held before and after a put; before a begin it is nothing.
 pub struct Put<'a> {
-    pub side: Side,
+    pub words: Words,
     pub before: &'a Incoming,
     pub after: &'a Incoming,
 }
@@ -112,9 +86,9 @@ pub fn count_put(put: &Put, pdu: &Pdu, effect: &Effect, counts: &mut Counts) {
         Some(_) => "a fack",
         None => "no fack",
     };
-    let prefix = format!("{} {} put", put.side.name(), put.side.received());
-    counts.add(Boundary::PutNumber(fragment.number, fragment.is_last).name(put.side));
-    counts.add(Boundary::PutLength(pdu.body.len()).name(put.side));
+    let prefix = format!("{} {} put", put.words.side, put.words.received);
+    counts.add(Boundary::PutNumber(fragment.number, fragment.is_last).name(&put.words));
+    counts.add(Boundary::PutLength(pdu.body.len()).name(&put.words));
     counts.add(format!("{prefix}: flags {flags} give {fack}"));
     let last_before = put.before.last.map(u16::from);
     if last_before == Some(fragment.number) && !fragment.is_last {
@@ -139,8 +113,8 @@ pub fn contradiction_name(incoming: &Incoming, fragment: Fragment) -> Option<&'s
 }
 
 /// The names of what `count_put` counts, but for the boundaries.
-pub fn put_names(side: Side) -> Vec<String> {
-    let prefix = format!("{} {}", side.name(), side.received());
+pub fn put_names(words: &Words) -> Vec<String> {
+    let prefix = format!("{} {}", words.side, words.received);
     let mut names = vec![
         format!("{prefix} put: all but the known last are held"),
         format!("{prefix} put: at the known last, not marked last"),

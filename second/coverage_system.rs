@@ -1,12 +1,13 @@
 //! Counts what a script reaches of a client and a server that are joined: both set fresh, with the
 //! same activity. Rows, answers, changes of state and notices are counted once more for them.
 
-use crate::client_command::ClientEvent;
+use crate::client_record::ClientSide;
 use crate::codec::Uuid;
 use crate::command::{Command, Setting};
 use crate::counts::Counts;
 use crate::coverage_side::Reached;
 use crate::coverage_system_names::mark_name;
+use crate::event::Event;
 use crate::sent::Notice;
 use crate::stage::Stage;
 use std::collections::HashMap;
@@ -72,14 +73,14 @@ impl System {
 
     fn client_done(
         &mut self,
-        event: &ClientEvent,
+        event: &Event<ClientSide>,
         notice: Option<Notice>,
         stage: &Stage,
         counts: &mut Counts,
     ) {
-        if let ClientEvent::Start { call, .. } = event {
+        if let Event::Own(start) = event {
             let book = Book {
-                idempotent: call.idempotent,
+                idempotent: start.call.idempotent,
                 dispatches: 0,
             };
             counts.add(format!(

@@ -1,6 +1,8 @@
 //! All that a script can reach of a client and a server that are joined, by name.
 
-use crate::{coverage_client_names, coverage_server_names};
+use crate::client_record::ClientSide;
+use crate::coverage_side_names::{row_names, state_names};
+use crate::server_record::ServerSide;
 
 pub fn mark_name(idempotent: bool) -> &'static str {
     match idempotent {
@@ -71,14 +73,14 @@ fn is_out_of_reach(row: &str) -> bool {
 
 pub fn names() -> Vec<String> {
     let mut names = FACTS.map(String::from).to_vec();
-    let rows = coverage_client_names::row_names()
+    let rows = row_names::<ClientSide>()
         .into_iter()
-        .chain(coverage_server_names::row_names())
+        .chain(row_names::<ServerSide>())
         .filter(|row| !is_out_of_reach(row));
     names.extend(rows.map(|row| format!("system {row}")));
-    let states = coverage_client_names::state_names()
+    let states = state_names::<ClientSide>()
         .into_iter()
-        .chain(coverage_server_names::state_names());
+        .chain(state_names::<ServerSide>());
     names.extend(states.map(|change| format!("system {change}")));
     for notice in ["last", "count"] {
         names.push(format!("system client notice {notice}"));

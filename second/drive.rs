@@ -1,8 +1,10 @@
 //! Steps through a script and prints a line for each event.
 
+use crate::client_record::ClientSide;
 use crate::codec;
 use crate::command::{commands, Command};
 use crate::output;
+use crate::server_record::ServerSide;
 use crate::stage::{message, Stage};
 use std::io::{self, Write};
 
@@ -21,18 +23,18 @@ fn step(stage: &mut Stage, command: &Command, output: &mut impl Write) -> io::Re
     match command {
         Command::Set(setting) => stage.set(setting),
         Command::Client(event) => {
-            let result = stage.client_event(event);
-            output::client_line(&result, stage, output)?;
+            let result = stage.event(event);
+            output::event_line::<ClientSide>(&result, stage, output)?;
         }
         Command::ClientHandUp { fragment_number } => {
-            output::hand_up_line(stage.client_hand_up(*fragment_number), output)?;
+            output::hand_up_line(stage.hand_up::<ClientSide>(*fragment_number), output)?;
         }
         Command::Server(event) => {
-            let result = stage.server_event(event);
-            output::server_line(&result, stage, output)?;
+            let result = stage.event(event);
+            output::event_line::<ServerSide>(&result, stage, output)?;
         }
         Command::ServerHandUp { fragment_number } => {
-            output::hand_up_line(stage.server_hand_up(*fragment_number), output)?;
+            output::hand_up_line(stage.hand_up::<ServerSide>(*fragment_number), output)?;
         }
         Command::Read { datagram } => output::read_line(&codec::read(datagram), output)?,
         Command::Write {

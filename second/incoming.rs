@@ -1,6 +1,6 @@
 //! The message received: which of its fragments are held, and which is the last.
 
-use crate::codec::{flags1, pdu_type, Header, BODY_LIMIT};
+use crate::codec::{flags1, pdu_type, Header, Pdu, BODY_LIMIT};
 use crate::fack::{Held, FRAGMENTS};
 
 const SLOTS: usize = FRAGMENTS as usize;
@@ -93,6 +93,14 @@ impl Incoming {
         }
     }
 
+    /// The fragment of a PDU is put, into the slot buffer too.
+    pub fn put_pdu(&mut self, pdu: &Pdu, slot_buffer: &mut [u8]) {
+        let fragment = Fragment::of(&pdu.header);
+        let begin = usize::from(fragment.number) * BODY_LIMIT;
+        slot_buffer[begin..begin + pdu.body.len()].copy_from_slice(pdu.body);
+        self.put(fragment, pdu.body.len() as u16);
+    }
+
     /// All to the last are held.
     pub fn is_complete(&self) -> bool {
         self.last
@@ -124,10 +132,4 @@ impl Incoming {
         self.last
             .is_some_and(|last| self.held_fragments().any(|(number, _)| number > last))
     }
-}
-
-/// The slot buffer's part of a put.
-pub fn put_bytes(fragment: Fragment, body: &[u8], slot_buffer: &mut [u8]) {
-    let begin = usize::from(fragment.number) * BODY_LIMIT;
-    slot_buffer[begin..begin + body.len()].copy_from_slice(body);
 }

@@ -57,6 +57,11 @@ impl Outgoing {
         };
     }
 
+    /// Whether a message that is lent is over the limit, or another than the one being sent.
+    pub fn is_lent_wrong(&self, length: usize, is_being_sent: bool) -> bool {
+        length > MESSAGE_LIMIT || is_being_sent && length != self.length as usize
+    }
+
     pub fn count_is_the_lengths(&self) -> bool {
         fragment_count(self.length) == Some(self.fragments)
     }

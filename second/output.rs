@@ -1,15 +1,16 @@
 //! The lines that `drive` prints.
 
 use crate::adler::adler32;
-use crate::client_record::{Client, State};
+use crate::client_record::{Client, ClientFields, ClientSide};
 use crate::codec::Pdu;
 use crate::fack::{self, Held};
 use crate::incoming::Incoming;
 use crate::outgoing::Outgoing;
+use crate::record::Record;
 use crate::refusal::{answer, Refusal};
 use crate::sent::{Call, Effect, Notice};
-use crate::server_record::{self, Server};
-use crate::stage::Stage;
+use crate::server_record::{Server, ServerFields, ServerSide, State};
+use crate::stage::{OnStage, Stage};
 use std::fmt::Display;
 use std::io::{self, Write};
 
@@ -65,28 +66,15 @@ pub fn fack_line(serial_answered: u16, held: Held, output: &mut impl Write) -> i
     output.write_all(b"\n")
 }
 
-/// The line of an event of the client, which has taken place on the stage.
-pub fn client_line(
+/// The line of an event of a side, which has taken place on the stage.
+pub fn event_line<S: Printed>(
     result: &Result<Effect, Refusal>,
     stage: &Stage,
     output: &mut impl Write,
 ) -> io::Result<()> {
     effect_words(result, &stage.pdu_buffer, output)?;
-    client_fields(&stage.client, output)?;
-    number_field("slots", adler32(stage.client_slots()), output)?;
-    number_field("out", adler32(&stage.pdu_buffer), output)?;
-    output.write_all(b"\n")
-}
-
-/// The line of an event of the server, which has taken place on the stage.
-pub fn server_line(
-    result: &Result<Effect, Refusal>,
-    stage: &Stage,
-    output: &mut impl Write,
-) -> io::Result<()> {
-    effect_words(result, &stage.pdu_buffer, output)?;
-    server_fields(&stage.server, output)?;
-    number_field("slots", adler32(stage.server_slots()), output)?;
+    record_fields(S::record(stage), output)?;
+    number_field("slots", adler32(stage.slots::<S>()), output)?;
     number_field("out", adler32(&stage.pdu_buffer), output)?;
     output.write_all(b"\n")
 }
@@ -117,35 +105,62 @@ fn effect_words(
     }
 }
 
-fn client_fields(client: &Client, output: &mut impl Write) -> io::Result<()> {
-    let call = (client.state != State::Queued).then_some((client.number, &client.call));
-    write!(output, " state={}", client.state.name())?;
-    call_fields(call, output)?;
-    outgoing_fields(&client.outgoing, output)?;
-    number_field("waits", client.waits, output)?;
-    number_field("resends", client.resends, output)?;
-    incoming_fields(&client.incoming, output)?;
-    number_field("tickets", client.tickets.counter, output)?;
-    optional_field("wait", client.wait, output)?;
-    optional_field("ack", client.ack, output)?;
-    hex_field("activity", &client.activity, output)
+/// The fields that are printed of one side alone.
+pub trait Printed: OnStage {
+    /// Behind the state.
+    fn state_suffix(record: &Record<Self>) -> String;
+    /// Before the resends.
+    fn count_fields(own: &Self::Own, output: &mut impl Write) -> io::Result<()>;
+    /// Behind the tickets.
+    fn timer_fields(own: &Self::Own, output: &mut impl Write) -> io::Result<()>;
 }
 
-fn server_fields(server: &Server, output: &mut impl Write) -> io::Result<()> {
-    let is_fresh = server.state == server_record::State::IdleFresh;
-    let call = (!is_fresh).then_some((server.number, &server.call));
-    write!(output, " state={}", server.state.name())?;
-    if server.state == server_record::State::HeldFault {
-        write!(output, ":{}", server.status)?;
+impl Printed for ClientSide {
+    fn state_suffix(_: &Client) -> String {
+        String::new()
     }
-    call_fields(call, output)?;
-    outgoing_fields(&server.outgoing, output)?;
-    number_field("resends", server.resends, output)?;
-    incoming_fields(&server.incoming, output)?;
-    number_field("tickets", server.tickets.counter, output)?;
-    optional_field("resend", server.resend, output)?;
-    number_field("boot", server.boot, output)?;
-    hex_field("activity", &server.activity, output)
+
+    fn count_fields(own: &ClientFields, output: &mut impl Write) -> io::Result<()> {
+        number_field("waits", own.waits, output)
+    }
+
+    fn timer_fields(own: &ClientFields, output: &mut impl Write) -> io::Result<()> {
+        optional_field("wait", own.wait, output)?;
+        optional_field("ack", own.ack, output)
+    }
+}
+
+impl Printed for ServerSide {
+    fn state_suffix(server: &Server) -> String {
+        match server.state {
+            State::HeldFault => format!(":{}", server.own.status),
+            _ => String::new(),
+        }
+    }
+
+    fn count_fields(_: &ServerFields, _: &mut impl Write) -> io::Result<()> {
+        Ok(())
+    }
+
+    fn timer_fields(own: &ServerFields, output: &mut impl Write) -> io::Result<()> {
+        optional_field("resend", own.resend, output)?;
+        number_field("boot", own.boot, output)
+    }
+}
+
+/// The fields of a record, in the order in which they are printed.
+fn record_fields<S: Printed>(record: &Record<S>, output: &mut impl Write) -> io::Result<()> {
+    let has_call = record.state != S::FRESH;
+    let suffix = S::state_suffix(record);
+    write!(output, " state={}{suffix}", S::state_name(record.state))?;
+    call_fields(has_call.then_some((record.number, &record.call)), output)?;
+    outgoing_fields(&record.outgoing, output)?;
+    S::count_fields(&record.own, output)?;
+    number_field("resends", record.resends, output)?;
+    incoming_fields(&record.incoming, output)?;
+    number_field("tickets", record.tickets.counter, output)?;
+    S::timer_fields(&record.own, output)?;
+    hex_field("activity", &record.activity, output)
 }
 
 /// The call number and the call, where the state gives them a meaning.

@@ -39,6 +39,17 @@ impl Random {
         choices[self.between(0, choices.len() - 1)]
     }
 
+    /// One of the choices, each as often beside the others as its share says.
+    pub fn share<T: Copy>(&mut self, choices: &[T], shares: &[usize]) -> T {
+        let mut drawn = self.between(0, shares.iter().sum::<usize>() - 1);
+        let mut place = 0;
+        while drawn >= shares[place] {
+            drawn -= shares[place];
+            place += 1;
+        }
+        choices[place]
+    }
+
     pub fn shuffle<T>(&mut self, things: &mut [T]) {
         for place in (1..things.len()).rev() {
             things.swap(place, self.between(0, place));

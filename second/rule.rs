@@ -23,10 +23,8 @@ pub enum Rule {
     ResendTicket,
 }
 
-/// The rules of a client record.
-pub const CLIENT_RULES: [Rule; 13] = [
-    Rule::WaitCount,
-    Rule::Resends,
+/// The rules of the messages, which both sides have.
+pub const MESSAGE_RULES: [Rule; 7] = [
     Rule::Sent,
     Rule::SentBelow,
     Rule::Acknowledged,
@@ -34,24 +32,6 @@ pub const CLIENT_RULES: [Rule; 13] = [
     Rule::KnownLast,
     Rule::HeldLength,
     Rule::HeldAboveLast,
-    Rule::WaitState,
-    Rule::AckState,
-    Rule::WaitTicket,
-    Rule::AckTicket,
-];
-
-/// The rules of a server record.
-pub const SERVER_RULES: [Rule; 10] = [
-    Rule::ResendCount,
-    Rule::Sent,
-    Rule::SentBelow,
-    Rule::Acknowledged,
-    Rule::FragmentCount,
-    Rule::KnownLast,
-    Rule::HeldLength,
-    Rule::HeldAboveLast,
-    Rule::ResendState,
-    Rule::ResendTicket,
 ];
 
 impl Rule {

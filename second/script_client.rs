@@ -4,7 +4,7 @@
 
 use crate::arriving::Arriving;
 use crate::client_author::Author;
-use crate::client_record::{Client, State, TimerKind, STATES};
+use crate::client_record::{Client, ClientSide, State, TimerKind};
 use crate::codec::pdu_type;
 use crate::random::Random;
 use crate::script_client_calls::whole_call;
@@ -13,19 +13,16 @@ use crate::script_client_cases::{
     whole_reply,
 };
 use crate::script_client_defects::{
-    damaged_arrival, defects_at_arrival, defects_at_start, defects_at_timer, defects_at_transmit,
-    refused_arrival,
+    damaged_arrival, defects_at_arrival, defects_at_start, defects_at_timer, refused_arrival,
 };
 use crate::script_client_pdu::OTHER_TYPES;
-use crate::script_client_record::sound_record;
+use crate::script_defects::defects_at_transmit;
 use crate::script_record::message_length;
+use crate::script_scenes::{self, any_record, write_scenes, Scene};
 use std::io::{self, Write};
 
-/// Writes the events of its turn.
-type Scene = fn(usize, &mut Author);
-
 /// The scenes of one round, each with how often it comes.
-const ROUND: [(Scene, usize); 16] = [
+const ROUND: [(Scene<ClientSide>, usize); 16] = [
     (broken_record, 3),
     (any_record, 6),
     (defects_at_arrival, 12),
@@ -45,43 +42,11 @@ const ROUND: [(Scene, usize); 16] = [
 ];
 
 pub fn write_script(seed: u64, count: u64, output: &mut impl Write) -> io::Result<()> {
-    let mut author = Author::new(seed, count);
-    let mut round = 0;
-    while !author.has_finished() {
-        for (scene, times) in ROUND {
-            for time in 0..times {
-                scene(round * times + time, &mut author);
-            }
-        }
-        output.write_all(&author.take_script())?;
-        round += 1;
-    }
-    Ok(())
-}
-
-fn any_record(turn: usize, author: &mut Author) {
-    let state = STATES[turn % STATES.len()];
-    let client = sound_record(state, &mut author.random);
-    author.set_record(client);
-    for _ in 0..author.random.between(2, 5) {
-        any_event(author);
-    }
+    write_scenes(&ROUND, seed, count, output)
 }
 
 fn wrong_lend(turn: usize, author: &mut Author) {
-    let mut client = sound_record(STATES[turn % STATES.len()], &mut author.random);
-    client.incoming.slots[0] = Some(4);
-    author.set_record(client);
-    author.lend_wrong();
-    for _ in 0..3 {
-        any_event(author);
-    }
-    author.write();
-    author.write();
-    author.hand_up(0);
-    author.lend_wrong();
-    author.hand_up(0);
-    author.lend_right();
+    script_scenes::wrong_lend(turn, 2, author);
 }
 
 pub fn state_timer(state: State) -> Option<TimerKind> {
@@ -133,21 +98,11 @@ fn shares(state: State) -> [usize; 12] {
     }
 }
 
-fn any_happening(author: &mut Author) -> Happening {
-    let mut drawn = author.random.between(0, 99);
-    for (happening, share) in HAPPENINGS.into_iter().zip(shares(author.client().state)) {
-        if drawn < share {
-            return happening;
-        }
-        drawn -= share;
-    }
-    Happening::Other
-}
-
 /// An event that mostly fits the state.
 pub fn any_event(author: &mut Author) {
-    let happening = any_happening(author);
-    let kind = match state_timer(author.client().state) {
+    let state = author.record().state;
+    let happening = author.random.share(&HAPPENINGS, &shares(state));
+    let kind = match state_timer(state) {
         Some(kind) if author.random.percent(85) => kind,
         _ => author.random.pick(&[TimerKind::Wait, TimerKind::Ack]),
     };

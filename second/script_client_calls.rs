@@ -1,6 +1,6 @@
 //! Whole calls of a client script, event by event from a fresh record.
 
-use crate::arriving::{Arriving, LAST_OF_SEVERAL, ONE_OF_SEVERAL, WHOLE};
+use crate::arriving::{bits_of, Arriving};
 use crate::client_author::Author;
 use crate::client_record::{State, TimerKind};
 use crate::codec::pdu_type;
@@ -93,13 +93,13 @@ pub fn whole_call(turn: usize, author: &mut Author) {
     match kind {
         Kind::Answered { length, reply } => {
             author.start(length);
-            send_all(author);
+            author.send_all();
             receive(reply, author);
             finish(reply, author);
         }
         Kind::Unanswered { reply } => {
             author.start(8);
-            send_all(author);
+            author.send_all();
             receive_first(reply, reply + 1, author);
             ping_to_the_limit(author);
         }
@@ -115,9 +115,9 @@ pub fn whole_call(turn: usize, author: &mut Author) {
         }
         Kind::Failed { pdu_type } => {
             author.start(20);
-            send_all(author);
+            author.send_all();
             receive_first(1, 3, author);
-            arrive_of_type(pdu_type, author);
+            author.arrive_of_type(pdu_type);
             author.hand_up(0);
         }
     }
@@ -125,20 +125,10 @@ pub fn whole_call(turn: usize, author: &mut Author) {
     author.hand_up(0);
 }
 
-fn arrive_of_type(pdu_type: u8, author: &mut Author) {
-    author.arrive(|client, random| Arriving::of_type(pdu_type, client, random));
-}
-
 /// Now and then something else comes between.
 fn disturb(author: &mut Author) {
-    if author.random.percent(12) && author.client().state.is_active() {
+    if author.random.percent(12) && author.record().state.is_active() {
         any_event(author);
-    }
-}
-
-fn send_all(author: &mut Author) {
-    for _ in author.client().outgoing.sent..author.client().outgoing.fragments {
-        author.transmit();
     }
 }
 
@@ -163,16 +153,12 @@ fn receive_first(fragments: u16, count: u16, author: &mut Author) {
 }
 
 fn arrive_fragment(number: u16, count: u16, author: &mut Author) {
-    let fragment_bits = match (count, number + 1 == count) {
-        (1, _) => WHOLE,
-        (_, false) => ONE_OF_SEVERAL,
-        (_, true) => LAST_OF_SEVERAL,
-    };
+    let fragment_bits = bits_of(number, count);
     author.arrive(|client, random| Arriving::response_of(number, fragment_bits, client, random));
 }
 
 fn finish(reply: u16, author: &mut Author) {
-    if author.client().state == State::AckPending && author.random.percent(70) {
+    if author.record().state == State::AckPending && author.random.percent(70) {
         author.late_timer(TimerKind::Ack);
         author.timer(TimerKind::Ack);
     }
@@ -188,7 +174,7 @@ fn ping_to_the_limit(author: &mut Author) {
         author.late_timer(TimerKind::Wait);
         author.timer(TimerKind::Wait);
     }
-    arrive_of_type(pdu_type::WORKING, author);
+    author.arrive_of_type(pdu_type::WORKING);
     for _ in 0..=RETRY_LIMIT {
         author.timer(TimerKind::Wait);
     }
@@ -197,9 +183,9 @@ fn ping_to_the_limit(author: &mut Author) {
 fn unknown_call(length: u32, acknowledged: u16, author: &mut Author) {
     author.start(length);
     for _ in 0..=RETRY_LIMIT {
-        send_all(author);
+        author.send_all();
         let number = acknowledged.wrapping_sub(1);
         author.arrive(|client, random| Arriving::fack_of(number, client, random));
-        arrive_of_type(pdu_type::NOCALL, author);
+        author.arrive_of_type(pdu_type::NOCALL);
     }
 }

@@ -1,43 +1,36 @@
 //! Scenes of a client script that go round the cases of one point: a rule, a row, a refusal.
 
-use crate::arriving::{Arriving, IMPOSSIBLE_WAYS, LAST_OF_SEVERAL, ONE_OF_SEVERAL, WHOLE};
+use crate::arriving::{Arriving, IMPOSSIBLE_WAYS, WHOLE};
 use crate::client_author::Author;
-use crate::client_record::{can_break_alone, Client, State, TimerKind, ACTIVE_STATES, STATES};
+use crate::client_record::{Client, ClientSide, State, TimerKind, ACTIVE_STATES, STATES};
 use crate::codec::{flags1, pdu_type, ByteOrder, BODY_LIMIT};
 use crate::incoming::Incoming;
 use crate::outgoing::Outgoing;
 use crate::random::Random;
-use crate::rule::{Rule, CLIENT_RULES};
 use crate::script_client::state_timer;
 use crate::script_client_pdu::MALFORMED_WAYS;
-use crate::script_client_record::{break_rule, set_counter, sound_record};
+use crate::script_fragment::{at_an_edge, COMPLETING_EDGE, EDGES};
+use crate::script_scenes;
+use crate::scripted::Scripted;
 use crate::timer::RETRY_LIMIT;
 use crate::turn::Choices;
 
-/// Every event meets a record that breaks one rule; there is something that would be handed up.
+/// Every event meets a record that breaks one rule.
 pub fn broken_record(turn: usize, author: &mut Author) {
-    let breaks: Vec<(Rule, State)> = STATES
-        .iter()
-        .flat_map(|state| CLIENT_RULES.map(|rule| (rule, *state)))
-        .filter(|(rule, state)| can_break_alone(*rule, *state))
-        .collect();
-    let (rule, state) = breaks[turn % breaks.len()];
-    let mut client = sound_record(state, &mut author.random);
-    client.incoming.slots[0] = Some(4);
-    break_rule(&mut client, rule, &mut author.random);
+    let client: Client = script_scenes::broken_record(turn, &mut author.random);
+    let kind = state_timer(client.state).unwrap_or(TimerKind::Wait);
     author.set_record(client);
     author.start(8);
     author.transmit();
     author.arrive(Arriving::response);
-    author.timer(state_timer(state).unwrap_or(TimerKind::Wait));
+    author.timer(kind);
     author.hand_up(0);
 }
 
 /// A record in which a timer can still be armed.
 fn record_with_tickets(state: State, random: &mut Random) -> Client {
-    let mut client = sound_record(state, random);
-    let counter = client.tickets.counter.min(u64::MAX - 1);
-    set_counter(&mut client, counter);
+    let mut client = ClientSide::sound_record(state, random);
+    client.set_counter(client.tickets.counter.min(u64::MAX - 1));
     client
 }
 
@@ -65,29 +58,14 @@ pub fn whole_reply(turn: usize, author: &mut Author) {
 pub fn fragment_case(turn: usize, author: &mut Author) {
     let mut choices = Choices::of(turn);
     let mut client = record_with_tickets(choices.pick(&ACTIVE_STATES), &mut author.random);
-    let bits = author.random.pick(&[ONE_OF_SEVERAL, LAST_OF_SEVERAL]);
-    let middle = author.random.between(1, 30);
-    let known_last = Some(middle as u8);
-    let (last, held, number, bits) = match choices.below(7) {
-        // Above the known last.
-        0 => (known_last, 0..0, middle + 1, bits),
-        // Another known last.
-        1 => (known_last, 0..0, middle - 1, LAST_OF_SEVERAL),
-        // A last one below one held.
-        2 => (None, middle..middle + 1, middle - 1, LAST_OF_SEVERAL),
-        // At the known last, not marked last.
-        3 => (known_last, 0..0, middle, ONE_OF_SEVERAL),
-        // All below the known last are held then, but not itself.
-        4 => (known_last, 0..middle - 1, middle - 1, ONE_OF_SEVERAL),
-        // The highest number, which is not marked last.
-        5 => (None, 0..0, 31, ONE_OF_SEVERAL),
-        _ => (None, 0..0, 31, LAST_OF_SEVERAL),
+    let edge = match choices.below(EDGES - 1) {
+        edge if edge < COMPLETING_EDGE => edge,
+        edge => edge + 1,
     };
-    client.incoming = Incoming::empty();
-    client.incoming.last = last;
-    client.incoming.slots[held].fill(Some(3));
+    let (incoming, (number, bits)) = at_an_edge(edge, &mut author.random);
+    client.incoming = incoming;
     author.set_record(client);
-    author.arrive(|client, random| Arriving::response_of(number as u16, bits, client, random));
+    author.arrive(|client, random| Arriving::response_of(number, bits, client, random));
 }
 
 /// Rows that arm nothing are done also where no ticket is left.
@@ -109,9 +87,9 @@ pub fn no_ticket_left(turn: usize, author: &mut Author) {
         1 => author.timer(TimerKind::Ack),
         2 => author.timer(TimerKind::Wait),
         3 => author.start(0),
-        4 => author.arrive(|client, random| Arriving::of_type(pdu_type::NOCALL, client, random)),
-        5 => author.arrive(|client, random| Arriving::of_type(pdu_type::FAULT, client, random)),
-        6 => author.arrive(|client, random| Arriving::of_type(pdu_type::REJECT, client, random)),
+        4 => author.arrive_of_type(pdu_type::NOCALL),
+        5 => author.arrive_of_type(pdu_type::FAULT),
+        6 => author.arrive_of_type(pdu_type::REJECT),
         7 => author.arrive(|client, random| Arriving::fack_of(0, client, random)),
         _ => author.arrive(|client, random| Arriving::response_of(0, WHOLE, client, random)),
     }
@@ -120,15 +98,15 @@ pub fn no_ticket_left(turn: usize, author: &mut Author) {
 /// A record of an idempotent call of three fragments with nothing received. All of its tickets are
 /// used up, and it is at its limits.
 fn record_without_tickets(state: State, random: &mut Random) -> Client {
-    let mut client = sound_record(state, random);
+    let mut client = ClientSide::sound_record(state, random);
     client.number = 0;
     client.call.idempotent = true;
     client.outgoing = Outgoing::of_length(2_785);
     client.incoming = Incoming::empty();
-    client.waits = RETRY_LIMIT;
+    client.own.waits = RETRY_LIMIT;
     client.tickets.counter = u64::MAX;
-    client.wait = state.names(TimerKind::Wait).then_some(u64::MAX);
-    client.ack = state.names(TimerKind::Ack).then_some(u64::MAX);
+    client.own.wait = state.names(TimerKind::Wait).then_some(u64::MAX);
+    client.own.ack = state.names(TimerKind::Ack).then_some(u64::MAX);
     client
 }
 
@@ -165,7 +143,7 @@ pub fn malformed_body(turn: usize, author: &mut Author) {
     let way = choices.below(MALFORMED_WAYS);
     // Every state but QUEUED, which shifts from one round of the ways to the next.
     let state = STATES[1 + (way + choices.below(6)) % 6];
-    let client = sound_record(state, &mut author.random);
+    let client = ClientSide::sound_record(state, &mut author.random);
     author.set_record(client);
     author.arrive(|client, random| Arriving::malformed(way, client, random));
 }
@@ -174,7 +152,7 @@ pub fn impossible_number(turn: usize, author: &mut Author) {
     let mut choices = Choices::of(turn);
     let state = choices.pick(&STATES);
     let way = choices.below(IMPOSSIBLE_WAYS);
-    let client = sound_record(state, &mut author.random);
+    let client = ClientSide::sound_record(state, &mut author.random);
     author.set_record(client);
     author.arrive(|client, random| Arriving::impossible_response(way, client, random));
 }

@@ -2,20 +2,15 @@
 
 use crate::arriving::{Arriving, IMPOSSIBLE_WAYS};
 use crate::client_author::Author;
-use crate::client_command::ClientEvent;
-use crate::client_record::{can_break_alone, Client, State, TimerKind, ACTIVE_STATES, STATES};
+use crate::client_record::{Client, ClientSide, State, TimerKind, ACTIVE_STATES, STATES};
 use crate::codec::pdu_type;
-use crate::command::LONG_LENGTH_LIMIT;
 use crate::defect::defect_set;
 use crate::random::Random;
-use crate::rule::CLIENT_RULES;
 use crate::script_client_pdu::{MALFORMED_WAYS, OTHER_TYPES};
-use crate::script_client_record::{break_rule, set_counter, sound_record};
+use crate::script_defects::{arrive_with_defects, set_with_length, timer_with_defects};
 use crate::script_record::message_length;
+use crate::scripted::Scripted;
 use crate::turn::Choices;
-
-const OTHER_LENGTHS: [u32; 7] = [0, 1, 1_391, 1_392, 1_393, 2_784, 44_544];
-const OVER_THE_LIMIT: [u32; 3] = [44_545, 45_936, 65_536];
 
 /// The number that a PDU leads to, or 0 for a good one, before further defects are put in.
 const BASES: [u8; 9] = [0, 10, 12, 13, 14, 15, 16, 17, 20];
@@ -41,7 +36,7 @@ pub fn refused_arrival(turn: usize, author: &mut Author) {
 /// A PDU of a type that no client takes, or a good one with one defect, in any state.
 pub fn damaged_arrival(turn: usize, author: &mut Author) {
     let mut choices = Choices::of(turn);
-    let client = sound_record(choices.pick(&STATES), &mut author.random);
+    let client = ClientSide::sound_record(choices.pick(&STATES), &mut author.random);
     match choices.below(1 + DEFECT_NUMBERS.len()) {
         0 => arrive(10, &[], client, author),
         defect => arrive(0, &[DEFECT_NUMBERS[defect - 1]], client, author),
@@ -49,27 +44,16 @@ pub fn damaged_arrival(turn: usize, author: &mut Author) {
 }
 
 fn arrive(base: u8, defects: &[u8], mut client: Client, author: &mut Author) {
-    let random = &mut author.random;
     if defects.contains(&20) {
-        set_counter(&mut client, u64::MAX);
+        client.set_counter(u64::MAX);
     }
-    let mut arriving = base_pdu(base, &client, random);
-    if defects.contains(&2) {
-        break_any_rule(&mut client, random);
-    }
-    if defects.contains(&9) {
-        arriving.header.activity[random.between(0, 15)] ^= 1 << random.between(0, 7);
-    }
-    if defects.contains(&13) {
-        arriving.change_number(random);
-    }
-    let datagram = arriving.damaged(defects, random);
-    author.set_record(client);
-    if defects.contains(&1) {
-        author.lend_wrong();
-    }
-    author.arrive_datagram(&datagram);
-    author.lend_right();
+    let arriving = base_pdu(base, &client, &mut author.random);
+    let put_own = |arriving: &mut Arriving, random: &mut Random| {
+        if defects.contains(&13) {
+            arriving.change_number(random);
+        }
+    };
+    arrive_with_defects(client, arriving, defects, put_own, author);
 }
 
 /// A record for which there is a PDU that leads to the number.
@@ -84,12 +68,12 @@ fn base_record(base: u8, random: &mut Random) -> Client {
         13 => random.pick(&[ACTIVE_STATES, over].concat()),
         _ => random.pick(&ACTIVE_STATES),
     };
-    let mut client = sound_record(state, random);
+    let mut client = ClientSide::sound_record(state, random);
     if base == 16 {
         client.incoming.slots[0].get_or_insert(3);
     }
     if base == 20 {
-        set_counter(&mut client, u64::MAX);
+        client.set_counter(u64::MAX);
     }
     client
 }
@@ -152,70 +136,23 @@ fn pdu_without_a_row(client: &Client, random: &mut Random) -> Arriving {
     }
 }
 
-fn break_any_rule(client: &mut Client, random: &mut Random) {
-    let mut rules = CLIENT_RULES.to_vec();
-    rules.retain(|rule| can_break_alone(*rule, client.state));
-    break_rule(client, random.pick(&rules), random);
-}
-
 pub fn defects_at_start(turn: usize, author: &mut Author) {
     let mut choices = Choices::of(turn);
     let random = &mut author.random;
-    let mut client = sound_record(choices.pick(&STATES), random);
-    let mut length = message_length(random);
+    let mut client = ClientSide::sound_record(choices.pick(&STATES), random);
+    let length = message_length(random);
     if choices.bool() {
         client.number = u32::MAX;
     }
-    if choices.bool() {
-        length = [44_545, 44_546, 65_536, 356_353, u32::MAX][turn % 5];
-    }
-    if choices.bool() {
-        break_any_rule(&mut client, random);
-    }
-    author.set_record(client);
+    let length = set_with_length(client, length, turn, &mut choices, author);
     author.start(length);
-}
-
-/// Every second record can transmit, and these mostly their last fragment.
-pub fn defects_at_transmit(turn: usize, author: &mut Author) {
-    let mut choices = Choices::of(turn);
-    let state = if choices.bool() {
-        choices.pick(&STATES)
-    } else {
-        State::SendFrags
-    };
-    let kind_of_length = choices.below(4);
-    let lends_wrong = choices.bool();
-    let is_broken = choices.bool();
-    let random = &mut author.random;
-    let mut client = sound_record(state, random);
-    if random.percent(50) {
-        set_counter(&mut client, u64::MAX);
-    }
-    if is_broken {
-        break_any_rule(&mut client, random);
-    }
-    let right = client.outgoing.length.min(LONG_LENGTH_LIMIT);
-    let length = match kind_of_length {
-        0 => right,
-        1 => random.pick(&[right.saturating_sub(1), (right + 1).min(LONG_LENGTH_LIMIT)]),
-        2 => OTHER_LENGTHS[turn / 8 % OTHER_LENGTHS.len()],
-        _ => random.pick(&OVER_THE_LIMIT),
-    };
-    let seed = random.u8();
-    author.set_record(client);
-    if lends_wrong {
-        author.lend_wrong_pdu();
-    }
-    author.event(ClientEvent::Transmit { length, seed });
-    author.lend_right();
 }
 
 /// Every second record has the timer.
 pub fn defects_at_timer(turn: usize, author: &mut Author) {
     let mut choices = Choices::of(turn);
     let any_kind = [TimerKind::Wait, TimerKind::Ack];
-    let (state, kind) = if choices.bool() {
+    let timer = if choices.bool() {
         (choices.pick(&STATES), choices.pick(&any_kind))
     } else {
         choices.pick(&[
@@ -224,28 +161,8 @@ pub fn defects_at_timer(turn: usize, author: &mut Author) {
             (State::AckPending, TimerKind::Ack),
         ])
     };
-    let random = &mut author.random;
-    let mut client = sound_record(state, random);
-    let lends_wrong = choices.bool();
-    let is_late = choices.bool();
-    let counter = choices.pick(&[client.tickets.counter, u64::MAX - 1, u64::MAX]);
-    set_counter(&mut client, counter);
-    if random.percent(15) {
-        client.wait = None;
-        client.ack = None;
-    }
-    client.outgoing.serial = random.pick(&[7, 65_535]);
-    if choices.bool() {
-        break_any_rule(&mut client, random);
-    }
-    author.set_record(client);
-    if lends_wrong {
-        author.lend_wrong_pdu();
-    }
-    if is_late {
-        author.late_timer(kind);
-    } else {
-        author.timer(kind);
-    }
-    author.lend_right();
+    let set_serial = |client: &mut Client, random: &mut Random| {
+        client.outgoing.serial = random.pick(&[7, 65_535]);
+    };
+    timer_with_defects(timer, &mut choices, set_serial, author);
 }

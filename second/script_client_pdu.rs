@@ -16,11 +16,6 @@ const FAILURE_WAYS: usize = 8;
 pub const MALFORMED_WAYS: usize = FAILURE_WAYS + FACK_WAYS;
 
 impl Arriving {
-    /// A PDU of the client's call with a body of the type; what is not judged is anything.
-    pub fn of_type(pdu_type: u8, client: &Client, random: &mut Random) -> Arriving {
-        Arriving::of_call(pdu_type, client.activity, client.number, random)
-    }
-
     /// A response with a fragment that the record lacks.
     pub fn response(client: &Client, random: &mut Random) -> Arriving {
         let place = lacking(&client.incoming, random);
@@ -59,30 +54,7 @@ impl Arriving {
         if let Some(place) = contradicting(way, &client.incoming, random) {
             return Arriving::response_at(place, client, random);
         }
-        let count = u16::from(client.outgoing.fragments);
-        let number = random.pick(&[count, count + 1, 32, 255, 65_534]);
-        Arriving::fack_of(number, client, random)
-    }
-
-    pub fn fack(client: &Client, random: &mut Random) -> Arriving {
-        let count = u16::from(client.outgoing.fragments);
-        let acknowledged = u16::from(client.outgoing.acknowledged);
-        let number = random.pick(&[
-            65_535,
-            0,
-            acknowledged.wrapping_sub(1),
-            acknowledged,
-            count.wrapping_sub(1),
-            count.wrapping_sub(1),
-            count,
-        ]);
-        Arriving::fack_of(number, client, random)
-    }
-
-    pub fn fack_of(number: u16, client: &Client, random: &mut Random) -> Arriving {
-        let mut arriving = Arriving::of_type(pdu_type::FACK, client, random);
-        arriving.header.fragment_number = number;
-        arriving
+        Arriving::fack_of_more(client, random)
     }
 
     /// A fault, reject or fack whose body is malformed in one of so many ways.
@@ -93,10 +65,6 @@ impl Arriving {
             arriving.body.truncate(way / 2);
             return arriving;
         }
-        let count = u16::from(client.outgoing.fragments);
-        let number = random.pick(&[65_535, 0, count]);
-        let mut arriving = Arriving::fack_of(number, client, random);
-        arriving.damage_fack(way - FAILURE_WAYS, random);
-        arriving
+        Arriving::malformed_fack(way - FAILURE_WAYS, client, random)
     }
 }

@@ -1,32 +1,69 @@
-//! Client records for a script: sound ones, and ones that break a single rule.
+//! Client records for a script, and how a client's events stand in it.
 
-use crate::client_record::{Client, State, TimerKind};
-use crate::outgoing::{fragment_count, Outgoing};
+use crate::author::Author;
+use crate::client_record::{Client, ClientFields, ClientSide, State, TimerKind};
+use crate::command::{Command, Setting};
+use crate::event::Event;
+use crate::outgoing::Outgoing;
 use crate::random::Random;
 use crate::rule::Rule;
+use crate::script_client;
 use crate::script_record::{
-    any_call, any_incoming, any_outgoing, any_serial, any_timer, break_incoming, break_outgoing,
-    call_number, message_length, no_outgoing, retry_count, ticket_above, ticket_counter,
-    WRONG_COUNTS,
+    any_call, any_incoming, any_outgoing, any_serial, any_timer, call_number, no_outgoing,
+    retry_count, ticket_above, ticket_counter,
 };
-use crate::timer::Tickets;
+use crate::scripted::Scripted;
+use crate::timer::Timer;
 
-pub fn sound_record(state: State, random: &mut Random) -> Client {
-    let tickets = Tickets {
-        counter: ticket_counter(random),
-    };
-    Client {
-        state,
-        activity: random.uuid(),
-        number: call_number(random),
-        call: any_call(random),
-        outgoing: outgoing_in(state, random),
-        incoming: any_incoming(random),
-        waits: retry_count(random),
-        resends: retry_count(random),
-        tickets,
-        wait: any_timer(state.names(TimerKind::Wait), tickets, random),
-        ack: any_timer(state.names(TimerKind::Ack), tickets, random),
+impl Scripted for ClientSide {
+    fn command(event: Event<'_, ClientSide>) -> Command<'_> {
+        Command::Client(event)
+    }
+
+    fn hand_up_command(fragment_number: u8) -> Command<'static> {
+        Command::ClientHandUp { fragment_number }
+    }
+
+    fn record_setting(client: Client) -> Setting {
+        Setting::ClientRecord(client)
+    }
+
+    fn sound_record(state: State, random: &mut Random) -> Client {
+        let counter = ticket_counter(random);
+        let mut client = Client::fresh(random.uuid(), counter);
+        client.state = state;
+        client.number = call_number(random);
+        client.call = any_call(random);
+        client.outgoing = outgoing_in(state, random);
+        client.incoming = any_incoming(random);
+        client.own.waits = retry_count(random);
+        client.resends = retry_count(random);
+        client.own.wait = any_timer(state.names(TimerKind::Wait), client.tickets, random);
+        client.own.ack = any_timer(state.names(TimerKind::Ack), client.tickets, random);
+        client
+    }
+
+    fn break_own_rule(client: &mut Client, rule: Rule, random: &mut Random) {
+        let counter = client.tickets.counter;
+        let own = &mut client.own;
+        match rule {
+            Rule::WaitCount => own.waits = random.pick(&[6, 7, 255]),
+            Rule::Resends => client.resends = random.pick(&[6, 7, 255]),
+            Rule::WaitState => own.wait = Some(random.pick(&[0, counter])),
+            Rule::AckState => own.ack = Some(random.pick(&[0, counter])),
+            Rule::WaitTicket => own.wait = ticket_above(&mut client.tickets, random),
+            Rule::AckTicket => own.ack = ticket_above(&mut client.tickets, random),
+            // No rule of a client.
+            _ => {}
+        }
+    }
+
+    fn timers(own: &mut ClientFields) -> Vec<&mut Timer> {
+        vec![&mut own.wait, &mut own.ack]
+    }
+
+    fn any_event(author: &mut Author<ClientSide>) {
+        script_client::any_event(author);
     }
 }
 
@@ -35,47 +72,5 @@ fn outgoing_in(state: State, random: &mut Random) -> Outgoing {
     match state {
         State::Queued => no_outgoing(serial, random),
         _ => any_outgoing(state == State::SendFrags, serial, random),
-    }
-}
-
-/// Sets the ticket counter; no timer is left with a ticket above it.
-pub fn set_counter(client: &mut Client, counter: u64) {
-    client.tickets.counter = counter;
-    client.wait = client.wait.map(|ticket| ticket.min(counter));
-    client.ack = client.ack.map(|ticket| ticket.min(counter));
-}
-
-/// Breaks one rule of a sound record and no other; the state is one in which this can be.
-pub fn break_rule(client: &mut Client, rule: Rule, random: &mut Random) {
-    if break_outgoing(&mut client.outgoing, rule, random)
-        || break_incoming(&mut client.incoming, rule, random)
-    {
-        return;
-    }
-    match rule {
-        Rule::WaitCount => client.waits = random.pick(&[6, 7, 255]),
-        Rule::Resends => client.resends = random.pick(&[6, 7, 255]),
-        Rule::FragmentCount => break_fragment_count(client, random),
-        Rule::WaitState => client.wait = Some(random.pick(&[0, client.tickets.counter])),
-        Rule::AckState => client.ack = Some(random.pick(&[0, client.tickets.counter])),
-        Rule::WaitTicket => client.wait = ticket_above(&mut client.tickets, random),
-        Rule::AckTicket => client.ack = ticket_above(&mut client.tickets, random),
-        // No rule of a client.
-        _ => {}
-    }
-}
-
-fn break_fragment_count(client: &mut Client, random: &mut Random) {
-    let outgoing = &mut client.outgoing;
-    outgoing.sent = 0;
-    outgoing.acknowledged = 0;
-    if client.state == State::Queued {
-        // A sound count elsewhere, but no message is out.
-        outgoing.length = message_length(random);
-        outgoing.fragments = fragment_count(outgoing.length).unwrap_or(1);
-    } else if client.state != State::SendFrags && random.percent(20) {
-        outgoing.fragments = 0;
-    } else {
-        (outgoing.length, outgoing.fragments) = random.pick(&WRONG_COUNTS);
     }
 }

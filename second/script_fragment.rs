@@ -112,3 +112,35 @@ pub fn contradicting(way: usize, incoming: &Incoming, random: &mut Random) -> Op
         _ => None,
     }
 }
+
+/// How many edges `at_an_edge` knows, and the one that completes a message.
+pub const EDGES: usize = 8;
+pub const COMPLETING_EDGE: usize = 5;
+
+/// What is held, and a fragment of several at an edge of what is put and what contradicts it.
+pub fn at_an_edge(edge: usize, random: &mut Random) -> (Incoming, Place) {
+    let bits = random.pick(&[ONE_OF_SEVERAL, LAST_OF_SEVERAL]);
+    let middle = random.between(1, 30);
+    let known_last = Some(middle as u8);
+    let (last, held, number, bits) = match edge {
+        // Above the known last.
+        0 => (known_last, 0..0, middle + 1, bits),
+        // Another known last.
+        1 => (known_last, 0..0, middle - 1, LAST_OF_SEVERAL),
+        // A last one below one held.
+        2 => (None, middle..middle + 1, middle - 1, LAST_OF_SEVERAL),
+        // At the known last, not marked last.
+        3 => (known_last, 0..0, middle, ONE_OF_SEVERAL),
+        // All below the known last are held then, but not itself.
+        4 => (known_last, 0..middle - 1, middle - 1, ONE_OF_SEVERAL),
+        // The last one that is missing.
+        COMPLETING_EDGE => (known_last, 1..middle + 1, 0, ONE_OF_SEVERAL),
+        // The highest number, which is not marked last.
+        6 => (None, 0..0, 31, ONE_OF_SEVERAL),
+        _ => (None, 0..0, 31, LAST_OF_SEVERAL),
+    };
+    let mut incoming = Incoming::empty();
+    incoming.last = last;
+    incoming.slots[held].fill(Some(3));
+    (incoming, (number as u16, bits))
+}

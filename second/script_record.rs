@@ -1,17 +1,18 @@
 //! Parts of records for a script, of either side: sound ones, and ones that break a single rule.
 
 use crate::incoming::Incoming;
-use crate::outgoing::{Outgoing, MESSAGE_LIMIT};
+use crate::outgoing::{fragment_count, Outgoing, MESSAGE_LIMIT};
 use crate::random::Random;
 use crate::rule::Rule;
 use crate::sent::Call;
+use crate::side::MessageOut;
 use crate::timer::{Tickets, Timer};
 
 /// Lengths at which the fragment count changes, and their neighbours.
 const BOUNDARY_LENGTHS: [u32; 8] = [1_391, 1_392, 1_393, 2_784, 2_785, 43_152, 43_153, 44_544];
 
 /// Fragment counts that are not those of the lengths beside them.
-pub const WRONG_COUNTS: [(u32, u8); 10] = [
+const WRONG_COUNTS: [(u32, u8); 10] = [
     (0, 2),
     (1_392, 2),
     (1_393, 1),
@@ -168,6 +169,26 @@ pub fn break_outgoing(outgoing: &mut Outgoing, rule: Rule, random: &mut Random) 
         _ => return false,
     }
     true
+}
+
+/// Another fragment count than that of the length, or than 0 where no message is out.
+pub fn break_fragment_count(
+    outgoing: &mut Outgoing,
+    message_out: MessageOut,
+    may_be_empty: bool,
+    random: &mut Random,
+) {
+    outgoing.sent = 0;
+    outgoing.acknowledged = 0;
+    match message_out {
+        MessageOut::Never => {
+            // A sound count elsewhere, but no message is out.
+            outgoing.length = message_length(random);
+            outgoing.fragments = fragment_count(outgoing.length).unwrap_or(1);
+        }
+        MessageOut::Always if may_be_empty && random.percent(20) => outgoing.fragments = 0,
+        _ => (outgoing.length, outgoing.fragments) = random.pick(&WRONG_COUNTS),
+    }
 }
 
 /// Breaks a rule of the message received; true if it is one.

@@ -5,7 +5,9 @@
 use crate::arriving::Arriving;
 use crate::codec::pdu_type;
 use crate::random::Random;
+use crate::script_defects::defects_at_transmit;
 use crate::script_record::message_length;
+use crate::script_scenes::{any_record, write_scenes, wrong_lend, Scene};
 use crate::script_server_calls::whole_call;
 use crate::script_server_cases::{
     broken_record, changed_call, forbidden_bits, hand_up_case, impossible_number, malformed_body,
@@ -13,22 +15,18 @@ use crate::script_server_cases::{
 };
 use crate::script_server_defects::{
     crossed_defects, damaged_arrival, defects_at_arrival, defects_at_fault, defects_at_reply,
-    defects_at_timer, defects_at_transmit, refused_arrival,
+    defects_at_timer, refused_arrival,
 };
 use crate::script_server_pdu as pdu;
-use crate::script_server_record::sound_record;
 use crate::script_server_rows::{
     acknowledgement, equal_request, fragment_case, newer_request, ping_row, replay_row,
 };
 use crate::server_author::Author;
-use crate::server_record::{Server, State, STATES};
+use crate::server_record::{Resend, Server, ServerSide, State};
 use std::io::{self, Write};
 
-/// Writes the events of its turn.
-type Scene = fn(usize, &mut Author);
-
 /// The scenes of one round, each with how often it comes.
-const ROUND: [(Scene, usize); 25] = [
+const ROUND: [(Scene<ServerSide>, usize); 25] = [
     (broken_record, 3),
     (any_record, 3),
     (defects_at_arrival, 10),
@@ -57,47 +55,12 @@ const ROUND: [(Scene, usize); 25] = [
 ];
 
 pub fn write_script(seed: u64, count: u64, output: &mut impl Write) -> io::Result<()> {
-    let mut author = Author::new(seed, count);
-    let mut round = 0;
-    while !author.has_finished() {
-        for (scene, times) in ROUND {
-            for time in 0..times {
-                scene(round * times + time, &mut author);
-            }
-        }
-        output.write_all(&author.take_script())?;
-        round += 1;
-    }
-    Ok(())
-}
-
-fn any_record(turn: usize, author: &mut Author) {
-    let state = STATES[turn % STATES.len()];
-    let server = sound_record(state, &mut author.random);
-    author.set_record(server);
-    for _ in 0..author.random.between(2, 5) {
-        any_event(author);
-    }
+    write_scenes(&ROUND, seed, count, output)
 }
 
 fn last_scenes(turn: usize, author: &mut Author) {
-    wrong_lend(turn, author);
+    wrong_lend(turn, 1, author);
     whole_call(turn, author);
-}
-
-fn wrong_lend(turn: usize, author: &mut Author) {
-    let mut server = sound_record(STATES[turn % STATES.len()], &mut author.random);
-    server.incoming.slots[0] = Some(4);
-    author.set_record(server);
-    author.lend_wrong();
-    for _ in 0..3 {
-        any_event(author);
-    }
-    author.write();
-    author.hand_up(0);
-    author.lend_wrong();
-    author.hand_up(0);
-    author.lend_right();
 }
 
 #[derive(Clone, Copy)]
@@ -145,24 +108,14 @@ fn shares(state: State) -> [usize; 13] {
     }
 }
 
-fn any_happening(author: &mut Author) -> Happening {
-    let mut drawn = author.random.between(0, 99);
-    for (happening, share) in HAPPENINGS.into_iter().zip(shares(author.server().state)) {
-        if drawn < share {
-            return happening;
-        }
-        drawn -= share;
-    }
-    Happening::Other
-}
-
 /// An event that mostly fits the state.
 pub fn any_event(author: &mut Author) {
-    let happening = any_happening(author);
+    let state = author.record().state;
+    let happening = author.random.share(&HAPPENINGS, &shares(state));
     match happening {
         Happening::Transmit => author.transmit(),
-        Happening::Timer => author.timer(),
-        Happening::LateTimer => author.late_timer(),
+        Happening::Timer => author.timer(Resend),
+        Happening::LateTimer => author.late_timer(Resend),
         Happening::Reply => {
             let length = message_length(&mut author.random);
             author.reply(length);
@@ -185,7 +138,7 @@ fn any_arriving(happening: Happening, server: &Server, random: &mut Random) -> A
             pdu::newer(request, server, random)
         }
         Happening::Ping => pdu::ping(server, random),
-        Happening::Fack => pdu::fack(server, random),
+        Happening::Fack => Arriving::fack(server, random),
         Happening::Ack => pdu::of_type(pdu_type::ACK, server, random),
         _ => pdu::other_type(server, random),
     }

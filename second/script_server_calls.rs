@@ -1,6 +1,6 @@
 //! Whole calls of a server script, event by event from a fresh record.
 
-use crate::arriving::{LAST_OF_SEVERAL, ONE_OF_SEVERAL, WHOLE};
+use crate::arriving::bits_of;
 use crate::codec::{flags1, pdu_type};
 use crate::random::Random;
 use crate::script_record::any_call;
@@ -8,7 +8,7 @@ use crate::script_server::any_event;
 use crate::script_server_pdu as pdu;
 use crate::sent::Call;
 use crate::server_author::Author;
-use crate::server_record::State;
+use crate::server_record::{Resend, State};
 use crate::timer::RETRY_LIMIT;
 
 /// How a call ends.
@@ -71,7 +71,7 @@ pub fn whole_call(turn: usize, author: &mut Author) {
         call,
         fragments,
     };
-    arrive_of_type(pdu_type::FACK, author);
+    author.arrive_of_type(pdu_type::FACK);
     collect(&request, author);
     author.hand_up(0);
     disturb(author);
@@ -84,7 +84,7 @@ fn end(ending: Ending, request: &Request, author: &mut Author) {
         Ending::Acknowledged { length } => {
             answer(length, author);
             disturb(author);
-            arrive_of_type(pdu_type::ACK, author);
+            author.arrive_of_type(pdu_type::ACK);
             arrive_fragment(0, request, author);
         }
         Ending::Held { length } => {
@@ -94,12 +94,12 @@ fn end(ending: Ending, request: &Request, author: &mut Author) {
         }
         Ending::Faulted => {
             author.fault();
-            arrive_of_type(pdu_type::ACK, author);
+            author.arrive_of_type(pdu_type::ACK);
             arrive_fragment(0, request, author);
         }
         Ending::HeldFault => {
             author.fault();
-            arrive_of_type(pdu_type::PING, author);
+            author.arrive_of_type(pdu_type::PING);
             resend_to_the_limit(author);
         }
         Ending::Repeated { length } => {
@@ -132,10 +132,6 @@ fn disturb(author: &mut Author) {
     }
 }
 
-fn arrive_of_type(pdu_type: u8, author: &mut Author) {
-    author.arrive(|server, random| pdu::of_type(pdu_type, server, random));
-}
-
 /// The fragments of a request in any order, some of them twice.
 fn collect(request: &Request, author: &mut Author) {
     let mut numbers: Vec<u16> = (0..request.fragments).collect();
@@ -149,11 +145,7 @@ fn collect(request: &Request, author: &mut Author) {
 }
 
 fn arrive_fragment(number: u16, request: &Request, author: &mut Author) {
-    let bits = match (request.fragments, number + 1 == request.fragments) {
-        (1, _) => WHOLE,
-        (_, false) => ONE_OF_SEVERAL,
-        (_, true) => LAST_OF_SEVERAL,
-    };
+    let bits = bits_of(number, request.fragments);
     author.arrive(|server, random: &mut Random| {
         let mut arriving = pdu::request_at((number, bits), server, random);
         arriving.header.call_number = request.number;
@@ -167,22 +159,15 @@ fn arrive_fragment(number: u16, request: &Request, author: &mut Author) {
 
 fn answer(length: u32, author: &mut Author) {
     author.reply(length);
-    send_all(author);
-}
-
-/// Sends what there is to send.
-fn send_all(author: &mut Author) {
-    for _ in author.server().outgoing.sent..author.server().outgoing.fragments {
-        author.transmit();
-    }
+    author.send_all();
 }
 
 fn resend_to_the_limit(author: &mut Author) {
     for _ in 0..=RETRY_LIMIT {
-        author.late_timer();
-        author.timer();
-        if author.server().state == State::Replying {
-            send_all(author);
+        author.late_timer(Resend);
+        author.timer(Resend);
+        if author.record().state == State::Replying {
+            author.send_all();
         }
     }
 }

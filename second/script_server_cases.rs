@@ -1,34 +1,26 @@
 //! Scenes of a server script that go round the cases of one point: a rule, a refusal, a ticket.
 
-use crate::arriving::{FACK_WAYS, IMPOSSIBLE_WAYS, WHOLE};
+use crate::arriving::{Arriving, FACK_WAYS, IMPOSSIBLE_WAYS, WHOLE};
 use crate::codec::{flags1, pdu_type};
 use crate::incoming::Incoming;
 use crate::outgoing::Outgoing;
 use crate::random::Random;
-use crate::rule::{Rule, SERVER_RULES};
 use crate::script_fragment::sent_again;
+use crate::script_scenes;
 use crate::script_server_pdu as pdu;
-use crate::script_server_record::{break_rule, set_counter, sound_record};
+use crate::scripted::Scripted;
 use crate::server_author::Author;
-use crate::server_record::{can_break_alone, Server, State, STATES};
+use crate::server_record::{Resend, Server, ServerSide, State, STATES};
 use crate::timer::RETRY_LIMIT;
 use crate::turn::Choices;
 
-/// Every event meets a record that breaks one rule; there is something that would be handed up.
+/// Every event meets a record that breaks one rule.
 pub fn broken_record(turn: usize, author: &mut Author) {
-    let breaks: Vec<(Rule, State)> = STATES
-        .iter()
-        .flat_map(|state| SERVER_RULES.map(|rule| (rule, *state)))
-        .filter(|(rule, state)| can_break_alone(*rule, *state))
-        .collect();
-    let (rule, state) = breaks[turn % breaks.len()];
-    let mut server = sound_record(state, &mut author.random);
-    server.incoming.slots[0] = Some(4);
-    break_rule(&mut server, rule, &mut author.random);
+    let server = script_scenes::broken_record(turn, &mut author.random);
     author.set_record(server);
     author.transmit();
     author.arrive(pdu::good);
-    author.timer();
+    author.timer(Resend);
     author.reply(8);
     author.fault();
     author.hand_up(0);
@@ -36,10 +28,9 @@ pub fn broken_record(turn: usize, author: &mut Author) {
 
 /// A record that has tickets and call numbers left.
 pub fn record_with_numbers(state: State, random: &mut Random) -> Server {
-    let mut server = sound_record(state, random);
+    let mut server = ServerSide::sound_record(state, random);
     server.number = server.number.clamp(1, u32::MAX - 1);
-    let counter = server.tickets.counter.min(u64::MAX - 1);
-    set_counter(&mut server, counter);
+    server.set_counter(server.tickets.counter.min(u64::MAX - 1));
     server
 }
 
@@ -151,7 +142,7 @@ pub fn ticket_needed(turn: usize, author: &mut Author) {
     let mut server = record_without_tickets(state, &mut author.random);
     server.call.idempotent = false;
     server.resends = choices.pick(&[0, 4]);
-    set_counter(&mut server, counter);
+    server.set_counter(counter);
     if event < 2 {
         server.outgoing = Outgoing::of_length(2_785);
         server.outgoing.sent = 2;
@@ -159,7 +150,7 @@ pub fn ticket_needed(turn: usize, author: &mut Author) {
     author.set_record(server);
     match event {
         0 | 1 => author.transmit(),
-        2 => author.timer(),
+        2 => author.timer(Resend),
         _ => author.fault(),
     }
 }
@@ -188,23 +179,23 @@ pub fn no_ticket_left(turn: usize, author: &mut Author) {
     author.set_record(server);
     match case {
         0..=1 => author.transmit(),
-        2..=3 => author.timer(),
+        2..=3 => author.timer(Resend),
         4 => author.reply(3),
         5 => author.fault(),
-        6 => author.arrive(|server, random| pdu::of_type(pdu_type::PING, server, random)),
+        6 => author.arrive_of_type(pdu_type::PING),
         7 => author.arrive(|server, random| {
             let request = pdu::request_at((0, WHOLE), server, random);
             pdu::newer(request, server, random)
         }),
-        8..=9 => author.arrive(|server, random| pdu::fack_of(0, server, random)),
-        _ => author.arrive(|server, random| pdu::of_type(pdu_type::ACK, server, random)),
+        8..=9 => author.arrive(|server, random| Arriving::fack_of(0, server, random)),
+        _ => author.arrive_of_type(pdu_type::ACK),
     }
 }
 
-/// A record of an idempotent call, where a message is out of three fragments. All of its tickets are
-/// used up, and it is at its limit.
+/// A record of an idempotent call, where a message is out of three fragments. All of its tickets
+/// are used up, and it is at its limit.
 fn record_without_tickets(state: State, random: &mut Random) -> Server {
-    let mut server = sound_record(state, random);
+    let mut server = ServerSide::sound_record(state, random);
     server.number = 7;
     server.call.idempotent = true;
     server.outgoing = match state {
@@ -213,7 +204,7 @@ fn record_without_tickets(state: State, random: &mut Random) -> Server {
     };
     server.resends = RETRY_LIMIT;
     server.tickets.counter = u64::MAX;
-    server.resend = state.is_held().then_some(u64::MAX);
+    server.own.resend = state.is_held().then_some(u64::MAX);
     server
 }
 
@@ -222,16 +213,16 @@ pub fn malformed_body(turn: usize, author: &mut Author) {
     let way = choices.below(FACK_WAYS);
     // The states shift from one round of the ways to the next.
     let state = STATES[(way + choices.below(8)) % 8];
-    let server = sound_record(state, &mut author.random);
+    let server = ServerSide::sound_record(state, &mut author.random);
     author.set_record(server);
-    author.arrive(|server, random| pdu::malformed(way, server, random));
+    author.arrive(|server, random| Arriving::malformed_fack(way, server, random));
 }
 
 pub fn impossible_number(turn: usize, author: &mut Author) {
     let mut choices = Choices::of(turn);
     let state = choices.pick(&STATES);
     let way = (turn + choices.below(IMPOSSIBLE_WAYS)) % IMPOSSIBLE_WAYS;
-    let server = sound_record(state, &mut author.random);
+    let server = ServerSide::sound_record(state, &mut author.random);
     author.set_record(server);
     author.arrive(|server, random| pdu::impossible_request(way, server, random));
 }

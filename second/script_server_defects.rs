@@ -2,20 +2,18 @@
 
 use crate::arriving::Arriving;
 use crate::codec::{flags1, pdu_type};
-use crate::command::LONG_LENGTH_LIMIT;
 use crate::defect::defect_set;
 use crate::random::Random;
-use crate::rule::SERVER_RULES;
+use crate::script_defects::{
+    any_or, arrive_with_defects, event_with_lend, set_with_length, timer_with_defects,
+    OTHER_LENGTHS,
+};
 use crate::script_record::message_length;
 use crate::script_server_pdu as pdu;
-use crate::script_server_record::{break_rule, set_counter, sound_record};
+use crate::scripted::Scripted;
 use crate::server_author::Author;
-use crate::server_command::ServerEvent;
-use crate::server_record::{can_break_alone, Server, State, STATES};
+use crate::server_record::{Resend, Server, ServerSide, State, STATES};
 use crate::turn::Choices;
-
-const OTHER_LENGTHS: [u32; 7] = [0, 1, 1_391, 1_392, 1_393, 2_784, 44_544];
-const OVER_THE_LIMIT: [u32; 3] = [44_545, 45_936, 65_536];
 
 /// The number that a PDU leads to, or 0 for a good one, before further defects are put in.
 const BASES: [u8; 9] = [0, 10, 11, 12, 13, 14, 15, 16, 17];
@@ -50,7 +48,7 @@ pub fn refused_arrival(turn: usize, author: &mut Author) {
 /// A PDU of a type that no server takes, or a good one with one defect, in any state.
 pub fn damaged_arrival(turn: usize, author: &mut Author) {
     let mut choices = Choices::of(turn);
-    let mut server = sound_record(choices.pick(&STATES), &mut author.random);
+    let mut server = ServerSide::sound_record(choices.pick(&STATES), &mut author.random);
     server.number = server.number.max(1);
     match choices.below(2 + DEFECT_NUMBERS.len()) {
         0 => arrive(10, &[], server, author),
@@ -59,28 +57,18 @@ pub fn damaged_arrival(turn: usize, author: &mut Author) {
     }
 }
 
-fn arrive(base: u8, defects: &[u8], mut server: Server, author: &mut Author) {
+fn arrive(base: u8, defects: &[u8], server: Server, author: &mut Author) {
     let random = &mut author.random;
     let mut arriving = base_pdu(base, &server, random);
     if defects.contains(&13) {
         arriving = pdu::older(arriving, &server, random);
     }
-    if defects.contains(&2) {
-        break_any_rule(&mut server, random);
-    }
-    if defects.contains(&9) {
-        arriving.header.activity[random.between(0, 15)] ^= 1 << random.between(0, 7);
-    }
-    if defects.contains(&11) {
-        set_maybe_or_broadcast(&mut arriving, random);
-    }
-    let datagram = arriving.damaged(defects, random);
-    author.set_record(server);
-    if defects.contains(&1) {
-        author.lend_wrong();
-    }
-    author.arrive_datagram(&datagram);
-    author.lend_right();
+    let put_own = |arriving: &mut Arriving, random: &mut Random| {
+        if defects.contains(&11) {
+            set_maybe_or_broadcast(arriving, random);
+        }
+    };
+    arrive_with_defects(server, arriving, defects, put_own, author);
 }
 
 /// In another PDU than a request the bits are not judged.
@@ -106,7 +94,7 @@ fn base_record(base: u8, random: &mut Random) -> Server {
         ]),
         _ => random.pick(&STATES),
     };
-    let mut server = sound_record(state, random);
+    let mut server = ServerSide::sound_record(state, random);
     server.number = server.number.clamp(1, u32::MAX - 1);
     if base == 16 {
         server.incoming.slots[0].get_or_insert(3);
@@ -156,47 +144,6 @@ fn old_pdu(server: &Server, random: &mut Random) -> Arriving {
     pdu::older(arriving, server, random)
 }
 
-fn break_any_rule(server: &mut Server, random: &mut Random) {
-    let mut rules = SERVER_RULES.to_vec();
-    rules.retain(|rule| can_break_alone(*rule, server.state));
-    break_rule(server, random.pick(&rules), random);
-}
-
-/// Every second record can transmit, and these mostly their last fragment.
-pub fn defects_at_transmit(turn: usize, author: &mut Author) {
-    let mut choices = Choices::of(turn);
-    let state = if choices.bool() {
-        choices.pick(&STATES)
-    } else {
-        State::Replying
-    };
-    let kind_of_length = choices.below(4);
-    let lends_wrong = choices.bool();
-    let is_broken = choices.bool();
-    let random = &mut author.random;
-    let mut server = sound_record(state, random);
-    if random.percent(50) {
-        set_counter(&mut server, u64::MAX);
-    }
-    if is_broken {
-        break_any_rule(&mut server, random);
-    }
-    let right = server.outgoing.length.min(LONG_LENGTH_LIMIT);
-    let length = match kind_of_length {
-        0 => right,
-        1 => random.pick(&[right.saturating_sub(1), (right + 1).min(LONG_LENGTH_LIMIT)]),
-        2 => OTHER_LENGTHS[turn / 8 % OTHER_LENGTHS.len()],
-        _ => random.pick(&OVER_THE_LIMIT),
-    };
-    let seed = random.u8();
-    author.set_record(server);
-    if lends_wrong {
-        author.lend_wrong_pdu();
-    }
-    author.event(ServerEvent::Transmit { length, seed });
-    author.lend_right();
-}
-
 /// Two of three records have the timer.
 pub fn defects_at_timer(turn: usize, author: &mut Author) {
     let mut choices = Choices::of(turn);
@@ -205,75 +152,34 @@ pub fn defects_at_timer(turn: usize, author: &mut Author) {
         1 => State::HeldData,
         _ => State::HeldFault,
     };
-    let random = &mut author.random;
-    let mut server = sound_record(state, random);
-    let lends_wrong = choices.bool();
-    let is_late = choices.bool();
-    let counter = choices.pick(&[server.tickets.counter, u64::MAX - 1, u64::MAX]);
-    set_counter(&mut server, counter);
-    if random.percent(15) {
-        server.resend = None;
-    }
-    if choices.bool() {
-        break_any_rule(&mut server, random);
-    }
-    author.set_record(server);
-    if lends_wrong {
-        author.lend_wrong_pdu();
-    }
-    if is_late {
-        author.late_timer();
-    } else {
-        author.timer();
-    }
-    author.lend_right();
+    timer_with_defects((state, Resend), &mut choices, |_, _| {}, author);
 }
 
 /// Every second record can take a reply.
 pub fn defects_at_reply(turn: usize, author: &mut Author) {
     let mut choices = Choices::of(turn);
-    let state = if choices.bool() {
-        choices.pick(&STATES)
-    } else {
-        State::Running
-    };
-    let random = &mut author.random;
-    let mut server = sound_record(state, random);
-    let mut length = match choices.bool() {
+    let state = any_or::<ServerSide>(State::Running, &mut choices);
+    let server = ServerSide::sound_record(state, &mut author.random);
+    let length = match choices.bool() {
         true => OTHER_LENGTHS[turn / 4 % OTHER_LENGTHS.len()],
-        false => message_length(random),
+        false => message_length(&mut author.random),
     };
-    if choices.bool() {
-        length = [44_545, 44_546, 65_536, 356_353, u32::MAX][turn % 5];
-    }
-    if choices.bool() {
-        break_any_rule(&mut server, random);
-    }
-    author.set_record(server);
+    let length = set_with_length(server, length, turn, &mut choices, author);
     author.reply(length);
 }
 
 /// Every second record can take a fault.
 pub fn defects_at_fault(turn: usize, author: &mut Author) {
     let mut choices = Choices::of(turn);
-    let state = if choices.bool() {
-        choices.pick(&STATES)
-    } else {
-        State::Running
-    };
+    let state = any_or::<ServerSide>(State::Running, &mut choices);
     let random = &mut author.random;
-    let mut server = sound_record(state, random);
+    let mut server = ServerSide::sound_record(state, random);
     let lends_wrong = choices.bool();
     let counter = choices.pick(&[server.tickets.counter, u64::MAX, u64::MAX - 1]);
-    set_counter(&mut server, counter);
+    server.set_counter(counter);
     server.call.idempotent = random.percent(25);
     if choices.bool() {
-        break_any_rule(&mut server, random);
+        server.break_any_rule(random);
     }
-    author.set_record(server);
-    if lends_wrong {
-        author.lend_wrong_pdu();
-    }
-    author.fault();
-    author.lend_right();
+    event_with_lend(server, lends_wrong, author, |author| author.fault());
 }

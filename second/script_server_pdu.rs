@@ -28,7 +28,7 @@ pub const CALL_CHANGES: usize = 5;
 /// A PDU with the number of the server's call. A request names the call as well; in the others
 /// what names it is anything, since it is not judged there.
 pub fn of_type(pdu_type: u8, server: &Server, random: &mut Random) -> Arriving {
-    let mut arriving = Arriving::of_call(pdu_type, server.activity, server.number, random);
+    let mut arriving = Arriving::of_type(pdu_type, server, random);
     if pdu_type == pdu_type::REQUEST {
         arriving.header.flags1 &= !(flags1::MAYBE | flags1::BROADCAST);
         set_call(&mut arriving.header, &server.call);
@@ -106,34 +106,13 @@ pub fn ping(server: &Server, random: &mut Random) -> Arriving {
     ping
 }
 
-pub fn fack(server: &Server, random: &mut Random) -> Arriving {
-    let count = u16::from(server.outgoing.fragments);
-    let acknowledged = u16::from(server.outgoing.acknowledged);
-    let number = random.pick(&[
-        65_535,
-        0,
-        acknowledged.wrapping_sub(1),
-        acknowledged,
-        count.wrapping_sub(1),
-        count.wrapping_sub(1),
-        count,
-    ]);
-    fack_of(number, server, random)
-}
-
-pub fn fack_of(number: u16, server: &Server, random: &mut Random) -> Arriving {
-    let mut arriving = of_type(pdu_type::FACK, server, random);
-    arriving.header.fragment_number = number;
-    arriving
-}
-
 /// A PDU that the record has a row for, mostly.
 pub fn good(server: &Server, random: &mut Random) -> Arriving {
     match random.between(0, 9) {
         0..=4 => request(server, random),
         5..=6 => ping(server, random),
         7 if server.state.has_answer() => of_type(pdu_type::ACK, server, random),
-        _ if server.state.has_answer() => fack(server, random),
+        _ if server.state.has_answer() => Arriving::fack(server, random),
         _ => request(server, random),
     }
 }
@@ -159,17 +138,9 @@ pub fn any_impossible(server: &Server, random: &mut Random) -> Arriving {
     impossible_request(way, server, random)
 }
 
-/// A fack whose body is malformed in one of so many ways.
-pub fn malformed(way: usize, server: &Server, random: &mut Random) -> Arriving {
-    let count = u16::from(server.outgoing.fragments);
-    let number = random.pick(&[65_535, 0, count]);
-    let mut arriving = fack_of(number, server, random);
-    arriving.damage_fack(way, random);
-    arriving
-}
-
 pub fn any_malformed(server: &Server, random: &mut Random) -> Arriving {
-    let arriving = malformed(random.between(0, FACK_WAYS - 1), server, random);
+    let way = random.between(0, FACK_WAYS - 1);
+    let arriving = Arriving::malformed_fack(way, server, random);
     if random.percent(20) {
         return newer(arriving, server, random);
     }
@@ -204,9 +175,7 @@ pub fn change_call(way: usize, header: &mut Header, random: &mut Random) {
 /// more than is out.
 pub fn contradiction(server: &Server, random: &mut Random) -> Arriving {
     if server.state.has_answer() && random.percent(30) {
-        let count = u16::from(server.outgoing.fragments);
-        let number = random.pick(&[count, count + 1, 32, 255, 65_534]);
-        return fack_of(number, server, random);
+        return Arriving::fack_of_more(server, random);
     }
     let way = random.between(0, CONTRADICTIONS);
     if let Some(place) = contradicting(way, &server.incoming, random) {
@@ -227,7 +196,7 @@ pub fn contradiction(server: &Server, random: &mut Random) -> Arriving {
 pub fn without_a_row(server: &Server, random: &mut Random) -> Arriving {
     let kind = random.pick(&[pdu_type::ACK, pdu_type::FACK]);
     let arriving = match kind {
-        pdu_type::FACK => fack(server, random),
+        pdu_type::FACK => Arriving::fack(server, random),
         _ => of_type(kind, server, random),
     };
     if server.state == State::Running && random.percent(60) {

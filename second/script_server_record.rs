@@ -1,34 +1,67 @@
-//! Server records for a script: sound ones, and ones that break a single rule.
+//! Server records for a script, and how a server's events stand in it.
 
+use crate::author::Author;
+use crate::command::{Command, Setting};
+use crate::event::Event;
 use crate::incoming::Incoming;
-use crate::outgoing::{fragment_count, Outgoing};
+use crate::outgoing::Outgoing;
 use crate::random::Random;
 use crate::rule::Rule;
 use crate::script_record::{
-    any_call, any_incoming, any_outgoing, any_serial, any_timer, break_incoming, break_outgoing,
-    call_number, message_length, no_outgoing, retry_count, ticket_above, ticket_counter,
-    whole_incoming, WRONG_COUNTS,
+    any_call, any_incoming, any_outgoing, any_serial, any_timer, call_number, no_outgoing,
+    retry_count, ticket_above, ticket_counter, whole_incoming,
 };
+use crate::script_server;
+use crate::scripted::Scripted;
 use crate::sent::Call;
-use crate::server_record::{Server, State};
-use crate::timer::Tickets;
+use crate::server_record::{Server, ServerFields, ServerSide, State};
+use crate::timer::Timer;
 
-pub fn sound_record(state: State, random: &mut Random) -> Server {
-    let tickets = Tickets {
-        counter: ticket_counter(random),
-    };
-    Server {
-        state,
-        status: random.field_u32(),
-        activity: random.uuid(),
-        boot: random.field_u32(),
-        number: call_number(random),
-        call: call_in(state, random),
-        outgoing: outgoing_in(state, random),
-        incoming: incoming_in(state, random),
-        resends: retry_count(random),
-        tickets,
-        resend: any_timer(state.is_held(), tickets, random),
+impl Scripted for ServerSide {
+    fn command(event: Event<'_, ServerSide>) -> Command<'_> {
+        Command::Server(event)
+    }
+
+    fn hand_up_command(fragment_number: u8) -> Command<'static> {
+        Command::ServerHandUp { fragment_number }
+    }
+
+    fn record_setting(server: Server) -> Setting {
+        Setting::ServerRecord(server)
+    }
+
+    fn sound_record(state: State, random: &mut Random) -> Server {
+        let counter = ticket_counter(random);
+        let status = random.field_u32();
+        let mut server = Server::fresh(random.uuid(), random.field_u32(), counter);
+        server.state = state;
+        server.own.status = status;
+        server.number = call_number(random);
+        server.call = call_in(state, random);
+        server.outgoing = outgoing_in(state, random);
+        server.incoming = incoming_in(state, random);
+        server.resends = retry_count(random);
+        server.own.resend = any_timer(state.is_held(), server.tickets, random);
+        server
+    }
+
+    fn break_own_rule(server: &mut Server, rule: Rule, random: &mut Random) {
+        let resend = &mut server.own.resend;
+        match rule {
+            Rule::ResendCount => server.resends = random.pick(&[6, 7, 255]),
+            Rule::ResendState => *resend = Some(random.pick(&[0, server.tickets.counter])),
+            Rule::ResendTicket => *resend = ticket_above(&mut server.tickets, random),
+            // No rule of a server.
+            _ => {}
+        }
+    }
+
+    fn timers(own: &mut ServerFields) -> Vec<&mut Timer> {
+        vec![&mut own.resend]
+    }
+
+    fn any_event(author: &mut Author<ServerSide>) {
+        script_server::any_event(author);
     }
 }
 
@@ -60,42 +93,4 @@ fn incoming_in(state: State, random: &mut Random) -> Incoming {
         return whole_incoming(random);
     }
     any_incoming(random)
-}
-
-/// Sets the ticket counter; the timer is not left with a ticket above it.
-pub fn set_counter(server: &mut Server, counter: u64) {
-    server.tickets.counter = counter;
-    server.resend = server.resend.map(|ticket| ticket.min(counter));
-}
-
-/// Breaks one rule of a sound record and no other; the state is one in which this can be.
-pub fn break_rule(server: &mut Server, rule: Rule, random: &mut Random) {
-    if break_outgoing(&mut server.outgoing, rule, random)
-        || break_incoming(&mut server.incoming, rule, random)
-    {
-        return;
-    }
-    match rule {
-        Rule::ResendCount => server.resends = random.pick(&[6, 7, 255]),
-        Rule::FragmentCount => break_fragment_count(server, random),
-        Rule::ResendState => server.resend = Some(random.pick(&[0, server.tickets.counter])),
-        Rule::ResendTicket => server.resend = ticket_above(&mut server.tickets, random),
-        // No rule of a server.
-        _ => {}
-    }
-}
-
-fn break_fragment_count(server: &mut Server, random: &mut Random) {
-    let outgoing = &mut server.outgoing;
-    outgoing.sent = 0;
-    outgoing.acknowledged = 0;
-    match server.state {
-        State::IdleFresh | State::Collect | State::Running | State::HeldFault => {
-            // A sound count elsewhere, but no message is out.
-            outgoing.length = message_length(random);
-            outgoing.fragments = fragment_count(outgoing.length).unwrap_or(1);
-        }
-        State::HeldData if random.percent(20) => outgoing.fragments = 0,
-        _ => (outgoing.length, outgoing.fragments) = random.pick(&WRONG_COUNTS),
-    }
 }

@@ -3,11 +3,11 @@
 use crate::arriving::{Arriving, LAST_OF_SEVERAL, ONE_OF_SEVERAL, WHOLE};
 use crate::codec::{flags1, pdu_type, ByteOrder, BODY_LIMIT};
 use crate::incoming::Incoming;
-use crate::script_fragment::sent_again;
+use crate::script_fragment::{at_an_edge, sent_again, EDGES};
 use crate::script_server_cases::record_with_numbers;
 use crate::script_server_pdu as pdu;
 use crate::server_author::Author;
-use crate::server_record::{State, STATES};
+use crate::server_record::{Resend, State, STATES};
 use crate::timer::RETRY_LIMIT;
 use crate::turn::Choices;
 
@@ -115,15 +115,15 @@ pub fn replay_row(turn: usize, author: &mut Author) {
         server.outgoing.acknowledged = acknowledged;
     }
     server.resends = choices.pick(&[4, RETRY_LIMIT]);
-    server.resend = Some(server.tickets.counter);
+    server.own.resend = Some(server.tickets.counter);
     author.set_record(server);
     match event {
         0 => author.arrive(|server, random| {
             let place = sent_again(&server.incoming, random);
             pdu::request_at(place, server, random)
         }),
-        1 => author.arrive(|server, random| pdu::of_type(pdu_type::PING, server, random)),
-        _ => author.timer(),
+        1 => author.arrive_of_type(pdu_type::PING),
+        _ => author.timer(Resend),
     }
     author.transmit();
 }
@@ -141,9 +141,9 @@ pub fn acknowledgement(turn: usize, author: &mut Author) {
     author.set_record(server);
     author.arrive(|server, random| {
         let arriving = match kind {
-            0 => pdu::fack_of(count.wrapping_sub(1), server, random),
-            1 => pdu::fack_of(65_535, server, random),
-            2 => pdu::fack_of(count, server, random),
+            0 => Arriving::fack_of(count.wrapping_sub(1), server, random),
+            1 => Arriving::fack_of(65_535, server, random),
+            2 => Arriving::fack_of(count, server, random),
             _ => pdu::of_type(pdu_type::ACK, server, random),
         };
         arriving.in_order(order)
@@ -153,7 +153,7 @@ pub fn acknowledgement(turn: usize, author: &mut Author) {
 /// Fragments of a request of several, at the edges of what is put and what contradicts.
 pub fn fragment_case(turn: usize, author: &mut Author) {
     let mut choices = Choices::of(turn);
-    let case = choices.below(8);
+    let edge = choices.below(EDGES);
     // Every second record is in COLLECT; where nothing is put, the same contradicts.
     let state = choices.pick(&[
         State::Collect,
@@ -164,29 +164,8 @@ pub fn fragment_case(turn: usize, author: &mut Author) {
         State::HeldFault,
     ]);
     let mut server = record_with_numbers(state, &mut author.random);
-    let bits = author.random.pick(&[ONE_OF_SEVERAL, LAST_OF_SEVERAL]);
-    let middle = author.random.between(1, 30);
-    let known_last = Some(middle as u8);
-    let (last, held, number, bits) = match case {
-        // Above the known last.
-        0 => (known_last, 0..0, middle + 1, bits),
-        // Another known last.
-        1 => (known_last, 0..0, middle - 1, LAST_OF_SEVERAL),
-        // A last one below one held.
-        2 => (None, middle..middle + 1, middle - 1, LAST_OF_SEVERAL),
-        // At the known last, not marked last.
-        3 => (known_last, 0..0, middle, ONE_OF_SEVERAL),
-        // All below the known last are held then, but not itself.
-        4 => (known_last, 0..middle - 1, middle - 1, ONE_OF_SEVERAL),
-        // The last one that is missing.
-        5 => (known_last, 1..middle + 1, 0, ONE_OF_SEVERAL),
-        // The highest number, which is not marked last.
-        6 => (None, 0..0, 31, ONE_OF_SEVERAL),
-        _ => (None, 0..0, 31, LAST_OF_SEVERAL),
-    };
-    server.incoming = Incoming::empty();
-    server.incoming.last = last;
-    server.incoming.slots[held].fill(Some(3));
+    let (incoming, place) = at_an_edge(edge, &mut author.random);
+    server.incoming = incoming;
     author.set_record(server);
-    author.arrive(|server, random| pdu::request_at((number as u16, bits), server, random));
+    author.arrive(|server, random| pdu::request_at(place, server, random));
 }

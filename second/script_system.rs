@@ -2,15 +2,15 @@
 //! loses, repeats and delays. While it is written, demand 3 is checked.
 
 use crate::author;
-use crate::client_record::{State, TimerKind};
+use crate::client_record::{ClientSide, State, TimerKind};
 use crate::command::Setting;
-use crate::demand::{Broken, Demand};
-use crate::network::{Line, Weather};
+use crate::demand_side::Broken;
+use crate::network::Weather;
 use crate::outgoing::MESSAGE_LIMIT;
 use crate::random::Random;
 use crate::script_record::any_call;
-use crate::script_system_step::{Message, System};
-use crate::server_record;
+use crate::script_system_step::System;
+use crate::server_record::{self, Resend, ServerSide};
 use std::io::{self, Write};
 
 pub struct SystemScript;
@@ -42,39 +42,32 @@ pub fn write_script(
     let mut author = Author::new(seed, 0);
     for run in 1..=runs {
         author.go_on(steps);
-        let result = run_of(&mut author);
-        output.write_all(&author.take_script())?;
-        if let Err(broken) = result {
-            let step = steps - author.events_left();
-            return Err(Failure::Demand(format!(
-                "demand 3 fails in run {run} at its event {step}: {broken}"
-            )));
+        set_fresh(&mut author);
+        let mut system = System::new(&mut author.random);
+        while !author.has_finished() {
+            let result = next_event(&mut author, &mut system);
+            output.write_all(&author.take_script())?;
+            if let Err(broken) = result {
+                let step = steps - author.events_left();
+                return Err(Failure::Demand(format!(
+                    "demand 3 fails in run {run} at its event {step}: {broken}"
+                )));
+            }
         }
     }
     Ok(())
 }
 
-fn run_of(author: &mut Author) -> Result<(), Broken> {
-    set_fresh(author);
-    let mut system = System {
-        weather: Weather::any(&mut author.random),
-        to_server: Line::new(),
-        to_client: Line::new(),
-        request: Message::empty(),
-        reply: Message::empty(),
-        demand: Demand::new(),
-    };
-    while !author.has_finished() {
-        if author.random.percent(2) {
-            system.weather = Weather::any(&mut author.random);
-        }
-        let lends_wrong = author.random.percent(2);
-        if lends_wrong {
-            author.lend_wrong();
-        }
-        any_event(author, &mut system)?;
-        author.lend_right();
+/// An event; now and then the weather changes, or a buffer of a wrong length is lent.
+fn next_event(author: &mut Author, system: &mut System) -> Result<(), Broken> {
+    if author.random.percent(2) {
+        system.weather = Weather::any(&mut author.random);
     }
+    if author.random.percent(2) {
+        author.lend_wrong();
+    }
+    any_event(author, system)?;
+    author.lend_right();
     Ok(())
 }
 
@@ -142,7 +135,7 @@ fn client_weights(author: &Author, system: &System) -> [(Happening, usize); 7] {
         _ => weight(state.may_start(), 40),
     };
     let transmit = weight(state == State::SendFrags, 90);
-    let arrive = weight(system.to_client.is_busy(), 60) + air.repeats / 3;
+    let arrive = weight(system.client.line.is_busy(), 60) + air.repeats / 3;
     let wait = weight(state.names(TimerKind::Wait), system.weather.waits);
     [
         (Happening::Start, start),
@@ -160,7 +153,7 @@ fn server_weights(author: &Author, system: &System) -> [(Happening, usize); 7] {
     let air = system.weather.to_server;
     let is_running = state == server_record::State::Running;
     let is_replying = state == server_record::State::Replying;
-    let arrive = weight(system.to_server.is_busy(), 60) + air.repeats / 3;
+    let arrive = weight(system.server.line.is_busy(), 60) + air.repeats / 3;
     let resend = weight(state.is_held(), system.weather.resends);
     let weights = [
         (ServerHappening::Transmit, weight(is_replying, 90)),
@@ -177,15 +170,8 @@ fn server_weights(author: &Author, system: &System) -> [(Happening, usize); 7] {
 fn any_happening(author: &mut Author, system: &System) -> Happening {
     let mut weights = client_weights(author, system).to_vec();
     weights.extend(server_weights(author, system));
-    let sum: usize = weights.iter().map(|(_, weight)| weight).sum();
-    let mut drawn = author.random.between(0, sum - 1);
-    for (happening, weight) in weights {
-        if drawn < weight {
-            return happening;
-        }
-        drawn -= weight;
-    }
-    Happening::HandUp
+    let (happenings, weights): (Vec<_>, Vec<_>) = weights.into_iter().unzip();
+    author.random.share(&happenings, &weights)
 }
 
 fn any_event(author: &mut Author, system: &mut System) -> Result<(), Broken> {
@@ -196,19 +182,19 @@ fn any_event(author: &mut Author, system: &mut System) -> Result<(), Broken> {
             system.start(call, length, author)
         }
         Happening::Transmit => {
-            let length = lent_length(system.request.length, &mut author.random);
-            system.client_transmit(length, author)
+            let length = lent_length(system.client.message.length, &mut author.random);
+            system.transmit::<ClientSide>(length, author)
         }
-        Happening::Arrive => system.client_arrive(author),
-        Happening::Wait => system.client_timer(TimerKind::Wait, author),
-        Happening::Ack => system.client_timer(TimerKind::Ack, author),
+        Happening::Arrive => system.arrive::<ClientSide>(author),
+        Happening::Wait => system.timer::<ClientSide>(TimerKind::Wait, author),
+        Happening::Ack => system.timer::<ClientSide>(TimerKind::Ack, author),
         Happening::LateTimer => {
             let kind = author.random.pick(&[TimerKind::Wait, TimerKind::Ack]);
-            system.late_client_timer(kind, author)
+            system.late_timer::<ClientSide>(kind, author)
         }
         Happening::HandUp => {
             let number = author.random.pick(&HANDED_UP);
-            author.client_hand_up(number);
+            author.hand_up_of::<ClientSide>(number);
             Ok(())
         }
         Happening::Server(happening) => server_event(happening, author, system),
@@ -222,12 +208,12 @@ fn server_event(
 ) -> Result<(), Broken> {
     match happening {
         ServerHappening::Transmit => {
-            let length = lent_length(system.reply.length, &mut author.random);
-            system.server_transmit(length, author)
+            let length = lent_length(system.server.message.length, &mut author.random);
+            system.transmit::<ServerSide>(length, author)
         }
-        ServerHappening::Arrive => system.server_arrive(author),
-        ServerHappening::Resend => system.server_timer(author),
-        ServerHappening::LateTimer => system.late_server_timer(author),
+        ServerHappening::Arrive => system.arrive::<ServerSide>(author),
+        ServerHappening::Resend => system.timer::<ServerSide>(Resend, author),
+        ServerHappening::LateTimer => system.late_timer::<ServerSide>(Resend, author),
         ServerHappening::Reply => {
             let length = message_length(&mut author.random);
             system.reply(length, author)
@@ -235,7 +221,7 @@ fn server_event(
         ServerHappening::Fault => system.fault(author),
         ServerHappening::HandUp => {
             let number = author.random.pick(&HANDED_UP);
-            author.server_hand_up(number);
+            author.hand_up_of::<ServerSide>(number);
             Ok(())
         }
     }

@@ -1,16 +1,18 @@
 //! The events of a system script: each is written, carried out, given to the network and checked
 //! against demand 3.
 
-use crate::client_command::ClientEvent;
-use crate::client_record::TimerKind;
-use crate::demand::{Broken, Demand};
-use crate::network::{Line, Weather};
+use crate::client_record::{ClientSide, Start};
+use crate::demand::Demand;
+use crate::demand_side::{Broken, Demanded, Step};
+use crate::event::Event;
+use crate::network::{Air, Line, Weather};
 use crate::outgoing::MESSAGE_LIMIT;
 use crate::random::Random;
 use crate::refusal::Refusal;
 use crate::script_system::Author;
+use crate::scripted::Scripted;
 use crate::sent::{Call, Effect};
-use crate::server_command::ServerEvent;
+use crate::server_record::{Answer, ServerSide};
 use crate::stage;
 
 /// A message of a start or reply, lent at each of its transmits.
@@ -40,16 +42,58 @@ impl Message {
     }
 }
 
+/// What a side has in a run beside its record.
+pub struct Half {
+    /// What is sent to it.
+    pub line: Line,
+    /// The message of its last accepted start or reply.
+    pub message: Message,
+}
+
+impl Half {
+    /// Nothing is sent, and no message is out.
+    fn new() -> Half {
+        Half {
+            line: Line::new(),
+            message: Message::empty(),
+        }
+    }
+}
+
 /// What joins the two sides in a run.
 pub struct System {
     pub weather: Weather,
-    pub to_server: Line,
-    pub to_client: Line,
-    /// The message of the last accepted start.
-    pub request: Message,
-    /// The message of the last accepted reply.
-    pub reply: Message,
-    pub demand: Demand,
+    pub client: Half,
+    pub server: Half,
+    demand: Demand,
+}
+
+/// A side that is joined with the other.
+pub trait Joined: Demanded + Scripted {
+    /// Its own half, and the other side's.
+    fn halves(system: &mut System) -> (&mut Half, &mut Half);
+    /// How what is sent to it fares.
+    fn air(weather: Weather) -> Air;
+}
+
+impl Joined for ClientSide {
+    fn halves(system: &mut System) -> (&mut Half, &mut Half) {
+        (&mut system.client, &mut system.server)
+    }
+
+    fn air(weather: Weather) -> Air {
+        weather.to_client
+    }
+}
+
+impl Joined for ServerSide {
+    fn halves(system: &mut System) -> (&mut Half, &mut Half) {
+        (&mut system.server, &mut system.client)
+    }
+
+    fn air(weather: Weather) -> Air {
+        weather.to_server
+    }
 }
 
 /// A ticket that was armed once, or never, or is armed after all.
@@ -65,146 +109,112 @@ fn any_ticket(counter: u64, random: &mut Random) -> u64 {
 }
 
 impl System {
-    fn client_event(
+    /// Two fresh sides in any weather.
+    pub fn new(random: &mut Random) -> System {
+        System {
+            weather: Weather::any(random),
+            client: Half::new(),
+            server: Half::new(),
+            demand: Demand::new(),
+        }
+    }
+
+    /// An event; one that brings a message has it beside it.
+    fn event<S: Joined>(
         &mut self,
-        event: ClientEvent,
-        message: Message,
+        event: Event<S>,
+        message: Option<Message>,
         author: &mut Author,
     ) -> Result<(), Broken> {
-        let before = author.stage().client.clone();
-        let Some(outcome) = author.client_event(&event) else {
+        let before = S::record(author.stage()).clone();
+        let Some(outcome) = author.event_of(&event) else {
             return Ok(());
         };
         let stage = author.stage();
+        let (own, other) = S::halves(self);
         if let Some(pdu) = sent_pdu(&outcome, &stage.pdu_buffer) {
-            self.to_server.send(pdu);
+            other.line.send(pdu);
         }
-        let is_start = matches!(event, ClientEvent::Start { .. }) && outcome.is_ok();
-        let bytes = match is_start {
-            true => message.bytes(),
-            false => Vec::new(),
-        };
-        if is_start {
-            self.request = message;
+        let accepted = message.filter(|_| outcome.is_ok());
+        let bytes = accepted.map(Message::bytes).unwrap_or_default();
+        if let Some(message) = accepted {
+            own.message = message;
         }
-        self.demand
-            .client_event((&before, &event), &bytes, &outcome, stage)
+        self.demand.check(&Step {
+            before: &before,
+            event: &event,
+            message: &bytes,
+            outcome: &outcome,
+            stage,
+        })
     }
 
+    /// The message of the start or reply; a wrong length is refused where there is one.
+    pub fn transmit<S: Joined>(&mut self, length: u32, author: &mut Author) -> Result<(), Broken> {
+        let (own, _) = S::halves(self);
+        let seed = own.message.seed;
+        self.event::<S>(Event::Transmit { length, seed }, None, author)
+    }
+
+    /// What the network delivers, if it delivers anything.
+    pub fn arrive<S: Joined>(&mut self, author: &mut Author) -> Result<(), Broken> {
+        let air = S::air(self.weather);
+        let (own, _) = S::halves(self);
+        match own.line.deliver(air, &mut author.random) {
+            Some(datagram) => {
+                let datagram = &datagram;
+                self.event::<S>(Event::Arrive { datagram }, None, author)
+            }
+            None => Ok(()),
+        }
+    }
+
+    /// The timer with its ticket; where it is not armed, with any.
+    pub fn timer<S: Joined>(
+        &mut self,
+        kind: S::TimerKind,
+        author: &mut Author,
+    ) -> Result<(), Broken> {
+        match S::record(author.stage()).timer_of(kind) {
+            Some(ticket) => self.event::<S>(Event::Timer { kind, ticket }, None, author),
+            None => self.late_timer::<S>(kind, author),
+        }
+    }
+
+    /// The timer with any ticket, which is mostly a late one.
+    pub fn late_timer<S: Joined>(
+        &mut self,
+        kind: S::TimerKind,
+        author: &mut Author,
+    ) -> Result<(), Broken> {
+        let counter = S::record(author.stage()).tickets.counter;
+        let ticket = any_ticket(counter, &mut author.random);
+        self.event::<S>(Event::Timer { kind, ticket }, None, author)
+    }
+
+    /// A start with a message of so many bytes.
     pub fn start(&mut self, call: Call, length: u32, author: &mut Author) -> Result<(), Broken> {
         let message = Message::any(length, &mut author.random);
-        self.client_event(ClientEvent::Start { call, length }, message, author)
+        let start = Start { call, length };
+        self.event::<ClientSide>(Event::Own(start), Some(message), author)
     }
 
-    /// The message of the start; a wrong length is refused where there is one.
-    pub fn client_transmit(&mut self, length: u32, author: &mut Author) -> Result<(), Broken> {
-        let seed = self.request.seed;
-        let event = ClientEvent::Transmit { length, seed };
-        self.client_event(event, self.request, author)
-    }
-
-    pub fn client_arrive(&mut self, author: &mut Author) -> Result<(), Broken> {
-        let air = self.weather.to_client;
-        match self.to_client.deliver(air, &mut author.random) {
-            Some(datagram) => {
-                let datagram = &datagram;
-                self.client_event(ClientEvent::Arrive { datagram }, self.request, author)
-            }
-            None => Ok(()),
-        }
-    }
-
-    /// The timer with its ticket; where it is not armed, with any.
-    pub fn client_timer(&mut self, kind: TimerKind, author: &mut Author) -> Result<(), Broken> {
-        match author.stage().client.timer_of(kind) {
-            Some(ticket) => {
-                let event = ClientEvent::Timer { kind, ticket };
-                self.client_event(event, self.request, author)
-            }
-            None => self.late_client_timer(kind, author),
-        }
-    }
-
-    pub fn late_client_timer(
-        &mut self,
-        kind: TimerKind,
-        author: &mut Author,
-    ) -> Result<(), Broken> {
-        let counter = author.stage().client.tickets.counter;
-        let ticket = any_ticket(counter, &mut author.random);
-        let event = ClientEvent::Timer { kind, ticket };
-        self.client_event(event, self.request, author)
-    }
-
-    fn server_event(
-        &mut self,
-        event: ServerEvent,
-        message: Message,
-        author: &mut Author,
-    ) -> Result<(), Broken> {
-        let before = author.stage().server.clone();
-        let Some(outcome) = author.server_event(&event) else {
-            return Ok(());
-        };
-        let stage = author.stage();
-        if let Some(pdu) = sent_pdu(&outcome, &stage.pdu_buffer) {
-            self.to_client.send(pdu);
-        }
-        let is_reply = matches!(event, ServerEvent::Reply { .. }) && outcome.is_ok();
-        let bytes = match is_reply {
-            true => message.bytes(),
-            false => Vec::new(),
-        };
-        if is_reply {
-            self.reply = message;
-        }
-        self.demand
-            .server_event((&before, &event), &bytes, &outcome, stage)
-    }
-
-    /// The message of the reply; a wrong length is refused where there is one.
-    pub fn server_transmit(&mut self, length: u32, author: &mut Author) -> Result<(), Broken> {
-        let seed = self.reply.seed;
-        let event = ServerEvent::Transmit { length, seed };
-        self.server_event(event, self.reply, author)
-    }
-
-    pub fn server_arrive(&mut self, author: &mut Author) -> Result<(), Broken> {
-        let air = self.weather.to_server;
-        match self.to_server.deliver(air, &mut author.random) {
-            Some(datagram) => {
-                let datagram = &datagram;
-                self.server_event(ServerEvent::Arrive { datagram }, self.reply, author)
-            }
-            None => Ok(()),
-        }
-    }
-
-    /// The timer with its ticket; where it is not armed, with any.
-    pub fn server_timer(&mut self, author: &mut Author) -> Result<(), Broken> {
-        match author.stage().server.resend {
-            Some(ticket) => self.server_event(ServerEvent::Timer { ticket }, self.reply, author),
-            None => self.late_server_timer(author),
-        }
-    }
-
-    pub fn late_server_timer(&mut self, author: &mut Author) -> Result<(), Broken> {
-        let counter = author.stage().server.tickets.counter;
-        let ticket = any_ticket(counter, &mut author.random);
-        self.server_event(ServerEvent::Timer { ticket }, self.reply, author)
-    }
-
+    /// A reply of so many bytes.
     pub fn reply(&mut self, length: u32, author: &mut Author) -> Result<(), Broken> {
         let message = Message::any(length, &mut author.random);
-        self.server_event(ServerEvent::Reply { length }, message, author)
+        let reply = Answer::Reply { length };
+        self.event::<ServerSide>(Event::Own(reply), Some(message), author)
     }
 
+    /// A fault of any status.
     pub fn fault(&mut self, author: &mut Author) -> Result<(), Broken> {
         let status = author.random.field_u32();
-        self.server_event(ServerEvent::Fault { status }, self.reply, author)
+        let fault = Answer::Fault { status };
+        self.event::<ServerSide>(Event::Own(fault), None, author)
     }
 }
 
+/// The PDU that an event has sent, if it has sent one.
 fn sent_pdu<'a>(outcome: &Result<Effect, Refusal>, pdu_buffer: &'a [u8]) -> Option<&'a [u8]> {
     let length = outcome.as_ref().ok()?.pdu_length?;
     Some(&pdu_buffer[..length])

@@ -8,6 +8,7 @@ use crate::fack::Held;
 use crate::fields::Bad;
 use crate::random::Random;
 use crate::refusal::{answer, Refusal};
+use crate::self_test_side::datagram_rows;
 use crate::stage::message;
 use crate::{self_test_client, self_test_rows, self_test_server};
 
@@ -64,80 +65,56 @@ pub fn check(holds: bool, name: &'static str) -> Result<(), &'static str> {
 }
 
 fn reading_rows() -> Result<(), &'static str> {
-    let answers = |datagram: &[u8]| answer(&read(datagram));
-    let good = |length: usize| {
-        let mut bytes = vec![0; length];
-        bytes[0] = 4;
-        bytes[74..76].copy_from_slice(&((length - 80) as u16).to_be_bytes());
-        bytes
-    };
-    let changed = |at: usize, byte: u8| {
-        let mut bytes = good(80);
-        bytes[at] = byte;
-        bytes
-    };
-    check(answers(&[]) == 3, "empty datagram")?;
-    check(answers(&good(80)[..79]) == 3, "79 bytes")?;
-    check(answers(&[0; 80]) == 4, "80 zero bytes")?;
-    check(answers(&changed(0, 0x14)) == 4, "version 0x14")?;
-    check(answers(&changed(1, 11)) == 5, "type 11")?;
-    check(answers(&changed(4, 32)) == 6, "representation 32,0,0")?;
-    check(answers(&changed(78, 1)) == 7, "authentication 1")?;
-    check(answers(&changed(75, 1)) == 8, "body length 1 in 80 bytes")?;
-    check(answers(&good(1_473)) == 8, "body length 1393 in 1473 bytes")?;
-    check(answers(&good(1_472)) == 0, "body length 1392 in 1472 bytes")
+    for (datagram, number, name) in datagram_rows() {
+        check(answer(&read(&datagram)) == number, name)?;
+    }
+    Ok(())
 }
 
-/// Each byte of these datagrams is its own place, but for those that are judged.
+/// A header of which each byte is its own place, but for those that are judged. A sender's byte
+/// order tells how the bytes of UUIDs and numbers lie.
+fn header_of_places(
+    uuid_places: [u8; 16],
+    u32_of: fn([u8; 4]) -> u32,
+    u16_of: fn([u8; 2]) -> u16,
+) -> Header {
+    let uuid_at = |at: u8| uuid_places.map(|place| at + place);
+    let u32_at = |at: u8| u32_of([at, at + 1, at + 2, at + 3]);
+    let u16_at = |at: u8| u16_of([at, at + 1]);
+    Header {
+        pdu_type: 1,
+        flags1: 2,
+        flags2: 3,
+        serial: 7 * 256 + 79,
+        object: uuid_at(8),
+        interface: uuid_at(24),
+        activity: uuid_at(40),
+        server_boot: u32_at(56),
+        interface_version: u32_at(60),
+        call_number: u32_at(64),
+        operation: u16_at(68),
+        interface_hint: u16_at(70),
+        activity_hint: u16_at(72),
+        fragment_number: u16_at(76),
+        authentication: 0,
+    }
+}
+
 fn field_places() -> Result<(), &'static str> {
     let mut bytes: Vec<u8> = (0..80).collect();
     bytes[0] = 4;
     bytes[4..7].copy_from_slice(&[16, 0, 0]);
     bytes[74..76].copy_from_slice(&[0, 0]);
     bytes[78] = 0;
-    let little = Header {
-        pdu_type: 1,
-        flags1: 2,
-        flags2: 3,
-        serial: 7 * 256 + 79,
-        object: [8, 9, 10, 11, 12, 13, 14, 15, 16, 17, 18, 19, 20, 21, 22, 23],
-        interface: [
-            24, 25, 26, 27, 28, 29, 30, 31, 32, 33, 34, 35, 36, 37, 38, 39,
-        ],
-        activity: [
-            40, 41, 42, 43, 44, 45, 46, 47, 48, 49, 50, 51, 52, 53, 54, 55,
-        ],
-        server_boot: 0x3b3a_3938,
-        interface_version: 0x3f3e_3d3c,
-        call_number: 0x4342_4140,
-        operation: 0x4544,
-        interface_hint: 0x4746,
-        activity_hint: 0x4948,
-        fragment_number: 0x4d4c,
-        authentication: 0,
-    };
+    let places = [0, 1, 2, 3, 4, 5, 6, 7, 8, 9, 10, 11, 12, 13, 14, 15];
+    let little = header_of_places(places, u32::from_le_bytes, u16::from_le_bytes);
     check(
-        read(&bytes).map(|pdu| pdu.header) == Ok(little.clone()),
+        read(&bytes).map(|pdu| pdu.header) == Ok(little),
         "places, little-endian",
     )?;
     bytes[4] = 0;
-    let big = Header {
-        object: [11, 10, 9, 8, 13, 12, 15, 14, 16, 17, 18, 19, 20, 21, 22, 23],
-        interface: [
-            27, 26, 25, 24, 29, 28, 31, 30, 32, 33, 34, 35, 36, 37, 38, 39,
-        ],
-        activity: [
-            43, 42, 41, 40, 45, 44, 47, 46, 48, 49, 50, 51, 52, 53, 54, 55,
-        ],
-        server_boot: 0x3839_3a3b,
-        interface_version: 0x3c3d_3e3f,
-        call_number: 0x4041_4243,
-        operation: 0x4445,
-        interface_hint: 0x4647,
-        activity_hint: 0x4849,
-        fragment_number: 0x4c4d,
-        ..little
-    };
+    let places = [3, 2, 1, 0, 5, 4, 7, 6, 8, 9, 10, 11, 12, 13, 14, 15];
+    let big = header_of_places(places, u32::from_be_bytes, u16::from_be_bytes);
     check(
         read(&bytes).map(|pdu| pdu.header) == Ok(big),
         "places, big-endian",

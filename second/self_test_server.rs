@@ -4,11 +4,12 @@ use crate::codec::{flags1, pdu_type, BODY_LIMIT};
 use crate::refusal::Refusal;
 use crate::self_test::check;
 use crate::self_test_server_stage::{
-    ack, arrive_header, done, fack, fault, fresh, header_of, ping, replied, reply, request,
-    running, sends, sent_bytes, timer, transmit, NUMBER, TICKETS,
+    ack, arrive_header, fack, fault, fresh, ping, replied, reply, request, running, timer,
+    transmit, NUMBER, SERVER,
 };
-use crate::sent::{Effect, Notice};
-use crate::server_record::State;
+use crate::self_test_side::{done, header_of, only, sends, TICKETS, WHOLE_FACK};
+use crate::sent::Notice;
+use crate::server_record::{ServerSide, State};
 use crate::stage::{message, Stage};
 
 const WHOLE: u8 = 0;
@@ -29,7 +30,7 @@ pub fn self_test() -> Result<(), &'static str> {
 fn fresh_server() -> Result<(), &'static str> {
     let mut stage = fresh();
     let answer = ping(&mut stage, NUMBER);
-    let pdu = sent_bytes(pdu_type::NOCALL, 0, 0, 0, &[]);
+    let pdu = SERVER.bytes(pdu_type::NOCALL, 0, 0, 0, &[]);
     check(
         sends(&stage, &answer, &pdu, None),
         "a ping of a fresh server",
@@ -54,29 +55,26 @@ fn fresh_server() -> Result<(), &'static str> {
 fn whole_request() -> Result<(), &'static str> {
     let mut stage = fresh();
     let begun = request(&mut stage, NUMBER, WHOLE, 0, b"all");
-    let body = [
-        0, 0, 43, 0, 0xc0, 5, 0, 0, 0xc0, 5, 0, 0, 2, 1, 1, 0, 0, 0, 0, 0,
-    ];
-    let pdu = sent_bytes(pdu_type::FACK, 0, 0, 0, &body);
+    let pdu = SERVER.bytes(pdu_type::FACK, 0, 0, 0, &WHOLE_FACK);
     check(
         sends(&stage, &begun, &pdu, Some(Notice::Dispatch)),
         "the fack of a whole request",
     )?;
     check(
-        stage.server.state == State::Running && stage.server_hand_up(0) == b"all",
+        stage.server.state == State::Running && stage.hand_up::<ServerSide>(0) == b"all",
         "a whole request dispatched",
     )?;
     let again = request(&mut stage, NUMBER, WHOLE, 0, b"ALL");
-    let pdu = sent_bytes(pdu_type::WORKING, 0, 0, 0, &[]);
+    let pdu = SERVER.bytes(pdu_type::WORKING, 0, 0, 0, &[]);
     check(
-        sends(&stage, &again, &pdu, None) && stage.server_hand_up(0) == b"all",
+        sends(&stage, &again, &pdu, None) && stage.hand_up::<ServerSide>(0) == b"all",
         "the request again while it runs",
     )?;
     let asked = ping(&mut stage, NUMBER);
     check(sends(&stage, &asked, &pdu, None), "a ping while it runs")?;
     let silent = request(&mut fresh(), NUMBER, flags1::NO_FACK, 0, b"all");
     check(
-        silent == Ok(Effect::of_notice(Notice::Dispatch)),
+        silent == only(Notice::Dispatch),
         "a request that forbids a fack",
     )
 }
@@ -89,7 +87,10 @@ fn two_fragment_request() -> Result<(), &'static str> {
         second == done() && stage.server.state == State::Collect,
         "the second fragment of a request",
     )?;
-    check(stage.server_hand_up(1).is_empty(), "no part behind a gap")?;
+    check(
+        stage.hand_up::<ServerSide>(1).is_empty(),
+        "no part behind a gap",
+    )?;
     let again = request(&mut stage, NUMBER, LAST, 1, b"END");
     check(again == Err(Refusal::AlreadyHeld), "the second again")?;
     let third = request(&mut stage, NUMBER, FIRST, 2, b"no");
@@ -97,15 +98,15 @@ fn two_fragment_request() -> Result<(), &'static str> {
     let other = request(&mut stage, NUMBER, FIRST | flags1::IDEMPOTENT, 0, b"no");
     check(other == Err(Refusal::Contradiction), "another mark")?;
     let asked = ping(&mut stage, NUMBER);
-    let pdu = sent_bytes(pdu_type::NOCALL, 0, 0, 0, &[]);
+    let pdu = SERVER.bytes(pdu_type::NOCALL, 0, 0, 0, &[]);
     check(sends(&stage, &asked, &pdu, None), "a ping in COLLECT")?;
     let first = request(&mut stage, NUMBER, FIRST, 0, b"beginning");
     check(
-        first == Ok(Effect::of_notice(Notice::Dispatch)),
+        first == only(Notice::Dispatch),
         "the first fragment of a request",
     )?;
     check(
-        stage.server_hand_up(0) == b"beginning" && stage.server_hand_up(1) == b"end",
+        stage.hand_up::<ServerSide>(0) == b"beginning" && stage.hand_up::<ServerSide>(1) == b"end",
         "the request's parts handed up",
     )
 }
@@ -115,7 +116,7 @@ fn two_fragment_reply() -> Result<(), &'static str> {
     check(reply(&mut stage, 1_393) == done(), "a reply")?;
     let message = message(1_393, 9);
     let first = transmit(&mut stage);
-    let pdu = sent_bytes(pdu_type::RESPONSE, FIRST, 1, 0, &message[..BODY_LIMIT]);
+    let pdu = SERVER.bytes(pdu_type::RESPONSE, FIRST, 1, 0, &message[..BODY_LIMIT]);
     check(sends(&stage, &first, &pdu, None), "first of two fragments")?;
     let request_again = request(&mut stage, NUMBER, WHOLE, 0, b"run");
     check(
@@ -124,13 +125,13 @@ fn two_fragment_reply() -> Result<(), &'static str> {
         "a request and a ping in REPLYING",
     )?;
     let second = transmit(&mut stage);
-    let pdu = sent_bytes(pdu_type::RESPONSE, LAST, 2, 1, &message[BODY_LIMIT..]);
+    let pdu = SERVER.bytes(pdu_type::RESPONSE, LAST, 2, 1, &message[BODY_LIMIT..]);
     check(
         sends(&stage, &second, &pdu, None),
         "second of two fragments",
     )?;
     check(
-        (stage.server.state, stage.server.resend) == (State::HeldData, Some(TICKETS + 1)),
+        (stage.server.state, stage.server.own.resend) == (State::HeldData, Some(TICKETS + 1)),
         "RESEND armed",
     )?;
     replay_and_ack(&mut stage, &message[BODY_LIMIT..])
@@ -150,7 +151,7 @@ fn replay_and_ack(stage: &mut Stage, second: &[u8]) -> Result<(), &'static str> 
         "a replay from the first unacknowledged",
     )?;
     let again = transmit(stage);
-    let pdu = sent_bytes(pdu_type::RESPONSE, LAST, 3, 1, second);
+    let pdu = SERVER.bytes(pdu_type::RESPONSE, LAST, 3, 1, second);
     check(sends(stage, &again, &pdu, None), "the second once more")?;
     check(
         ack(stage, NUMBER) == done() && stage.server.state == State::IdleSpent,
@@ -169,7 +170,7 @@ fn resend_to_the_limit() -> Result<(), &'static str> {
         let again = timer(&mut stage, ticket);
         let server = &stage.server;
         check(
-            again == done() && (server.state, server.resend) == (State::Replying, None),
+            again == done() && (server.state, server.own.resend) == (State::Replying, None),
             "a RESEND timer with data",
         )?;
         let disarmed = timer(&mut stage, ticket);
@@ -178,32 +179,32 @@ fn resend_to_the_limit() -> Result<(), &'static str> {
             "a RESEND timer in REPLYING",
         )?;
         let sent = transmit(&mut stage);
-        let pdu = sent_bytes(pdu_type::RESPONSE, 0, 1 + count as u8, 0, &[]);
+        let pdu = SERVER.bytes(pdu_type::RESPONSE, 0, 1 + count as u8, 0, &[]);
         check(sends(&stage, &sent, &pdu, None), "the reply once more")?;
     }
     let sixth = timer(&mut stage, TICKETS + 6);
     let server = &stage.server;
     check(
         sixth == done()
-            && (server.state, server.resend, server.resends) == (State::IdleSpent, None, 5),
+            && (server.state, server.own.resend, server.resends) == (State::IdleSpent, None, 5),
         "the sixth RESEND timer",
     )
 }
 
 fn held_fault() -> Result<(), &'static str> {
     let mut stage = running(false);
-    let pdu = sent_bytes(pdu_type::FAULT, 0, 0, 0, &[3, 0, 1, 0x1c]);
+    let pdu = SERVER.bytes(pdu_type::FAULT, 0, 0, 0, &[3, 0, 1, 0x1c]);
     let first = fault(&mut stage);
     check(sends(&stage, &first, &pdu, None), "a fault")?;
-    check(stage.server.resend == Some(TICKETS + 1), "a fault held")?;
+    check(stage.server.own.resend == Some(TICKETS + 1), "a fault held")?;
     let asked = ping(&mut stage, NUMBER);
     check(
-        sends(&stage, &asked, &pdu, None) && stage.server.resend == Some(TICKETS + 1),
+        sends(&stage, &asked, &pdu, None) && stage.server.own.resend == Some(TICKETS + 1),
         "a fault sent again, the timer untouched",
     )?;
     let resent = timer(&mut stage, TICKETS + 1);
     check(
-        sends(&stage, &resent, &pdu, None) && stage.server.resend == Some(TICKETS + 2),
+        sends(&stage, &resent, &pdu, None) && stage.server.own.resend == Some(TICKETS + 2),
         "a fault sent again, the timer armed afresh",
     )?;
     check(
@@ -221,7 +222,7 @@ fn held_fault() -> Result<(), &'static str> {
 fn idempotent_call() -> Result<(), &'static str> {
     let mut stage = replied(true, 1_392);
     check(
-        (stage.server.state, stage.server.resend) == (State::IdleRepeatable, None),
+        (stage.server.state, stage.server.own.resend) == (State::IdleRepeatable, None),
         "IDLE repeatable",
     )?;
     let unmarked = request(&mut stage, NUMBER, WHOLE, 0, b"run");
@@ -232,7 +233,7 @@ fn idempotent_call() -> Result<(), &'static str> {
     check(other == Err(Refusal::Contradiction), "another operation")?;
     let again = request(&mut stage, NUMBER, LAST | flags1::IDEMPOTENT, 0, b"again");
     check(
-        again == Ok(Effect::of_notice(Notice::Dispatch)) && stage.server_hand_up(0) == b"again",
+        again == only(Notice::Dispatch) && stage.hand_up::<ServerSide>(0) == b"again",
         "the call once more",
     )?;
     check(
@@ -275,7 +276,7 @@ fn newer_calls() -> Result<(), &'static str> {
     )?;
     check(
         (
-            server.resend,
+            server.own.resend,
             server.outgoing.fragments,
             server.outgoing.serial,
         ) == (None, 0, 0),

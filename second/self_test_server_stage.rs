@@ -1,24 +1,23 @@
 //! A server on a stage, brought to where a check begins.
 
-use crate::codec::{flags1, pdu_type, ByteOrder, Header, Uuid};
-use crate::datagram::datagram;
-use crate::random::Random;
-use crate::refusal::Refusal;
-use crate::sent::{Effect, Notice};
-use crate::server_command::ServerEvent;
-use crate::server_record::Server;
+use crate::codec::{flags1, pdu_type, Header};
+use crate::event::Event;
+use crate::self_test_side::{
+    arrive_at, header_of, transmit_of, Outcome, Sender, ACTIVITY, TICKETS,
+};
+use crate::server_record::{Answer, Resend, Server, ServerSide};
 use crate::stage::Stage;
 
-const ACTIVITY: Uuid = *b"an activity uuid";
-const OBJECT: Uuid = *b"this object uuid";
-const INTERFACE: Uuid = *b"interface's uuid";
-pub const TICKETS: u64 = 5;
 pub const NUMBER: u32 = 7;
+
+/// The server of these checks, as it answers call 7.
+pub const SERVER: Sender = Sender {
+    boot: [1, 2, 3, 4],
+    number: NUMBER as u8,
+};
 
 /// The body of a fack without masks.
 const FACK_BODY: [u8; 16] = [0; 16];
-
-pub type Outcome = Result<Effect, Refusal>;
 
 /// A server with boot value 0x04030201 that has had no call.
 pub fn fresh() -> Stage {
@@ -27,24 +26,8 @@ pub fn fresh() -> Stage {
     stage
 }
 
-/// A PDU of the call given, with serial 258, as a sender of the big-endian order sends it.
-pub fn header_of(pdu_type: u8, number: u32, flags1: u8, fragment_number: u16) -> Header {
-    let mut header = Random::new(3).header(pdu_type);
-    header.activity = ACTIVITY;
-    header.object = OBJECT;
-    header.interface = INTERFACE;
-    header.interface_version = 0x0102_0304;
-    header.operation = 0x0506;
-    header.call_number = number;
-    header.serial = 258;
-    header.flags1 = flags1;
-    header.fragment_number = fragment_number;
-    header
-}
-
 pub fn arrive_header(stage: &mut Stage, header: &Header, body: &[u8]) -> Outcome {
-    let datagram = &datagram(header, ByteOrder::Big, body);
-    stage.server_event(&ServerEvent::Arrive { datagram })
+    arrive_at::<ServerSide>(stage, header, body)
 }
 
 pub fn request(stage: &mut Stage, number: u32, flags1: u8, fragment: u16, body: &[u8]) -> Outcome {
@@ -75,21 +58,21 @@ pub fn running(idempotent: bool) -> Stage {
 }
 
 pub fn transmit(stage: &mut Stage) -> Outcome {
-    let length = stage.server.outgoing.length;
-    stage.server_event(&ServerEvent::Transmit { length, seed: 9 })
+    transmit_of::<ServerSide>(stage)
 }
 
 pub fn reply(stage: &mut Stage, length: u32) -> Outcome {
-    stage.server_event(&ServerEvent::Reply { length })
+    stage.event::<ServerSide>(&Event::Own(Answer::Reply { length }))
 }
 
 pub fn fault(stage: &mut Stage) -> Outcome {
     let status = 0x1c01_0003;
-    stage.server_event(&ServerEvent::Fault { status })
+    stage.event::<ServerSide>(&Event::Own(Answer::Fault { status }))
 }
 
 pub fn timer(stage: &mut Stage, ticket: u64) -> Outcome {
-    stage.server_event(&ServerEvent::Timer { ticket })
+    let kind = Resend;
+    stage.event::<ServerSide>(&Event::Timer { kind, ticket })
 }
 
 /// The same, with a reply of so many bytes sent.
@@ -101,29 +84,4 @@ pub fn replied(idempotent: bool, length: u32) -> Stage {
         let _ = transmit(&mut stage);
     }
     stage
-}
-
-/// A PDU that the server sends, byte for byte.
-pub fn sent_bytes(pdu_type: u8, flags1: u8, serial: u8, fragment: u16, body: &[u8]) -> Vec<u8> {
-    let mut bytes = vec![4, pdu_type, flags1, 0, 16, 0, 0, 0];
-    bytes.extend(b"this object uuidinterface's uuidan activity uuid");
-    bytes.extend([1, 2, 3, 4, 4, 3, 2, 1, NUMBER as u8, 0, 0, 0, 6, 5]);
-    bytes.extend([255, 255, 255, 255]);
-    bytes.extend((body.len() as u16).to_le_bytes());
-    bytes.extend(fragment.to_le_bytes());
-    bytes.extend([0, serial]);
-    bytes.extend(body);
-    bytes
-}
-
-pub fn sends(stage: &Stage, outcome: &Outcome, pdu: &[u8], notice: Option<Notice>) -> bool {
-    let effect = Effect {
-        pdu_length: Some(pdu.len()),
-        notice,
-    };
-    *outcome == Ok(effect) && stage.pdu_buffer.starts_with(pdu)
-}
-
-pub fn done() -> Outcome {
-    Ok(Effect::nothing())
 }

@@ -1,11 +1,10 @@
 //! The server record: its states and its rules.
 
 use crate::codec::Uuid;
-use crate::incoming::Incoming;
-use crate::outgoing::Outgoing;
+use crate::record::Record;
 use crate::rule::Rule;
-use crate::sent::Call;
-use crate::timer::{Tickets, Timer, RETRY_LIMIT};
+use crate::side::{MessageOut, Side, Words};
+use crate::timer::{Timer, RETRY_LIMIT};
 
 #[derive(Clone, Copy, Debug, PartialEq, Eq)]
 pub enum State {
@@ -64,98 +63,104 @@ impl State {
     }
 }
 
-/// Whether a record in the state can break the rule and no other.
-pub fn can_break_alone(rule: Rule, state: State) -> bool {
-    match rule {
-        Rule::SentBelow => state == State::Replying,
-        Rule::ResendState => !state.is_held(),
-        Rule::ResendTicket => state.is_held(),
-        _ => true,
-    }
+/// The only timer of a server.
+#[derive(Clone, Copy, Debug, PartialEq, Eq)]
+pub struct Resend;
+
+/// The events that only a server has, in which its call is answered.
+#[derive(Clone, Debug, PartialEq, Eq)]
+pub enum Answer {
+    Reply { length: u32 },
+    Fault { status: u32 },
 }
 
+/// The fields that only a server record has.
 #[derive(Clone, Debug, PartialEq, Eq)]
-pub struct Server {
-    pub state: State,
+pub struct ServerFields {
     /// Of the fault in HELD with a fault; means nothing in another state.
     pub status: u32,
-    pub activity: Uuid,
     pub boot: u32,
-    /// Means nothing in IDLE fresh, like the call.
-    pub number: u32,
-    pub call: Call,
-    pub outgoing: Outgoing,
-    pub incoming: Incoming,
-    /// The RESEND count.
-    pub resends: u8,
-    pub tickets: Tickets,
     pub resend: Timer,
 }
 
+/// The side that answers calls.
+#[derive(Clone, Copy, Debug, PartialEq, Eq)]
+pub struct ServerSide;
+
+/// The record of a server.
+pub type Server = Record<ServerSide>;
+
 impl Server {
+    /// A server that has had no call.
     pub fn fresh(activity: Uuid, boot: u32, ticket_counter: u64) -> Server {
-        Server {
-            state: State::IdleFresh,
+        let own = ServerFields {
             status: 0,
-            activity,
             boot,
-            number: 0,
-            call: Call::none(),
-            outgoing: Outgoing::none(),
-            incoming: Incoming::empty(),
-            resends: 0,
-            tickets: Tickets {
-                counter: ticket_counter,
-            },
             resend: None,
+        };
+        Server::fresh_of(activity, ticket_counter, own)
+    }
+}
+
+impl Side for ServerSide {
+    type State = State;
+    type Own = ServerFields;
+    type TimerKind = Resend;
+    type OwnEvent = Answer;
+
+    const WORDS: Words = Words {
+        side: "server",
+        first_event: "reply",
+        beginning: "request",
+        received: "request",
+        raising: &["transmit"],
+        arming: &["transmit", "timer", "fault"],
+    };
+    const STATES: &'static [State] = &STATES;
+    const FRESH: State = State::IdleFresh;
+    const SENDING: State = State::Replying;
+    const TIMERS: &'static [Resend] = &[Resend];
+    const COUNT_RULES: &'static [Rule] = &[Rule::ResendCount];
+    const TIMER_RULES: &'static [Rule] = &[Rule::ResendState, Rule::ResendTicket];
+
+    fn state_name(state: State) -> &'static str {
+        state.name()
+    }
+
+    fn names(state: State, _: Resend) -> bool {
+        state.is_held()
+    }
+
+    fn timer_of(server: &Server, _: Resend) -> Timer {
+        server.own.resend
+    }
+
+    /// A message is out from a reply to the next begin; before IDLE spent and IDLE repeatable a
+    /// reply or a fault came.
+    fn message_out(state: State) -> MessageOut {
+        match state {
+            State::IdleFresh | State::Collect | State::Running | State::HeldFault => {
+                MessageOut::Never
+            }
+            State::Replying | State::HeldData => MessageOut::Always,
+            State::IdleSpent | State::IdleRepeatable => MessageOut::Either,
         }
     }
 
-    /// All rules that the record breaks.
-    pub fn broken_rules(&self) -> Vec<Rule> {
-        let out = &self.outgoing;
-        let rules = [
-            (Rule::ResendCount, self.resends > RETRY_LIMIT),
-            (Rule::Sent, out.sent > out.fragments),
-            (
-                Rule::SentBelow,
-                self.state == State::Replying && out.sent == out.fragments,
-            ),
-            (Rule::Acknowledged, out.acknowledged > out.fragments),
-            (Rule::FragmentCount, !self.fragment_count_is_right()),
-            (Rule::KnownLast, self.incoming.last_is_too_high()),
-            (Rule::HeldLength, self.incoming.holds_one_too_long()),
-            (
-                Rule::HeldAboveLast,
-                self.incoming.holds_one_above_the_last(),
-            ),
-            (
-                Rule::ResendState,
-                self.resend.is_some() && !self.state.is_held(),
-            ),
-            (Rule::ResendTicket, !self.tickets.reach(self.resend)),
-        ];
-        rules
-            .into_iter()
-            .filter(|(_, is_broken)| *is_broken)
-            .map(|(rule, _)| rule)
-            .collect()
+    fn breaks_own(server: &Server, rule: Rule) -> bool {
+        match rule {
+            Rule::ResendCount => server.resends > RETRY_LIMIT,
+            Rule::ResendState => server.is_armed_elsewhere(Resend),
+            Rule::ResendTicket => server.is_armed_above(Resend),
+            _ => false,
+        }
     }
 
-    pub fn is_sound(&self) -> bool {
-        self.broken_rules().is_empty()
-    }
-
-    /// A message is out from a reply to the next begin. In IDLE spent and IDLE repeatable no field
-    /// tells whether a reply or a fault came before.
-    fn fragment_count_is_right(&self) -> bool {
-        let is_none = self.outgoing.fragments == 0;
-        match self.state {
-            State::IdleFresh | State::Collect | State::Running | State::HeldFault => is_none,
-            State::Replying | State::HeldData => self.outgoing.count_is_the_lengths(),
-            State::IdleSpent | State::IdleRepeatable => {
-                is_none || self.outgoing.count_is_the_lengths()
-            }
+    fn can_break_alone(rule: Rule, state: State) -> bool {
+        match rule {
+            Rule::ResendState => !state.is_held(),
+            Rule::ResendTicket => state.is_held(),
+            _ => true,
         }
     }
 }
