@@ -20,7 +20,7 @@ use Rattle.server.proofs.TicketLaws.{ServerMoved, reply-moves, transmit-moves a
 use Rattle.history.specs.World.{World}
 use Rattle.history.specs.Events.{Event, Start, ClientTransmit, ClientArrive, ClientTimer, ServerArrive, ServerTransmit, ServerTimer, Reply, Fault}
 use Rattle.history.specs.Steps.{bytesLent, happens, answerTo, step, run}
-use Rattle.history.specs.Claim.{TimerOf, OfClient, OfServer, timerIn, timerEvent, ActsOnce, ArmedAfresh}
+use Rattle.history.specs.Claim.{TimerOf, OfClient, OfServer, timerIn, timerEvent, ActsOnce, Renews, ArmedAfresh}
 
 -- The ticket counter of a timer's side.
 abbrev pub counterOf : World → TimerOf → ℕ
@@ -103,7 +103,7 @@ pub armed-afresh : (w : World) → ArmedAfresh w
 unfolding ArmedAfresh answerTo happens step timerIn namedTimer
 armed-afresh w datagram lent out done known = by-timer (renewing known)
   where
-    renewing : (reading datagram .header .kind ≡ 2) ⊎ (reading datagram .header .kind ≡ 4) → renews (eventOf (reading datagram .header .kind)) ≡ true
+    renewing : Renews (reading datagram .header .kind) → renews (eventOf (reading datagram .header .kind)) ≡ true
     renewing (inl response) = unfold eventOf serverEvent choose in ap (λ (k : ℕ). renews (eventOf k)) response
     renewing (inr working) = unfold eventOf serverEvent choose in ap (λ (k : ℕ). renews (eventOf k)) working
 

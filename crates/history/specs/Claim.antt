@@ -137,10 +137,13 @@ ActsOnce w =
     → timerIn (step w (timerEvent timer ticket out)) timer ≡ Armed ticket → ⊥
 
 -- A response, 2, or working, 4, that is taken arms afresh or ends the waiting: no ticket of the client is armed that was so before.
+abbrev pub Renews : ℕ → Type 0
+Renews kind = (kind ≡ 2) ⊎ (kind ≡ 4)
+
 unfoldable pub ArmedAfresh : World → Type 0
 ArmedAfresh w =
     (datagram : List ℕ) (lent : Lent) (out : List ℕ) → answerTo w (ClientArrive datagram lent out) ≡ Done
-    → (reading datagram .header .kind ≡ 2) ⊎ (reading datagram .header .kind ≡ 4) → (kind : TimerKind) (ticket : ℕ)
+    → Renews (reading datagram .header .kind) → (kind : TimerKind) (ticket : ℕ)
     → timerIn w (OfClient kind) ≡ Armed ticket → timerIn (step w (ClientArrive datagram lent out)) (OfClient kind) ≡ Armed ticket → ⊥
 
 -- Nothing is armed in a finished call: COMPLETE, FAULT, IDLE.
