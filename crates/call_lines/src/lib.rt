@@ -68,7 +68,7 @@ pub fn put_call(
     let interface = call.interface;
     let numbers = numbers(blank, number, call, o);
     let uuids = record_lines::uuid_pair(object, interface);
-    let shown = lines::first(&uuids, uuids_shown(blank));
+    let shown = words::first(&uuids, uuids_shown(blank));
     lines::put_row(
         out,
         used,

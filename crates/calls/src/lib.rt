@@ -1,7 +1,7 @@
 // A call as both machines see it: its operation data, the PDUs sent for it, and what the stub is told.
 use pdu::Header;
 ghost use mathlib.Core.Path.{_≡_};
-ghost use Rattle.calls.specs.Sent.{blankCall, sentHeader, sentOf, posting, Posted};
+ghost use Rattle.calls.specs.Sent.{blankCall, sentHeader, sentOf, posting, Posted, sentBytes};
 
 // The data of an operation, and whether the call is marked idempotent. UUIDs are in the little-endian form.
 pub struct Call {
@@ -97,4 +97,14 @@ pub fn post(h: Header, body: &[u8], out: &mut [u8]) -> Sent
 {
     let written = writer::write(h, body, out);
     sent_of(written.length)
+}
+
+// The PDU that was sent: the front of the lent buffer, or an empty part where nothing was.
+pub fn sent_bytes(sent: Sent, buffer: &[u8]) -> &[u8]
+    ensures { λ r. ⌜ now r ≡ sentBytes sent (now (buffer .entry)) ⌝ }
+{
+    match sent {
+        Sent::Nothing => &buffer[0..0],
+        Sent::Pdu(length) => words::first(buffer, length),
+    }
 }

@@ -32,8 +32,8 @@ use Rattle.client_record.specs.Record.{waiting, ackPending, unarmed}
 use Rattle.client_record.proofs.RuleLaws.{rules-told}
 use Rattle.client_table.specs.declared.Event.{Event}
 use Rattle.client_table.specs.declared.Event.the-variants.{Response, Fault, Reject, Working, Nocall, Fack, Foreign}
-use Rattle.client_table.specs.declared.TimerKind.{TimerKind}
-use Rattle.client_table.specs.declared.TimerKind.the-variants.{Wait, Ack}
+use Rattle.client_record.specs.declared.TimerKind.{TimerKind}
+use Rattle.client_record.specs.declared.TimerKind.the-variants.{Wait, Ack}
 use Rattle.client_table.specs.Events.{eventOf, arms}
 use Rattle.client_table.specs.Arrival.{completes, arrivalGround}
 use Rattle.client_table.specs.Local.{startGround, transmitGround, timerGround, namedTimer, pings}

@@ -8,7 +8,7 @@ use Rattle.words.specs.Number.{number}
 use Rattle.calls.specs.Events.{Stepped, Arrived}
 use Rattle.fields.specs.Fields.{messageIn, datagramIn}
 use Rattle.client_record.specs.declared.Client.{Client}
-use Rattle.client_table.specs.declared.TimerKind.{TimerKind}
+use Rattle.client_record.specs.declared.TimerKind.{TimerKind}
 use Rattle.client.specs.declared.Outcome.{Outcome}
 use Rattle.client.specs.Machine.{transmitting, timing, arriving}
 use Rattle.client_script.specs.Events.{kindOf}

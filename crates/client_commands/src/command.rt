@@ -50,7 +50,7 @@ fn hand_up(s: &[u8], c: Client, used: usize, lent: usize, slots: &[u8], out: &mu
     ensures { λ r. ⌜ line r (now (out .exit)) ≡ written (handUpText (now (s .entry)) c lent (now (slots .entry))) (line used (now (out .entry))) ⌝ }
 {
     let f = words::byte_at(s, 0) as u16;
-    record_lines::put_part(out, used, client::hand_up(c, f, lines::first(slots, lent)))
+    record_lines::put_part(out, used, client::hand_up(c, f, words::first(slots, lent)))
 }
 
 // The command, which is one of the client's and whole.
@@ -91,7 +91,7 @@ pub fn step(rest: &[u8], turn: Turn, lent: Lent, slots: &mut [u8], out: &mut [u8
     ensures { λ r. ⌜ Turned (stepAfter (now (rest .entry)) (turn .client) lent (now (slots .entry))) (turn .used) (now (out .entry)) (r .client) (r .used) (now (slots .exit)) (now (out .exit)) ⌝ }
 {
     let command = words::byte_at(rest, 0);
-    let s = lines::behind(rest, 1);
+    let s = words::behind(rest, 1);
     let taken = client_script::size(command, s);
     if taken == 0 {
         return turn;

@@ -20,7 +20,7 @@ fn transmit(s: &[u8], c: Client, buffer: &mut [u8]) -> Outcome
 {
     let length = words::number32(s, 0, true) as usize;
     let message = fields::message(words::byte_at(s, 4));
-    client::transmit(c, lines::first(&message, length), buffer)
+    client::transmit(c, words::first(&message, length), buffer)
 }
 
 // A length u16, and a datagram of it.

@@ -19,6 +19,12 @@ pub enum State {
     Fault,
 }
 
+// The client's timers.
+pub enum TimerKind {
+    Wait,
+    Ack,
+}
+
 // The number and the call mean nothing in QUEUED.
 pub struct Client {
     pub state: State,

@@ -6,8 +6,8 @@ use lib.ListN.{length, getD, drop}
 use lib.Dec.{eqb, leb}
 use Rattle.words.specs.Choice.{choose, both}
 use Rattle.calls.specs.declared.Call.{Call}
-use Rattle.client_table.specs.declared.TimerKind.{TimerKind}
-use Rattle.client_table.specs.declared.TimerKind.the-variants.{Wait, Ack}
+use Rattle.client_record.specs.declared.TimerKind.{TimerKind}
+use Rattle.client_record.specs.declared.TimerKind.the-variants.{Wait, Ack}
 use Rattle.fields.specs.Fields.{datagramEnd, isTransmit, sizedWhere}
 use Rattle.record_fields.specs.Fields.{callIn}
 use Rattle.client_script.specs.Client.{isClient}

@@ -3,7 +3,7 @@
 use calls::Call;
 use client_record::Client;
 use client_record::State;
-use client_table::TimerKind;
+use client_record::TimerKind;
 ghost use mathlib.Core.Path.{_≡_};
 ghost use Rattle.client_script.specs.Client.{stateOf, freshIn, clientIn, isClient};
 ghost use Rattle.client_script.specs.Events.{startIn, isStart, kindOf, isTimer, sizeOf};
@@ -56,12 +56,12 @@ pub fn record(s: &[u8]) -> Client
     ensures { λ r. ⌜ r ≡ clientIn (now (s .entry)) ⌝ }
 {
     let state = state(words::byte_at(s, 0));
-    let call = record_fields::call(words::byte_at(s, 5), lines::behind(s, 6));
-    let outgoing = record_fields::outgoing(lines::behind(s, 44));
-    let wait = record_fields::timer(lines::behind(s, 64));
-    let ack = record_fields::timer(lines::behind(s, 73));
+    let call = record_fields::call(words::byte_at(s, 5), words::behind(s, 6));
+    let outgoing = record_fields::outgoing(words::behind(s, 44));
+    let wait = record_fields::timer(words::behind(s, 64));
+    let ack = record_fields::timer(words::behind(s, 73));
     let activity = fields::uuid(s, 82);
-    let incoming = record_fields::incoming(words::byte_at(s, 55), lines::behind(s, 98));
+    let incoming = record_fields::incoming(words::byte_at(s, 55), words::behind(s, 98));
     Client {
         state,
         activity,
@@ -85,7 +85,7 @@ fn is_record(s: &[u8]) -> bool
     let idempotent = words::byte_at(s, 5);
     let wait = words::byte_at(s, 64);
     let ack = words::byte_at(s, 73);
-    let held = record_fields::are_marks(lines::behind(s, 98));
+    let held = record_fields::are_marks(words::behind(s, 98));
     let armed = words::both(wait <= 1, ack <= 1);
     let marks = words::both(idempotent <= 1, words::both(armed, held));
     words::both(RECORD_SIZE <= s.len(), words::both(state <= 6, marks))
@@ -95,7 +95,7 @@ fn is_record(s: &[u8]) -> bool
 pub fn start(s: &[u8]) -> Call
     ensures { λ r. ⌜ r ≡ startIn (now (s .entry)) ⌝ }
 {
-    record_fields::call(words::byte_at(s, 0), lines::behind(s, 5))
+    record_fields::call(words::byte_at(s, 0), words::behind(s, 5))
 }
 
 // Whether a start is whole, and its mark is 0 or 1.

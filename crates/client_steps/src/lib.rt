@@ -6,7 +6,7 @@ use calls::Call;
 use calls::Notice;
 use client_record::Client;
 use client_record::State;
-use client_table::TimerKind;
+use client_record::TimerKind;
 use outgoing::Outgoing;
 use timers::Timer;
 ghost use mathlib.Core.Path.{_≡_};

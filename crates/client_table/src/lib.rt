@@ -4,6 +4,7 @@ use answers::Answer;
 use answers::Ground;
 use client_record::Client;
 use client_record::State;
+use client_record::TimerKind;
 use incoming::Incoming;
 use outgoing::MESSAGE_SIZE;
 use reader::Reading;
@@ -23,12 +24,6 @@ pub enum Event {
     Fack,
     // A type that is not for this side.
     Foreign,
-}
-
-// The client's timers.
-pub enum TimerKind {
-    Wait,
-    Ack,
 }
 
 // The last call number.

@@ -60,5 +60,5 @@ pub fn step(rest: &[u8], taken: usize, used: usize, lent: usize, out: &mut [u8])
     if taken == 0 {
         return lines::put_text(out, used, b"bad\n");
     }
-    act(rest[0], lines::behind(rest, 1), used, lent, out)
+    act(rest[0], words::behind(rest, 1), used, lent, out)
 }

@@ -11,7 +11,7 @@ const LINE_LIMIT: usize = 16384;
 
 // Writes out what is used.
 fn flush(out: &[u8], used: usize) {
-    io::write_all(STDOUT_FILENO, lines::first(out, used));
+    io::write_all(STDOUT_FILENO, words::first(out, used));
 }
 
 // Room for a line: writes out what is used where there is too little, and answers what is used then.
@@ -28,7 +28,7 @@ fn with_room(out: &[u8], used: usize) -> usize {
 // How many bytes the command that `rest` begins with takes behind its first; 0 where there is none.
 fn taken(rest: &[u8]) -> usize {
     let command = words::byte_at(rest, 0);
-    let fields = lines::behind(rest, 1);
+    let fields = words::behind(rest, 1);
     let client = client_script::size(command, fields);
     if client > 0 {
         return client;

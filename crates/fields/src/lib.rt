@@ -54,7 +54,7 @@ pub fn uuid(s: &[u8], at: usize) -> [u8; 16]
     ensures { λ r. ⌜ r ≡ uuidIn (now (s .entry)) at ⌝ }
 {
     let mut bytes = [0u8; 16];
-    words::put(&mut bytes, 0, lines::first(lines::behind(s, at), 16));
+    words::put(&mut bytes, 0, words::first(words::behind(s, at), 16));
     bytes
 }
 
@@ -84,7 +84,7 @@ pub fn datagram_end(s: &[u8]) -> usize
 pub fn datagram(s: &[u8]) -> &[u8]
     ensures { λ r. ⌜ now r ≡ datagramIn (now (s .entry)) ⌝ }
 {
-    lines::behind(lines::first(s, datagram_end(s)), 2)
+    words::behind(words::first(s, datagram_end(s)), 2)
 }
 
 // The longest message of a seed; a transmit lends its first bytes.

@@ -14,8 +14,8 @@ use Rattle.client_record.specs.States.{isQueued}
 use Rattle.client_record.specs.Rules.{sound}
 use Rattle.client_record.specs.Record.{waiting, unarmed}
 use Rattle.client_record.proofs.StateLaws.{ack-pending-state, waiting-state}
-use Rattle.client_table.specs.declared.TimerKind.{TimerKind}
-use Rattle.client_table.specs.declared.TimerKind.the-variants.{Wait, Ack as AckKind}
+use Rattle.client_record.specs.declared.TimerKind.{TimerKind}
+use Rattle.client_record.specs.declared.TimerKind.the-variants.{Wait, Ack as AckKind}
 use Rattle.client_table.specs.Local.{namedBy}
 use Rattle.client_steps.specs.declared.Send.the-variants.{Nothing, Ping}
 use Rattle.client_steps.specs.Plan.{accepted, withOutgoing, withWaits, failed}

@@ -17,7 +17,7 @@ use Rattle.outgoing.proofs.OutgoingLaws.{fragment-most}
 use Rattle.fragments.specs.Slots.{storing}
 use Rattle.grounds.specs.Entry.{lentGround}
 use Rattle.client_record.specs.declared.Client.{Client}
-use Rattle.client_table.specs.declared.TimerKind.{TimerKind}
+use Rattle.client_record.specs.declared.TimerKind.{TimerKind}
 use Rattle.client_table.specs.Local.{transmitGround, timerGround}
 use Rattle.client_steps.specs.declared.Send.{Send}
 use Rattle.client_steps.specs.declared.Send.the-variants.{Nothing, Request, Ping, Ack, Fack}

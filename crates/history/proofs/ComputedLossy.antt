@@ -20,7 +20,7 @@ use Rattle.timers.specs.declared.Timer.{Timer}
 use Rattle.timers.specs.declared.Timer.the-variants.{Off, Armed}
 use Rattle.client_record.specs.declared.State.{State as ClientState}
 use Rattle.client_record.specs.declared.State.the-variants.{SendFrags, Dispatched, ReceiveFrags, AckPending, Complete}
-use Rattle.client_table.specs.declared.TimerKind.the-variants.{Wait, Ack}
+use Rattle.client_record.specs.declared.TimerKind.the-variants.{Wait, Ack}
 use Rattle.client.specs.HandUp.{handsUp as clientHandsUp}
 use Rattle.client.proofs.Growing.{hands-joined}
 use Rattle.server_record.specs.declared.Idle.the-variants.{Spent}

@@ -16,7 +16,7 @@ use Rattle.fragments.proofs.PutLaws.{filled-length}
 use Rattle.outgoing.specs.Message.{fragmentOf}
 use Rattle.timers.specs.declared.Timer.the-variants.{Off, Armed}
 use Rattle.client_record.specs.declared.State.the-variants.{SendFrags, Dispatched, Complete}
-use Rattle.client_table.specs.declared.TimerKind.the-variants.{Wait}
+use Rattle.client_record.specs.declared.TimerKind.the-variants.{Wait}
 use Rattle.client.specs.HandUp.{handsUp as clientHandsUp}
 use Rattle.client.proofs.Growing.{hands-joined}
 use Rattle.server_record.specs.declared.Idle.the-variants.{Repeatable}

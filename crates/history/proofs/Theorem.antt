@@ -17,7 +17,7 @@ use Rattle.client_record.specs.declared.State.{State}
 use Rattle.client_record.specs.declared.State.the-variants.{Queued, SendFrags, Dispatched as DispatchedState, ReceiveFrags, AckPending, Complete, Fault}
 use Rattle.client_record.specs.States.{isQueued}
 use Rattle.client_record.proofs.RuleLaws.{rules-told, complete-unarmed, fault-unarmed}
-use Rattle.client_table.specs.declared.TimerKind.the-variants.{Wait, Ack}
+use Rattle.client_record.specs.declared.TimerKind.the-variants.{Wait, Ack}
 use Rattle.client_table.specs.Local.{namedTimer}
 use Rattle.client.proofs.Growing.{hands-joined}
 use Rattle.client.proofs.TicketLaws.{old-most as client-most}

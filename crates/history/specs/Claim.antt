@@ -15,8 +15,8 @@ use Rattle.timers.specs.declared.Timer.the-variants.{Off, Armed}
 use Rattle.client_record.specs.declared.State.{State as ClientState}
 use Rattle.client_record.specs.declared.State.the-variants.{Queued, SendFrags, Dispatched as DispatchedState, ReceiveFrags, AckPending, Complete, Fault as FaultState}
 use Rattle.client_record.specs.Rules.{sound as clientSound}
-use Rattle.client_table.specs.declared.TimerKind.{TimerKind}
-use Rattle.client_table.specs.declared.TimerKind.the-variants.{Wait, Ack}
+use Rattle.client_record.specs.declared.TimerKind.{TimerKind}
+use Rattle.client_record.specs.declared.TimerKind.the-variants.{Wait, Ack}
 use Rattle.client.specs.HandUp.{handsUp}
 use Rattle.server_record.specs.States.{isIdle}
 use Rattle.server_record.specs.Rules.{sound as serverSound}

@@ -1,13 +1,10 @@
 // Lines of text put into a buffer, and what is measured of bytes: what the program `drive` prints.
 mod message;
-mod part;
 mod row;
 mod sum;
 mod text;
 
 pub use message::fill;
-pub use part::behind;
-pub use part::first;
 pub use row::put_row;
 pub use sum::adler;
 pub use text::put_hex;

@@ -1,5 +1,4 @@
 // A row of words, told by a pattern in which marks stand for what is to be shown.
-use crate::part;
 use crate::text;
 ghost use mathlib.Core.Path.{_≡_};
 ghost use Prim.Native.Nat.{_+_, min};
@@ -98,7 +97,7 @@ fn put_next(
 {
     let a = number_at(numbers, at, 0);
     let b = number_at(numbers, at, 1);
-    let uuid = part::first(part::behind(uuids, from), 16);
+    let uuid = words::first(words::behind(uuids, from), 16);
     put_shown(out, used, mark, a, b, uuid, bytes)
 }
 

@@ -23,7 +23,7 @@ fn put_pdu(out: &mut [u8], used: usize, answer: Answer, sent: Sent, buffer: &[u8
 {
     let number = answers::number(answer);
     let numbers = [number as u64];
-    let pdu = lines::first(buffer, length(sent));
+    let pdu = words::first(buffer, length(sent));
     lines::put_row(out, used, b"# * ", &numbers, pdu, pdu)
 }
 

@@ -62,7 +62,7 @@ pub fn ticket(timer: Timer) -> u64
 pub fn slots_sum(slots: &[u8]) -> u64
     ensures { λ r. ⌜ r ≡ slotsSum (now (slots .entry)) ⌝ }
 {
-    lines::adler(lines::first(slots, SLOTS_SIZE))
+    lines::adler(words::first(slots, SLOTS_SIZE))
 }
 
 // Two UUIDs, one behind the other.

@@ -8,7 +8,7 @@ use Rattle.facks.specs.Mask.{lastContiguous, maskOf}
 use Rattle.outgoing.specs.Message.{fragments}
 use Rattle.outgoing.specs.Sending.{nextSerial}
 use Rattle.calls.specs.Sent.{blankCall}
-use Rattle.client_table.specs.declared.TimerKind.the-variants.{Wait, Ack}
+use Rattle.client_record.specs.declared.TimerKind.the-variants.{Wait, Ack}
 use Rattle.client.specs.Machine.{starting, timing as clientTiming}
 use Rattle.server.specs.Machine.{replying, timing as serverTiming}
 use Rattle.rows.specs.Datagrams.{zeros}

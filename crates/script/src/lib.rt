@@ -24,7 +24,7 @@ pub fn empty() -> Window
 pub fn rest(buffer: &[u8], window: Window) -> &[u8]
     ensures { λ r. ⌜ now r ≡ restOf (now (buffer .entry)) window ⌝ }
 {
-    lines::behind(lines::first(buffer, window.end), window.at)
+    words::behind(words::first(buffer, window.end), window.at)
 }
 
 // The window behind a command's first byte and the bytes that it took besides.

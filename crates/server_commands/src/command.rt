@@ -50,7 +50,7 @@ fn hand_up(fields: &[u8], s: Server, used: usize, lent: usize, slots: &[u8], out
     ensures { λ r. ⌜ line r (now (out .exit)) ≡ written (handUpText (now (fields .entry)) s lent (now (slots .entry))) (line used (now (out .entry))) ⌝ }
 {
     let f = words::byte_at(fields, 0) as u16;
-    record_lines::put_part(out, used, server::hand_up(s, f, lines::first(slots, lent)))
+    record_lines::put_part(out, used, server::hand_up(s, f, words::first(slots, lent)))
 }
 
 // The command, which is one of the server's and whole.
@@ -91,7 +91,7 @@ pub fn step(rest: &[u8], turn: Turn, lent: Lent, slots: &mut [u8], out: &mut [u8
     ensures { λ r. ⌜ Turned (stepAfter (now (rest .entry)) (turn .server) lent (now (slots .entry))) (turn .used) (now (out .entry)) (r .server) (r .used) (now (slots .exit)) (now (out .exit)) ⌝ }
 {
     let command = words::byte_at(rest, 0);
-    let fields = lines::behind(rest, 1);
+    let fields = words::behind(rest, 1);
     let taken = server_script::size(command, fields);
     if taken == 0 {
         return turn;

@@ -12,7 +12,7 @@ fn transmit(fields: &[u8], s: Server, buffer: &mut [u8]) -> Outcome
 {
     let length = words::number32(fields, 0, true) as usize;
     let message = fields::message(words::byte_at(fields, 4));
-    server::transmit(s, lines::first(&message, length), buffer)
+    server::transmit(s, words::first(&message, length), buffer)
 }
 
 // A length u16, and a datagram of it.

@@ -62,11 +62,11 @@ pub fn record(s: &[u8]) -> Server
     ensures { λ r. ⌜ r ≡ serverIn (now (s .entry)) ⌝ }
 {
     let state = state(words::byte_at(s, 0), words::number32(s, 1, true));
-    let call = record_fields::call(words::byte_at(s, 9), lines::behind(s, 10));
-    let outgoing = record_fields::outgoing(lines::behind(s, 48));
-    let resend = record_fields::timer(lines::behind(s, 67));
+    let call = record_fields::call(words::byte_at(s, 9), words::behind(s, 10));
+    let outgoing = record_fields::outgoing(words::behind(s, 48));
+    let resend = record_fields::timer(words::behind(s, 67));
     let activity = fields::uuid(s, 80);
-    let incoming = record_fields::incoming(words::byte_at(s, 58), lines::behind(s, 96));
+    let incoming = record_fields::incoming(words::byte_at(s, 58), words::behind(s, 96));
     Server {
         state,
         activity,
@@ -88,7 +88,7 @@ fn is_record(s: &[u8]) -> bool
     let state = words::byte_at(s, 0);
     let idempotent = words::byte_at(s, 9);
     let resend = words::byte_at(s, 67);
-    let held = record_fields::are_marks(lines::behind(s, 96));
+    let held = record_fields::are_marks(words::behind(s, 96));
     let marks = words::both(idempotent <= 1, words::both(resend <= 1, held));
     words::both(RECORD_SIZE <= s.len(), words::both(state <= 7, marks))
 }

@@ -61,7 +61,7 @@ fn put_written(
     ensures { λ r. ⌜ line r (now (out .exit)) ≡ written (row (now (pattern .entry)) (answer ∷ (adler (now (buffer .entry)) ∷ [])) (take length (now (buffer .entry))) (take length (now (buffer .entry)))) (line used (now (out .entry))) ⌝ }
 {
     let numbers = [answer, lines::adler(buffer)];
-    let pdu = lines::first(buffer, length);
+    let pdu = words::first(buffer, length);
     lines::put_row(out, used, pattern, &numbers, pdu, pdu)
 }
 
@@ -98,5 +98,5 @@ pub fn put_write(
     let mut body = [0u8; BUFFER_SIZE];
     lines::fill(&mut body, words::byte_at(s, 76));
     let h = header(s);
-    put_writing(out, used, pattern, h, lines::first(&body, length), lent)
+    put_writing(out, used, pattern, h, words::first(&body, length), lent)
 }

@@ -1,0 +1,28 @@
+-- `demo::console::take_reply` is safe and ends: the fragment number rises to 32, and the lent buffer keeps its length.
+use Prim.Native.Nat.{_≤_, _-_}
+use mathlib.Core.Path.{_≡_}
+use borrow.Author.Needs.{needs}
+use lib.ListN.{length}
+use Rattle.demo.proofs.console.take_reply.Statement.{statement}
+use Rattle.demo.proofs.console.take_reply.Tie as tie
+
+abbrev Inv-loop : tie.InvT-loop
+Inv-loop side slots message₀ taken₀ f₀ message taken f = (f ≤ 32) × (length message ≡ length message₀)
+
+abbrev μ-loop : tie.MeasureT-loop
+μ-loop side slots message₀ taken₀ f₀ message taken f = 32 - f
+
+pub take-reply-spec : {M : Type 1} → statement M
+take-reply-spec =
+    tie.close
+    (tie.spec
+    Inv-loop
+    μ-loop
+    (λ c. search needs)
+    (λ c κs. search needs)
+    (λ c κs. search needs)
+    (λ c. search needs)
+    (λ c. search needs)
+    (λ c. search needs)
+    (λ c. search needs)
+    (λ c. search needs))
