@@ -1,7 +1,7 @@
 // A whole command of the server: the record and the slot buffer after it, and the line that it prints.
 use crate::event;
-use server_record::Server;
 use fields::Lent;
+use server_record::Server;
 ghost use mathlib.Core.Path.{_≡_};
 ghost use Rattle.lines.specs.Line.{line, written};
 ghost use Rattle.commands.specs.Commands.{Turned};
@@ -46,7 +46,14 @@ fn event(
 }
 
 // The fragment number u8.
-fn hand_up(fields: &[u8], s: Server, used: usize, lent: usize, slots: &[u8], out: &mut [u8]) -> usize
+fn hand_up(
+    fields: &[u8],
+    s: Server,
+    used: usize,
+    lent: usize,
+    slots: &[u8],
+    out: &mut [u8],
+) -> usize
     ensures { λ r. ⌜ line r (now (out .exit)) ≡ written (handUpText (now (fields .entry)) s lent (now (slots .entry))) (line used (now (out .entry))) ⌝ }
 {
     let f = words::byte_at(fields, 0) as u16;

@@ -44,13 +44,7 @@ fn fault(fields: &[u8], s: Server, buffer: &mut [u8]) -> Outcome
 }
 
 // What an event gives, and leaves in what is lent of both buffers.
-fn outcome(
-    command: u8,
-    fields: &[u8],
-    s: Server,
-    slots: &mut [u8],
-    buffer: &mut [u8],
-) -> Outcome
+fn outcome(command: u8, fields: &[u8], s: Server, slots: &mut [u8], buffer: &mut [u8]) -> Outcome
     ensures { λ r. ⌜ Arrived (eventOf command (now (fields .entry)) s (now (slots .entry)) (now (buffer .entry))) r (now (slots .exit)) (now (buffer .exit)) ⌝ }
 {
     if command == 0x12 {
@@ -81,5 +75,11 @@ pub(crate) fn lent_outcome(
 {
     let slots_end = script::least(lent.slots, slots.len());
     let end = script::least(lent.out, buffer.len());
-    outcome(command, fields, s, &mut slots[..slots_end], &mut buffer[..end])
+    outcome(
+        command,
+        fields,
+        s,
+        &mut slots[..slots_end],
+        &mut buffer[..end],
+    )
 }
