@@ -29,7 +29,7 @@ stateOf number =
 unfoldable pub freshIn : List ℕ → Client
 freshIn s = fresh (uuidIn s 0) (number 8 true s 16)
 
--- The record: each part stands where DRIVE.md's table has it.
+-- The record: each part stands where docs/DRIVE.md's table has it.
 unfoldable pub clientIn : List ℕ → Client
 clientIn s = record {
   state = stateOf (getD s 0 0);

@@ -2,7 +2,8 @@
 // host hands in the ticket with which it started its timer, when that runs out.
 use timers::Timer;
 
-// The ticket with which the timer was started, 0 where it does not run, and which event started it.
+// The ticket with which the timer was started, 0, which is no ticket, where it does not run, and which
+// event started it.
 pub(crate) struct Alarm {
     pub ticket: u64,
     pub since: u64,

@@ -9,6 +9,7 @@ use calls::Notice;
 use client::Outcome;
 use client_record::Client;
 use client_record::TimerKind;
+use fragments::SLOTS_SIZE;
 
 pub(crate) const REQUEST_SIZE: usize = 3500;
 
@@ -73,7 +74,7 @@ fn completed_after(completed: u32, notice: Notice) -> u32 {
         Notice::Count(_) => completed,
         // The whole reply can be taken.
         Notice::Last => std::num::wrapping_add_u32(completed, 1),
-        // The call has failed: the server says so, or did not answer.
+        // The call has failed: the server says so, or did not answer. It may have been executed.
         Notice::Fault(_) => completed,
         Notice::Reject(_) => completed,
         Notice::Cause(_) => completed,
@@ -154,7 +155,7 @@ impl Console {
 
     // Prints what was handed up of the reply that was sent.
     pub(crate) fn report(self, sent: &[u8], slots: &[u8]) {
-        let mut reply = [0u8; 8192];
+        let mut reply = [0u8; SLOTS_SIZE];
         let length = take_reply(self.client, slots, &mut reply);
         let taken = words::first(&reply, length);
         transcript::print_report(

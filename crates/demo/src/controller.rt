@@ -6,6 +6,7 @@ use crate::network;
 use crate::network::Wire;
 use crate::transcript;
 use calls::Notice;
+use fragments::SLOTS_SIZE;
 use server::Outcome;
 use server_record::Server;
 
@@ -54,7 +55,7 @@ fn call_event(
 fn dispatched_after(dispatched: u32, notice: Notice) -> u32 {
     match notice {
         Notice::Nothing => dispatched,
-        // The whole request can be taken, and is to be executed.
+        // The whole request can be taken, and is to be executed: here and nowhere else.
         Notice::Dispatch => std::num::wrapping_add_u32(dispatched, 1),
         // Only a client tells these.
         Notice::Count(_) => dispatched,
@@ -133,7 +134,7 @@ impl Controller {
 
     // Prints what was handed up of the request that was sent.
     pub(crate) fn report(self, sent: &[u8], slots: &[u8]) {
-        let mut request = [0u8; 8192];
+        let mut request = [0u8; SLOTS_SIZE];
         let length = take_request(self.server, slots, &mut request);
         let taken = words::first(&request, length);
         transcript::print_report(

@@ -24,7 +24,8 @@ fn message(seed: u8) -> [u8; 4500] {
 }
 
 // The call, from its start until nothing is left to happen. The client's PDU buffer is the wire to the
-// server, and the server's the wire to the client: nothing is copied.
+// server, and the server's the wire to the client: nothing is copied. That works only because what is on
+// a wire is delivered before all else; a host sends a PDU, or copies it, before the next event.
 fn run(
     request: &[u8],
     reply: &[u8],

@@ -37,6 +37,7 @@ fn work(client: ClientState, server: ServerState, ack: Alarm, wait: Alarm, resen
     if client_record::is_sending(client) {
         return Next::Client(ClientEvent::Transmit);
     }
+    // The call was executed at the notice; here it is only answered.
     if server_record::is_running(server) {
         return Next::Server(ServerEvent::Reply);
     }

@@ -34,7 +34,7 @@ use Rattle.server_record.specs.Rules.{outgoingSound as serverOutgoing, idleRule
 use Rattle.server_record.proofs.RuleLaws.{rules-hold as server-rules}
 use Rattle.history.specs.Lists.{In}
 use Rattle.history.specs.World.{Started, Dispatched, Replied, World}
-use Rattle.history.specs.Claim.{answered, NeverFall}
+use Rattle.history.specs.Claim.{hasReply, NeverFall}
 use Rattle.history.specs.Freshness.{NothingHeld, NothingSent, FreshClient, FreshServer, Fresh}
 use Rattle.history.proofs.Invariant.{ClientInv, unanswered, hasData, ServerInv, CallInv, Inv}
 
@@ -82,7 +82,7 @@ client-fresh c slots starts replies f none = record {
   begun = λ s m. absurd (subst (In s) none m);
   current = λ e. absurd (false≢true (sym e ∙ ap isQueued (f .state)));
   unasked = λ e. unheld (c .incoming) (f .incoming);
-  whole = λ e. absurd (false≢true (sym (ap answered (f .state)) ∙ e));
+  whole = λ e. absurd (false≢true (sym (ap hasReply (f .state)) ∙ e));
   holds = λ e. absurd (false≢true (sym e ∙ ap isQueued (f .state)));
 }
 

@@ -47,7 +47,7 @@ use Rattle.client.proofs.Keeping.{row-sound}
 use Rattle.history.specs.Lists.{In}
 use Rattle.history.specs.World.{Started, Completed, Replied, World}
 use Rattle.history.specs.Steps.{completionsAfter}
-use Rattle.history.specs.Claim.{WholeReply, answered}
+use Rattle.history.specs.Claim.{WholeReply, hasReply}
 use Rattle.history.proofs.Holding.{PartOf, unheld-none, holding-whole, Holding, Single, empty-holding, put-holding, other-empty}
 use Rattle.history.proofs.Network.{Request, Response}
 use Rattle.history.proofs.Invariant.{ClientHolds, nothing, fragments-of, ClientInv, Inv, clientStep}
@@ -139,7 +139,7 @@ put-started true false c m = refl
 put-started false idempotent c m = refl
 
 -- Only one that completes its reply ends the call.
-put-ends : (all idempotent : Bool) (c : Client) (m : Incoming) → answered (withIncoming (putRecord all idempotent c) m .state) ≡ true → all ≡ true
+put-ends : (all idempotent : Bool) (c : Client) (m : Incoming) → hasReply (withIncoming (putRecord all idempotent c) m .state) ≡ true → all ≡ true
 unfolding withIncoming putRecord waiting ackPending unarmed choose
 put-ends true idempotent c m e = refl
 put-ends false idempotent c m e = absurd (false≢true e)

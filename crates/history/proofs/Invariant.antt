@@ -28,7 +28,7 @@ use Rattle.history.specs.Lists.{In}
 use Rattle.history.specs.World.{Started, Dispatched, Replied, Completed, World}
 use Rattle.history.specs.Steps.{lastDispatched, clientWorld, serverWorld, clientStarted, serverReplied}
 use Rattle.history.specs.Fairness.{OfLastStart, OfLastReply, Typed}
-use Rattle.history.specs.Claim.{times, DispatchOf, WholeReply, answered, NeverFall}
+use Rattle.history.specs.Claim.{times, DispatchOf, WholeReply, hasReply, NeverFall}
 use Rattle.history.proofs.Holding.{Holding, Empty, Single}
 use Rattle.history.proofs.Network.{Request, Response, Known}
 
@@ -57,7 +57,7 @@ pub record ClientInv (c : Client) (slots : List ℕ) (starts : List Started) (re
   pub begun : (s : Started) → In s starts → (isQueued (c .state) ≡ false) × (s .number ≤ c .number)
   pub current : isQueued (c .state) ≡ false → CurrentStart c starts
   pub unasked : isQueued (c .state) ≡ true → (f : ℕ) → held (c .incoming) f ≡ false
-  pub whole : answered (c .state) ≡ true → complete (c .incoming) ≡ true
+  pub whole : hasReply (c .state) ≡ true → complete (c .incoming) ≡ true
   pub holds : isQueued (c .state) ≡ false → ClientHolds (c .number) (c .incoming) slots replies
 
 -- The server's call is one that was started.

@@ -4,7 +4,6 @@ use Prim.Native.Nat.{ℕ}
 use mathlib.Core.Bool.{Bool}
 use mathlib.Core.List.{List, [], _∷_}
 use lib.Dec.{eqb}
-use lib.ListN.{take}
 use Rattle.words.specs.Choice.{choose}
 use Rattle.answers.specs.declared.Answer.{Answer}
 use Rattle.answers.specs.Number.{numberOf}
@@ -15,6 +14,7 @@ use Rattle.calls.specs.declared.Sent.the-variants.{Nothing, Pdu}
 use Rattle.reader.specs.Reading.{reading}
 use Rattle.client.specs.declared.Outcome.{Outcome as ClientOutcome}
 use Rattle.client.specs.HandUp.{handsUp as clientHandsUp}
+use Rattle.calls.specs.Sent.{sentBytes}
 use Rattle.calls.specs.Events.{Step, Arrival}
 use Rattle.client.specs.Machine.{starting, transmitting as clientTransmitting, timing as clientTiming, arriving as clientArriving}
 use Rattle.server.specs.declared.Outcome.{Outcome as ServerOutcome}
@@ -37,10 +37,10 @@ unfoldable pub ownAfter : Lent → List ℕ → List ℕ → List ℕ
 ownAfter Own own left = left
 ownAfter (Other bytes) own left = own
 
--- What a side has sent: the PDU stands at the front of the buffer that was lent for it.
+-- What a side has sent: the PDU that `calls::sent_bytes` gives of the buffer that was lent for it.
 unfoldable pub sentAfter : List (List ℕ) → Sent → List ℕ → List (List ℕ)
 sentAfter before Nothing out = before
-sentAfter before (Pdu n) out = andThen before (take n out)
+sentAfter before (Pdu n) out = andThen before (sentBytes (Pdu n) out)
 
 -- The dispatches: the notice "dispatch" is one, of that number and those bytes.
 unfoldable pub dispatchesAfter : List Dispatched → Notice → ℕ → List ℕ → List Dispatched

@@ -32,7 +32,7 @@ stateOf number status =
 unfoldable pub freshIn : List ℕ → Server
 freshIn s = fresh (uuidIn s 0) (number 4 true s 16) (number 8 true s 20)
 
--- The record: each part stands where DRIVE.md's table has it.
+-- The record: each part stands where docs/DRIVE.md's table has it.
 unfoldable pub serverIn : List ℕ → Server
 serverIn s = record {
   state = stateOf (getD s 0 0) (number 4 true s 1);
