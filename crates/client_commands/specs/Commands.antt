@@ -1,7 +1,7 @@
 -- What the client's commands of a script set, leave and print.
 use Prim.Native.Nat.{ℕ}
 use mathlib.Core.List.{List}
-use lib.ListN.{getD, take, drop, replicate}
+use lib.ListN.{getD, take, replicate}
 use lib.Dec.{eqb}
 use Rattle.words.specs.Choice.{choose}
 use Rattle.fields.specs.declared.lend.Lent.{Lent}
@@ -13,7 +13,7 @@ use Rattle.client.specs.Machine.{handedUpOf}
 use Rattle.client_script.specs.Client.{freshIn, clientIn}
 use Rattle.client_script.specs.Events.{sizeOf}
 use Rattle.client_lines.specs.Step.{stepText}
-use Rattle.commands.specs.Commands.{After, unchanged, setTo, toldBy, printedBy}
+use Rattle.commands.specs.Commands.{After, setTo, toldBy, printedBy, steppedBy}
 use Rattle.client_commands.specs.declared.command.Turn.{Turn}
 use Rattle.client_commands.specs.Events.{lentEvent}
 
@@ -43,6 +43,4 @@ commandAfter command s c lent slots =
 
 -- The command that a script goes on with, where it is one of the client's and whole; else all stays as it was.
 unfoldable pub stepAfter : List ℕ → Client → Lent → List ℕ → After Client
-stepAfter rest c lent slots =
-    choose (eqb (sizeOf (getD rest 0 0) (drop 1 rest)) 0) (unchanged c slots)
-    (commandAfter (getD rest 0 0) (drop 1 rest) c lent slots)
+stepAfter rest c lent slots = steppedBy sizeOf (λ (command : ℕ) (s : List ℕ). commandAfter command s c lent slots) c slots rest

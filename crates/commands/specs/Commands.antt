@@ -2,6 +2,9 @@
 use Prim.Native.Nat.{ℕ}
 use mathlib.Core.List.{List, []}
 use mathlib.Core.Path.{_≡_}
+use lib.Dec.{eqb}
+use lib.ListN.{getD, drop}
+use Rattle.words.specs.Choice.{choose}
 use Rattle.calls.specs.Events.{Arrival}
 use Rattle.fields.specs.Lend.{zerosIn}
 use Rattle.lines.specs.Line.{line, written}
@@ -34,3 +37,8 @@ toldBy m slots text = record { machine = m; slots = slots; text = text }
 unfoldable pub printedBy : {Outcome Machine : Type 0} → (Outcome → Machine) → (Outcome → List ℕ → List ℕ → List ℕ) → Arrival Outcome → After Machine
 printedBy machineOf textOf a =
     record { machine = machineOf (a .outcome); slots = a .slots; text = textOf (a .outcome) (a .slots) (a .out) }
+
+-- The command that a script goes on with, where it is one of the machine's and whole; else all stays as it was.
+unfoldable pub steppedBy : {Machine : Type 0} → (ℕ → List ℕ → ℕ) → (ℕ → List ℕ → After Machine) → Machine → List ℕ → List ℕ → After Machine
+steppedBy sizeOf after m slots rest =
+    choose (eqb (sizeOf (getD rest 0 0) (drop 1 rest)) 0) (unchanged m slots) (after (getD rest 0 0) (drop 1 rest))

@@ -1,7 +1,7 @@
 -- What the server's commands of a script set, leave and print.
 use Prim.Native.Nat.{ℕ}
 use mathlib.Core.List.{List}
-use lib.ListN.{getD, take, drop, replicate}
+use lib.ListN.{getD, take, replicate}
 use lib.Dec.{eqb}
 use Rattle.words.specs.Choice.{choose}
 use Rattle.fields.specs.declared.lend.Lent.{Lent}
@@ -13,7 +13,7 @@ use Rattle.server.specs.Machine.{handedUpOf}
 use Rattle.server_script.specs.Server.{freshIn, serverIn}
 use Rattle.server_script.specs.Events.{sizeOf}
 use Rattle.server_lines.specs.Step.{stepText}
-use Rattle.commands.specs.Commands.{After, unchanged, setTo, toldBy, printedBy}
+use Rattle.commands.specs.Commands.{After, setTo, toldBy, printedBy, steppedBy}
 use Rattle.server_commands.specs.declared.command.Turn.{Turn}
 use Rattle.server_commands.specs.Events.{lentEvent}
 
@@ -43,6 +43,4 @@ commandAfter command fields s lent slots =
 
 -- The command that a script goes on with, where it is one of the server's and whole; else all stays as it was.
 unfoldable pub stepAfter : List ℕ → Server → Lent → List ℕ → After Server
-stepAfter rest s lent slots =
-    choose (eqb (sizeOf (getD rest 0 0) (drop 1 rest)) 0) (unchanged s slots)
-    (commandAfter (getD rest 0 0) (drop 1 rest) s lent slots)
+stepAfter rest s lent slots = steppedBy sizeOf (λ (command : ℕ) (fields : List ℕ). commandAfter command fields s lent slots) s slots rest

@@ -3,7 +3,6 @@ use borrow.Author.Needs.{needs}
 use Rattle.client_commands.specs.Events.{startOf}
 use Rattle.client_commands.proofs.event.start.Statement.{statement}
 use Rattle.client_commands.proofs.event.start.Tie as tie
-use Rattle.client_script.proofs.start.Reads as start-reads′
 
 returns : tie.Need-returns
 unfolding startOf
