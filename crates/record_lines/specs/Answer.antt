@@ -1,25 +1,19 @@
 -- What an event gave: its answer, its PDU and what the stub is told; and a part handed up.
 use Prim.Native.Nat.{ℕ}
 use mathlib.Core.List.{List, [], _∷_, _++_}
-use lib.ListN.{take}
 use Rattle.answers.specs.declared.Answer.{Answer}
 use Rattle.answers.specs.Number.{numberOf}
 use Rattle.calls.specs.declared.Notice.{Notice}
 use Rattle.calls.specs.declared.Sent.{Sent}
-use Rattle.calls.specs.declared.Sent.the-variants.{Nothing, Pdu}
+use Rattle.calls.specs.Sent.{sentBytes}
 use Rattle.lines.specs.Ascii.{ascii}
 use Rattle.lines.specs.Row.{row}
 use Rattle.record_lines.specs.Notice.{noticeText}
 
--- How many bytes at the front of the PDU buffer were sent.
-unfoldable pub lengthOf : Sent → ℕ
-lengthOf Nothing = 0
-lengthOf (Pdu length) = length
-
 -- The answer's number and the PDU.
 unfoldable pub answerRow : Answer → Sent → List ℕ → List ℕ
 answerRow answer sent buffer =
-    row (ascii "# * ") (numberOf answer ∷ []) (take (lengthOf sent) buffer) (take (lengthOf sent) buffer)
+    row (ascii "# * ") (numberOf answer ∷ []) (sentBytes sent buffer) (sentBytes sent buffer)
 
 -- The same, and behind it what the stub is told.
 unfoldable pub answerText : Answer → Sent → Notice → List ℕ → List ℕ

@@ -5,17 +5,7 @@ use calls::Notice;
 use calls::Sent;
 ghost use mathlib.Core.Path.{_≡_};
 ghost use Rattle.lines.specs.Line.{line, written};
-ghost use Rattle.record_lines.specs.Answer.{lengthOf, answerRow, answerText, partText};
-
-// How many bytes at the front of the PDU buffer were sent.
-fn length(sent: Sent) -> usize
-    ensures { λ r. ⌜ r ≡ lengthOf sent ⌝ }
-{
-    match sent {
-        Sent::Nothing => 0,
-        Sent::Pdu(length) => length,
-    }
-}
+ghost use Rattle.record_lines.specs.Answer.{answerRow, answerText, partText};
 
 // The answer and the PDU.
 fn put_pdu(out: &mut [u8], used: usize, answer: Answer, sent: Sent, buffer: &[u8]) -> usize
@@ -23,7 +13,7 @@ fn put_pdu(out: &mut [u8], used: usize, answer: Answer, sent: Sent, buffer: &[u8
 {
     let number = answers::number(answer);
     let numbers = [number as u64];
-    let pdu = words::first(buffer, length(sent));
+    let pdu = calls::sent_bytes(sent, buffer);
     lines::put_row(out, used, b"# * ", &numbers, pdu, pdu)
 }
 

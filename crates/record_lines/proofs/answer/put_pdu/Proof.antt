@@ -8,7 +8,7 @@ returns : tie.Need-returns
 unfolding answerRow
 returns c =
     let first = c .before .before .before .before .before .before in
-    rw (first .first .ensures, first .before .length .ensures, first .before .before .number .ensures) at (c .before .before .put-row .ensures)
+    rw (first .sent-bytes .ensures, first .before .number .ensures) at (c .before .before .put-row .ensures)
 
 pub put-pdu-spec : {M : Type 1} → statement M
 put-pdu-spec =
@@ -16,7 +16,6 @@ put-pdu-spec =
     (tie.spec
     (λ c κs. search needs)
     (λ c. search needs)
-    (λ c κs. search needs)
     (λ c κs. search needs)
     (λ c. search needs)
     (λ c. search needs)
