@@ -34,7 +34,7 @@ use Rattle.server_record.specs.Rules.{outgoingSound as serverOutgoing, idleRule
 use Rattle.server_record.proofs.RuleLaws.{rules-hold as server-rules}
 use Rattle.history.specs.Lists.{In}
 use Rattle.history.specs.World.{Started, Dispatched, Replied, World}
-use Rattle.history.specs.Claim.{hasReply, NeverFall}
+use Rattle.history.specs.Claim.{hasReply}
 use Rattle.history.specs.Freshness.{NothingHeld, NothingSent, FreshClient, FreshServer, Fresh}
 use Rattle.history.proofs.Invariant.{ClientInv, unanswered, hasData, ServerInv, CallInv, Inv}
 
@@ -79,7 +79,7 @@ client-fresh c slots starts replies f none = record {
       });
   activity = f .activity;
   slotted = f .incoming .slots;
-  begun = λ s m. absurd (subst (In s) none m);
+  unbegun = λ e. none;
   current = λ e. absurd (false≢true (sym e ∙ ap isQueued (f .state)));
   unasked = λ e. unheld (c .incoming) (f .incoming);
   whole = λ e. absurd (false≢true (sym (ap hasReply (f .state)) ∙ e));
@@ -87,10 +87,10 @@ client-fresh c slots starts replies f none = record {
 }
 
 -- a fresh server
-server-fresh : (s : Server) (slots : List ℕ) (starts : List Started) (dispatches : List Dispatched) (replies : List Replied) → FreshServer s
-    → dispatches ≡ [] → replies ≡ [] → ServerInv s slots starts dispatches replies
+server-fresh : (s : Server) (standing : ℕ) (slots : List ℕ) (starts : List Started) (dispatches : List Dispatched) (replies : List Replied) → FreshServer s
+    → dispatches ≡ [] → replies ≡ [] → ServerInv s standing slots starts dispatches replies
 unfolding serverOutgoing serverRule idleRule isFresh neverCalled isRunning
-server-fresh s slots starts dispatches replies f none unanswered-yet = record {
+server-fresh s standing slots starts dispatches replies f none unanswered-yet = record {
   kept =
       server-rules s
       (record {
@@ -104,8 +104,7 @@ server-fresh s slots starts dispatches replies f none unanswered-yet = record {
   activity = f .activity;
   boot = f .boot;
   slotted = f .incoming .slots;
-  dispatched = λ d m. absurd (subst (In d) none m);
-  answered = λ r m. absurd (subst (In r) unanswered-yet m);
+  takes = λ k new. record { first = λ t m e i d x. absurd (subst (In d) none x); single = λ r m. absurd (subst (In r) unanswered-yet m) };
   called = λ e. absurd (false≢true (sym e ∙ ap isFresh (f .state)));
   collecting = λ e. absurd (false≢true (sym (ap unanswered (f .state)) ∙ ap unanswered e));
   running = λ e. absurd (false≢true (sym (ap isRunning (f .state)) ∙ ap isRunning e));
@@ -118,9 +117,10 @@ calls-fresh : (starts : List Started) (dispatches : List Dispatched) (replies : 
     → CallInv starts dispatches replies
 calls-fresh starts dispatches replies s d r = record {
   unique = λ a b m. absurd (subst (In a) s m);
+  below = λ a m. absurd (subst (In a) s m);
+  numbered = λ a m. absurd (subst (In a) s m);
   once = λ a m. absurd (subst (In a) s m);
   whole = λ a m. absurd (subst (In a) d m);
-  rising = subst NeverFall (sym d) tt;
   replied = λ a m. absurd (subst (In a) r m);
   alike = λ a b m. absurd (subst (In a) r m);
 }
@@ -129,7 +129,7 @@ calls-fresh starts dispatches replies s d r = record {
 pub fresh-inv : (w : World) → Fresh w → Inv w
 fresh-inv w f = record {
   client = client-fresh (w .client) (w .clientSlots) (w .starts) (w .replies) (f .client) (f .starts);
-  server = server-fresh (w .server) (w .serverSlots) (w .starts) (w .dispatches) (w .replies) (f .server) (f .dispatches) (f .replies);
+  server = server-fresh (w .server) (w .standing) (w .serverSlots) (w .starts) (w .dispatches) (w .replies) (f .server) (f .dispatches) (f .replies);
   calls = calls-fresh (w .starts) (w .dispatches) (w .replies) (f .starts) (f .dispatches) (f .replies);
   requests = λ d m. absurd (subst (In d) (f .clientSent) m);
   responses = λ d m. absurd (subst (In d) (f .serverSent) m);

@@ -45,11 +45,12 @@ use Rattle.client.proofs.Judging.{CanArrive, arrival-passes}
 use Rattle.client.proofs.Accepting.{arrive-accepted}
 use Rattle.client.proofs.Keeping.{row-sound}
 use Rattle.history.specs.Lists.{In}
-use Rattle.history.specs.World.{Started, Completed, Replied, World}
-use Rattle.history.specs.Steps.{completionsAfter}
+use Rattle.history.specs.World.{Started, Completed, Replied, Posted, World}
+use Rattle.history.specs.Steps.{lastStart, completionsAfter}
 use Rattle.history.specs.Claim.{WholeReply, hasReply}
 use Rattle.history.proofs.Holding.{PartOf, unheld-none, holding-whole, Holding, Single, empty-holding, put-holding, other-empty}
 use Rattle.history.proofs.Network.{Request, Response}
+use Rattle.history.proofs.Ordinals.{equal-start}
 use Rattle.history.proofs.Invariant.{ClientHolds, nothing, fragments-of, ClientInv, Inv, clientStep}
 use Rattle.history.proofs.ClientSteps.{GoesOn, goes-on, failed-goes-on, fack-goes-on, working-goes-on, nocall-goes-on}
 use Rattle.history.proofs.ClientSends.{asks, others-sent, planned, none-told}
@@ -61,13 +62,13 @@ use Rattle.incoming.specs.declared.Last.the-variants.{Unknown, At}
 use Rattle.calls.specs.declared.Notice.{Notice}
 
 -- The client's holdings after a response that passed 16 and 17: fragments of one reply.
-module _ (number : ℕ) (m : Incoming) (slots : List ℕ) (replies : List Replied) (flags1 f : ℕ) (body : List ℕ)
+module _ (ordinal : ℕ) (m : Incoming) (slots : List ℕ) (replies : List Replied) (flags1 f : ℕ) (body : List ℕ)
     (kept : incomingSound m ≡ true) (long : length (m .slots) ≡ 32) (whole : length slots ≡ 44544)
-    (alike : (r t : Replied) → In r replies → In t replies → r .number ≡ t .number → (r ≡ t) ⊎ (Single (r .message) ⊎ Single (t .message)))
-    (r : Replied) (given : In r replies) (mine : r .number ≡ number) (part : PartOf (r .message) flags1 f body)
+    (alike : (r t : Replied) → In r replies → In t replies → r .ordinal ≡ t .ordinal → (r ≡ t) ⊎ (Single (r .message) ⊎ Single (t .message)))
+    (r : Replied) (given : In r replies) (mine : r .ordinal ≡ ordinal) (part : PartOf (r .message) flags1 f body)
     (small : f < 32) (new : held m f ≡ false) (fits : contradicts m f (isLast flags1) ≡ false) where
   -- What was held is of that reply,
-  same-reply : ClientHolds number m slots replies → Holding m slots (r .message)
+  same-reply : ClientHolds ordinal m slots replies → Holding m slots (r .message)
   same-reply (nothing e) = empty-holding m slots (r .message) e
   same-reply (fragments-of t m′ n z h) = by-replies (alike t r m′ given (n ∙ sym mine))
     where
@@ -77,7 +78,7 @@ module _ (number : ℕ) (m : Incoming) (slots : List ℕ) (replies : List Replie
           empty-holding m slots (r .message) (other-empty m slots (t .message) (r .message) flags1 f body h part new fits one)
 
   -- and so it is after the put.
-  put-holds : ClientHolds number m slots replies → ClientHolds number (stored m f (length body) (isLast flags1)) (filled f body slots) replies
+  put-holds : ClientHolds ordinal m slots replies → ClientHolds ordinal (stored m f (length body) (isLast flags1)) (filled f body slots) replies
   put-holds h =
       fragments-of r given mine (filled-length f body slots ∙ whole)
       (put-holding m slots (r .message) flags1 f body (same-reply h) kept long whole part small)
@@ -93,37 +94,37 @@ unheld-unfinished m none = by-last (m .last)
 
 -- Where all is held, what is handed up is the whole of one reply,
 pub whole-handed : (c : Client) (slots : List ℕ) (starts : List Started) (replies : List Replied) → ClientInv c slots starts replies → complete (c .incoming) ≡ true
-    → WholeReply replies (record { number = c .number; bytes = handsUp c slots })
+    → WholeReply replies (record { ordinal = lastStart starts; bytes = handsUp c slots })
 whole-handed c slots starts replies inv all = by-state (isQueued (c .state)) refl
   where
-    by-holds : ClientHolds (c .number) (c .incoming) slots replies → WholeReply replies (record { number = c .number; bytes = handsUp c slots })
+    by-holds : ClientHolds (lastStart starts) (c .incoming) slots replies → WholeReply replies (record { ordinal = lastStart starts; bytes = handsUp c slots })
     by-holds (nothing e) = absurd (false≢true (sym (unheld-unfinished (c .incoming) (e .none)) ∙ all))
     by-holds (fragments-of r m n whole h) =
         record {
           reply = r;
           given = m;
-          number = n;
+          ordinal = n;
           whole =
               hands-joined c slots (inv .kept)
               ∙ holding-whole (c .incoming) slots (r .message) h (rules-told c (inv .kept) .incoming) whole all;
         }
 
-    by-state : (queued : Bool) → isQueued (c .state) ≡ queued → WholeReply replies (record { number = c .number; bytes = handsUp c slots })
+    by-state : (queued : Bool) → isQueued (c .state) ≡ queued → WholeReply replies (record { ordinal = lastStart starts; bytes = handsUp c slots })
     by-state true e = absurd (false≢true (sym (unheld-unfinished (c .incoming) (inv .unasked e)) ∙ all))
     by-state false e = by-holds (inv .holds e)
 
 -- so it is where "last" is told of such a record.
 completed-known : (w : World) → Inv w → (c : Client) (slots : List ℕ) → ClientInv c slots (w .starts) (w .replies) → (notice : Notice)
     → (tellsLast notice ≡ true → complete (c .incoming) ≡ true) → (x : Completed)
-    → In x (completionsAfter (w .completions) notice (c .number) (handsUp c slots)) → WholeReply (w .replies) x
+    → In x (completionsAfter (w .completions) notice (lastStart (w .starts)) (handsUp c slots)) → WholeReply (w .replies) x
 completed-known w inv c slots next notice all = by-notice (tellsLast notice) refl
   where
-    by-notice : (t : Bool) → tellsLast notice ≡ t → (x : Completed) → In x (completionsAfter (w .completions) notice (c .number) (handsUp c slots))
+    by-notice : (t : Bool) → tellsLast notice ≡ t → (x : Completed) → In x (completionsAfter (w .completions) notice (lastStart (w .starts)) (handsUp c slots))
         → WholeReply (w .replies) x
     by-notice true e =
-        completed-more (WholeReply (w .replies)) (w .completions) notice (c .number) (handsUp c slots) (inv .completed)
+        completed-more (WholeReply (w .replies)) (w .completions) notice (lastStart (w .starts)) (handsUp c slots) (inv .completed)
         (whole-handed c slots (w .starts) (w .replies) next (all e))
-    by-notice false e = none-told w inv notice (c .number) (handsUp c slots) e
+    by-notice false e = none-told w inv notice (lastStart (w .starts)) (handsUp c slots) e
 
 -- A response tells "last" where all is held.
 notice-told : (all : Bool) (count : ℕ) → tellsLast (putNotice all count) ≡ true → all ≡ true
@@ -158,8 +159,19 @@ put-same true false c m = record { activity = refl; number = refl; call = refl; 
 put-same false idempotent c m = record { activity = refl; number = refl; call = refl; size = refl }
 
 -- The row of an arriving PDU that passed: what is known of the client stays known.
-module _ (w : World) (inv : Inv w) (h : Header) (body : List ℕ) (status : ℕ) (kept : sound (w .client) ≡ true) (whole : length (w .clientSlots) ≡ 44544)
-    (short : length body ≤ 1392) (known : eventOf (h .kind) ≡ ResponseEvent → Response (w .replies) h body) where
+module _ (w : World) (inv : Inv w) (o : ℕ) (h : Header) (body : List ℕ) (status : ℕ) (kept : sound (w .client) ≡ true) (whole : length (w .clientSlots) ≡ 44544)
+    (short : length body ≤ 1392) (known : eventOf (h .kind) ≡ ResponseEvent → Response (w .replies) o h body) where
+  -- A response that has the client's number is of its last start.
+  mine : (from : Response (w .replies) o h body) → isQueued (w .client .state) ≡ false → w .client .number ≡ h .number → from .reply .ordinal ≡ lastStart (w .starts)
+  mine from begun e =
+      let run = inv .calls .replied (from .reply) (from .given) in
+      let of = inv .calls .whole (run .dispatch) (run .dispatched) in
+      let below = inv .calls .below (of .0) (of .1 .0) in
+      let same : of .0 .ordinal ≡ o = of .1 .1 .0 ∙ run .same ∙ from .is in
+      let number = inv .client .current begun .number in
+      from .is
+      ∙ sym (equal-start o (lastStart (w .starts)) (lastStart (w .starts)) (omega arith) (omega arith) (sym number ∙ e ∙ from .number))
+
   -- A response is put,
   response-inv : CanArrive ResponseEvent (w .client) h (bodyLength body) → eventOf (h .kind) ≡ ResponseEvent
       → ClientInv (responsePlan (w .client) (h .flags1) (h .serial) (h .fragment) (bodyLength body) .client) (filled (h .fragment) body (w .clientSlots)) (w .starts)
@@ -178,12 +190,13 @@ module _ (w : World) (inv : Inv w) (h : Header) (body : List ℕ) (status : ℕ)
         kept = row-sound c h (bodyLength body) status kept (omega arith) ResponseEvent j;
         activity = rw (same .activity) (inv .client .activity);
         slotted = stored-length (c .incoming) (h .fragment) (bodyLength body) (isLast (h .flags1)) ∙ inv .client .slotted;
-        begun = λ s k. (put-started (complete m) (c .call .idempotent) c m, rw (same .number) (inv .client .begun s k .1));
+        unbegun = λ q. absurd (false≢true (sym (put-started (complete m) (c .call .idempotent) c m) ∙ q));
         current =
             λ q.
             record {
               start = now .start;
               started = now .started;
+              is = now .is;
               number = rw (same .number) (now .number);
               mark = rw (same .call) (now .mark);
               message = now .message;
@@ -195,9 +208,9 @@ module _ (w : World) (inv : Inv w) (h : Header) (body : List ℕ) (status : ℕ)
         unasked = λ e. absurd (false≢true (sym (put-started (complete m) (c .call .idempotent) c m) ∙ e));
         holds =
             λ q.
-            rw (same .number, body-length body short)
-            (put-holds (c .number) (c .incoming) (w .clientSlots) (w .replies) (h .flags1) (h .fragment) body (rules-told c kept .incoming)
-            (inv .client .slotted) whole (inv .calls .alike) (from .reply) (from .given) (from .number ∙ sym (j .mine)) (from .part) (omega arith) (new .0) (new .1)
+            rw (body-length body short)
+            (put-holds (lastStart (w .starts)) (c .incoming) (w .clientSlots) (w .replies) (h .flags1) (h .fragment) body (rules-told c kept .incoming)
+            (inv .client .slotted) whole (inv .calls .alike) (from .reply) (from .given) (mine from begun (j .mine)) (from .part) (omega arith) (new .0) (new .1)
             (inv .client .holds begun));
       }
 
@@ -286,25 +299,25 @@ still FackEvent c h n status e = fack-goes-on c (h .fragment) e .started
 still Foreign c h n status e = e
 
 -- An arriving datagram keeps what is known of the world, where the server sent it and the buffer lent is the client's own.
-pub client-arrive-inv : (w : World) (datagram out : List ℕ) → Inv w → arriving (w .client) datagram (w .clientSlots) out .outcome .answer ≡ Done
-    → In datagram (w .serverSent)
+pub client-arrive-inv : (w : World) (p : Posted) (out : List ℕ) → Inv w → arriving (w .client) (p .bytes) (w .clientSlots) out .outcome .answer ≡ Done
+    → In p (w .serverSent)
     → Inv
-    (clientStep w (arriving (w .client) datagram (w .clientSlots) out .outcome) (arriving (w .client) datagram (w .clientSlots) out .out)
-    (arriving (w .client) datagram (w .clientSlots) out .slots))
+    (clientStep w (arriving (w .client) (p .bytes) (w .clientSlots) out .outcome) (arriving (w .client) (p .bytes) (w .clientSlots) out .out)
+    (arriving (w .client) (p .bytes) (w .clientSlots) out .slots))
 unfolding arriving acted planOf arrivalPlan
-client-arrive-inv w datagram out inv done sent =
+client-arrive-inv w p out inv done sent =
     let c = w .client in
     let lent = lentGround (length (w .clientSlots)) (length out) in
-    let r = reading datagram in
-    let body = bodyOf datagram in
+    let r = reading (p .bytes) in
+    let body = bodyOf (p .bytes) in
     let status = statusReading (r .little) body .status in
     let n = bodyLength body in
-    let pass = arrive-accepted c datagram (w .clientSlots) out done in
+    let pass = arrive-accepted c (p .bytes) (w .clientSlots) out done in
     let j = arrival-passes c lent r body pass in
     let buffers = lent-passes (length (w .clientSlots)) (length out) (j .0 .buffers) in
     let event = eventOf (r .header .kind) in
-    let next = row-inv w inv (r .header) body status (j .0 .kept) (buffers .0) (body-short datagram (j .0 .done))
-    (inv .responses datagram sent .told (j .0 .done)) event (j .1) refl in
+    let next = row-inv w inv (p .ordinal) (r .header) body status (j .0 .kept) (buffers .0) (body-short (p .bytes) (j .0 .done))
+    (inv .responses p sent .told (j .0 .done)) event (j .1) refl in
     let begun = arrived-started event c (j .1 .row) in
     subst
     (λ (x : Ground).
@@ -317,6 +330,6 @@ client-arrive-inv w datagram out inv done sent =
     (completed-known w inv (arrivalRow event c (r .header) n status .client)
     (storing (arrivalRow event c (r .header) n status .put) (r .header .fragment) body (w .clientSlots)) next (arrivalRow event c (r .header) n status .notice)
     (row-tells event c (r .header) n status))
-    (others-sent (w .clientSent) (Request (w .starts)) (arrivalRow event c (r .header) n status .client) out (buffers .1) (next .activity)
+    (others-sent (w .clientSent) (Request (w .starts)) (lastStart (w .starts)) (arrivalRow event c (r .header) n status .client) out (buffers .1) (next .activity)
     (next .current (still event c (r .header) n status begun) .typed) (inv .requests) (arrivalRow event c (r .header) n status .send) []
     (row-asks-none event c (r .header) n status)))

@@ -49,7 +49,7 @@ before-fresh clientSlots serverSlots = record {
 
 -- What a story that was played shows.
 ran : {w after : World} {story : Story} {handed : List ℕ} → Fresh w → Plays w story after
-    → after .completions ≡ record { number = 0; bytes = handed } ∷ [] → replyHandedUp after ≡ handed
+    → after .completions ≡ record { ordinal = 0; bytes = handed } ∷ [] → replyHandedUp after ≡ handed
     → Ran w story (after .client .state) (after .server .state) (after .dispatches) handed
 ran fresh plays told handed = record {
   fresh = fresh;
@@ -66,7 +66,7 @@ ran fresh plays told handed = record {
 -- dispatch, of the whole request, and the client hands up the whole reply.
 pub lossy-ran : (message reply clientSlots serverSlots out : List ℕ) → length message ≡ 2785 → length reply ≡ 2786 → length clientSlots ≡ 44544
     → length serverSlots ≡ 44544 → length out ≡ 1472
-    → Ran (before clientSlots serverSlots) (lossy message reply out) Complete (Idle Spent) (record { number = 0; bytes = message } ∷ []) reply
+    → Ran (before clientSlots serverSlots) (lossy message reply out) Complete (Idle Spent) (record { ordinal = 0; bytes = message } ∷ []) reply
 lossy-ran message reply clientSlots serverSlots out asks replies clientRoom serverRoom room =
     ran (before-fresh clientSlots serverSlots) (plays-lossy message reply clientSlots serverSlots out asks replies clientRoom serverRoom room) refl
     (lossy-reply message reply clientSlots serverSlots out asks replies clientRoom serverRoom room)
@@ -78,7 +78,7 @@ zeros-long n = length-replicate n 0
 
 pub example-ran :
     Ran (before (zeros 44544) (zeros 44544)) (lossy exampleMessage exampleReply (zeros 1472)) Complete (Idle Spent)
-    (record { number = 0; bytes = exampleMessage } ∷ []) exampleReply
+    (record { ordinal = 0; bytes = exampleMessage } ∷ []) exampleReply
 unfolding exampleMessage exampleReply
 example-ran =
     lossy-ran exampleMessage exampleReply (zeros 44544) (zeros 44544) (zeros 1472) refl refl (zeros-long 44544) (zeros-long 44544) (zeros-long 1472)
@@ -87,7 +87,7 @@ example-ran =
 -- hands up the reply to the second.
 pub twice-ran : (clientSlots serverSlots out : List ℕ) → length clientSlots ≡ 44544 → length serverSlots ≡ 44544 → length out ≡ 1472
     → Ran (before clientSlots serverSlots) (twice out) Complete (Idle Repeatable)
-    (record { number = 0; bytes = question } ∷ record { number = 0; bytes = question } ∷ []) secondReply
+    (record { ordinal = 0; bytes = question } ∷ record { ordinal = 0; bytes = question } ∷ []) secondReply
 twice-ran clientSlots serverSlots out clientRoom serverRoom room =
     ran (before-fresh clientSlots serverSlots) (plays-twice clientSlots serverSlots out clientRoom serverRoom room) refl
     (twice-reply clientSlots serverSlots out clientRoom serverRoom room)

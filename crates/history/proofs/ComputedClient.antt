@@ -25,32 +25,33 @@ use Rattle.client_steps.specs.declared.Plan.{Plan}
 use Rattle.client_steps.specs.Rows.{transmitPlan, timerPlan}
 use Rattle.client.specs.Sending.{pduHeader, requestSent, emptySent, fackSent, sentOut}
 use Rattle.client.specs.Machine.{outcomeOf, sending, transmitting, timing, planOf, acted, arriving}
-use Rattle.history.specs.World.{World}
+use Rattle.history.specs.World.{Posted, World}
 use Rattle.history.specs.Events.{Own, ClientTransmit, ClientArrive, ClientTimer}
-use Rattle.history.specs.Steps.{sentAfter, completionsAfter, bytesLent, ownAfter, happens, step, answerTo}
+use Rattle.history.specs.Steps.{lastStart, sentAfter, completionsAfter, bytesLent, ownAfter, happens, step, answerTo}
 use Rattle.client.specs.HandUp.{handsUp}
+use Rattle.history.proofs.Network.{postedOf}
 use Rattle.history.proofs.Invariant.{clientStep}
 use Rattle.history.proofs.ComputedLaws.{Makes, Uuids, posted, Carried}
 
 -- What the client sends, as it stands in the world: nothing, or one PDU.
-abbrev pub clientPdus : Send → Client → List ℕ → List (List ℕ)
-clientPdus Nothing c message = []
-clientPdus (Request f) c message = datagram (pduHeader 0 (flagsOf (c .outgoing .count) f) f c) (fragmentOf message f) ∷ []
-clientPdus Ping c message = datagram (pduHeader 1 0 0 c) [] ∷ []
-clientPdus Ack c message = datagram (pduHeader 7 0 0 c) [] ∷ []
-clientPdus (Fack serial) c message =
-    datagram (pduHeader 9 0 (lastContiguous (contiguous (c .incoming))) c) (fackBytes (fackFields serial (maskOf (c .incoming)))) ∷ []
+abbrev pub clientPdus : ℕ → Send → Client → List ℕ → List Posted
+clientPdus o Nothing c message = []
+clientPdus o (Request f) c message = postedOf o (datagram (pduHeader 0 (flagsOf (c .outgoing .count) f) f c) (fragmentOf message f)) ∷ []
+clientPdus o Ping c message = postedOf o (datagram (pduHeader 1 0 0 c) []) ∷ []
+clientPdus o Ack c message = postedOf o (datagram (pduHeader 7 0 0 c) []) ∷ []
+clientPdus o (Fack serial) c message =
+    postedOf o (datagram (pduHeader 9 0 (lastContiguous (contiguous (c .incoming))) c) (fackBytes (fackFields serial (maskOf (c .incoming))))) ∷ []
 
-client-sent : (send : Send) (c : Client) (message out : List ℕ) (before : List (List ℕ)) → Uuids (c .activity) (c .call) → length out ≡ 1472
-    → sentAfter before (sentOut send c message out .sent) (sentOut send c message out .out) ≡ before ++ clientPdus send c message
+client-sent : (send : Send) (c : Client) (message out : List ℕ) (before : List Posted) (o : ℕ) → Uuids (c .activity) (c .call) → length out ≡ 1472
+    → sentAfter before (sentOut send c message out .sent) (sentOut send c message out .out) o ≡ before ++ clientPdus o send c message
 unfolding sentOut requestSent emptySent fackSent pduHeader sentAfter fackBytes
-client-sent Nothing c message out before z room = sym (append-nil before)
-client-sent (Request f) c message out before z room =
-    posted 0 _ _ _ _ _ _ _ (fragmentOf message f) out before (omega arith) (fragment-most message f) z room
-client-sent Ping c message out before z room = posted 1 _ _ _ _ _ _ _ [] out before (omega arith) (omega arith) z room
-client-sent Ack c message out before z room = posted 7 _ _ _ _ _ _ _ [] out before (omega arith) (omega arith) z room
-client-sent (Fack serial) c message out before z room =
-    posted 9 _ _ _ _ _ _ _ (fackBytes (fackFields serial (maskOf (c .incoming)))) out before (omega arith) (omega arith) z room
+client-sent Nothing c message out before o z room = sym (append-nil before)
+client-sent (Request f) c message out before o z room =
+    posted 0 _ _ _ _ _ _ _ (fragmentOf message f) out before o (omega arith) (fragment-most message f) z room
+client-sent Ping c message out before o z room = posted 1 _ _ _ _ _ _ _ [] out before o (omega arith) (omega arith) z room
+client-sent Ack c message out before o z room = posted 7 _ _ _ _ _ _ _ [] out before o (omega arith) (omega arith) z room
+client-sent (Fack serial) c message out before o z room =
+    posted 9 _ _ _ _ _ _ _ (fackBytes (fackFields serial (maskOf (c .incoming)))) out before o (omega arith) (omega arith) z room
 
 -- The world after a plan of the client.
 abbrev pub clientLeft : World → Plan → List ℕ → List ℕ → World
@@ -59,12 +60,13 @@ clientLeft w plan message slots = record {
   server = w .server;
   clientSlots = slots;
   serverSlots = w .serverSlots;
-  clientSent = w .clientSent ++ clientPdus (plan .send) (plan .client) message;
+  clientSent = w .clientSent ++ clientPdus (lastStart (w .starts)) (plan .send) (plan .client) message;
   serverSent = w .serverSent;
+  standing = w .standing;
   starts = w .starts;
   dispatches = w .dispatches;
   replies = w .replies;
-  completions = completionsAfter (w .completions) (plan .notice) (plan .client .number) (handsUp (plan .client) slots);
+  completions = completionsAfter (w .completions) (plan .notice) (lastStart (w .starts)) (handsUp (plan .client) slots);
 }
 
 abbrev clientDone : World → Plan → List ℕ → List ℕ → List ℕ → World
@@ -78,12 +80,13 @@ client-left w plan message out slots z room = λ i. record {
   server = w .server;
   clientSlots = slots;
   serverSlots = w .serverSlots;
-  clientSent = client-sent (plan .send) (plan .client) message out (w .clientSent) z room i;
+  clientSent = client-sent (plan .send) (plan .client) message out (w .clientSent) (lastStart (w .starts)) z room i;
   serverSent = w .serverSent;
+  standing = w .standing;
   starts = w .starts;
   dispatches = w .dispatches;
   replies = w .replies;
-  completions = completionsAfter (w .completions) (plan .notice) (plan .client .number) (handsUp (plan .client) slots);
+  completions = completionsAfter (w .completions) (plan .notice) (lastStart (w .starts)) (handsUp (plan .client) slots);
 }
 
 -- The plan of a transmit of n bytes, of a timer event, and of an arriving PDU.
@@ -124,9 +127,9 @@ module _ (w : World) (out : List ℕ) (room : length out ≡ 1472) where
   }
 
   -- a PDU that arrives.
-  pub client-arrives : {h : Header} {body : List ℕ} → Carried h body → length (w .clientSlots) ≡ 44544
+  pub client-arrives : {h : Header} {body : List ℕ} {o : ℕ} → Carried h body → length (w .clientSlots) ≡ 44544
       → Uuids (clientArrival (w .client) h body .client .activity) (clientArrival (w .client) h body .client .call)
-      → Makes w (ClientArrive (datagram h body) Own out) (numberOf (clientArrival (w .client) h body .answer))
+      → Makes w (ClientArrive (postedOf o (datagram h body)) Own out) (numberOf (clientArrival (w .client) h body .answer))
       (clientLeft w (clientArrival (w .client) h body) []
       (storing (clientArrival (w .client) h body .put) (h .fragment) body (w .clientSlots)))
   unfolding step answerTo happens arriving acted sending outcomeOf bytesLent ownAfter

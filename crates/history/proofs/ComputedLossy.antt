@@ -38,7 +38,8 @@ use Rattle.history.proofs.ComputedLaws.{Plays, told, came, over, then, 
 use Rattle.history.proofs.ComputedParts.{kept, put}
 use Rattle.history.proofs.ComputedClient.{client-transmits, client-times, client-arrives}
 use Rattle.history.proofs.ComputedServer.{server-transmits, server-times, server-arrives}
-use Rattle.history.proofs.ComputedSides.{ClientSide, ServerSide, Books, world, held, holds, nothing, sends, clientIn, serverIn}
+use Rattle.history.specs.World.{Posted}
+use Rattle.history.proofs.ComputedSides.{ClientSide, ServerSide, ofFirst, Books, world, held, holds, nothing, sends, clientIn, serverIn}
 
 uuids : Uuids activity called
 uuids = record { activity-16 = refl; object-16 = refl; interface-16 = refl }
@@ -97,17 +98,17 @@ module _ (message reply clientSlots serverSlots out : List ℕ) (asks : length m
   u3-long = filled-length 2 (fragmentOf reply 2) u2 ∙ u2-long
 
   -- The first n PDUs of all that the client has sent, and the server.
-  abbrev clientSent : ℕ → List (List ℕ)
+  abbrev clientSent : ℕ → List Posted
   clientSent n =
       take n
-      (request message 0 1 ∷ request message 1 2 ∷ request message 2 3 ∷ ping 4
-      ∷ request message 0 5 ∷ request message 1 6 ∷ request message 2 7 ∷ ping 8 ∷ ack 8 ∷ [])
+      (ofFirst (request message 0 1 ∷ request message 1 2 ∷ request message 2 3 ∷ ping 4
+      ∷ request message 0 5 ∷ request message 1 6 ∷ request message 2 7 ∷ ping 8 ∷ ack 8 ∷ []))
 
-  abbrev serverSent : ℕ → List (List ℕ)
+  abbrev serverSent : ℕ → List Posted
   serverSent n =
       take n
-      (nocall ∷ working ∷ response reply 0 1 ∷ response reply 1 2 ∷ response reply 2 3
-      ∷ response reply 0 4 ∷ response reply 1 5 ∷ response reply 2 6 ∷ [])
+      (ofFirst (nocall ∷ working ∷ response reply 0 1 ∷ response reply 1 2 ∷ response reply 2 3
+      ∷ response reply 0 4 ∷ response reply 1 5 ∷ response reply 2 6 ∷ []))
 
   -- The client's side: state, fragments sent, serial, what is held, the counts of WAIT and of resends, tickets, WAIT, ACK; its slot
   -- buffer and how many PDUs it has sent.
@@ -229,20 +230,20 @@ module _ (message reply clientSlots serverSlots out : List ℕ) (asks : length m
   b0 = record { starts = []; dispatches = []; replies = []; completions = [] }
 
   abbrev b1 : Books
-  b1 = record { starts = record { number = 0; idempotent = false; message = message } ∷ []; dispatches = []; replies = []; completions = [] }
+  b1 = record { starts = record { ordinal = 0; number = 0; idempotent = false; message = message } ∷ []; dispatches = []; replies = []; completions = [] }
 
   abbrev b2 : List ℕ → Books
-  b2 bytes = record { starts = b1 .starts; dispatches = record { number = 0; bytes = bytes } ∷ []; replies = []; completions = [] }
+  b2 bytes = record { starts = b1 .starts; dispatches = record { ordinal = 0; bytes = bytes } ∷ []; replies = []; completions = [] }
 
   abbrev b3 : Books
-  b3 = record { starts = b1 .starts; dispatches = b2 message .dispatches; replies = record { number = 0; message = reply } ∷ []; completions = [] }
+  b3 = record { starts = b1 .starts; dispatches = b2 message .dispatches; replies = record { ordinal = 0; message = reply } ∷ []; completions = [] }
 
   abbrev b4 : List ℕ → Books
   b4 bytes = record {
     starts = b1 .starts;
     dispatches = b2 message .dispatches;
     replies = b3 .replies;
-    completions = record { number = 0; bytes = bytes } ∷ [];
+    completions = record { ordinal = 0; bytes = bytes } ∷ [];
   }
 
   -- What the server hands up when all is held is the request,

@@ -25,67 +25,70 @@ use Rattle.server.specs.Sending.{replyHeader, echoed, echoHeader, responseSent,
 use Rattle.server.specs.Machine.{outcomeOf, sending, transmitting, timing, planOf, acted, arriving}
 use Rattle.server.specs.HandUp.{handsUp}
 use Rattle.fragments.specs.Slots.{storing}
-use Rattle.history.specs.World.{World}
+use Rattle.history.specs.World.{Posted, World}
 use Rattle.history.specs.Events.{Own, ServerTransmit, ServerArrive, ServerTimer}
-use Rattle.history.specs.Steps.{sentAfter, dispatchesAfter, bytesLent, ownAfter, happens, step, answerTo}
+use Rattle.history.specs.Steps.{standingAfter, sentAfter, dispatchesAfter, bytesLent, ownAfter, happens, step, answerTo}
+use Rattle.history.proofs.Network.{postedOf}
 use Rattle.history.proofs.Invariant.{serverStep}
 use Rattle.history.proofs.ComputedLaws.{Makes, Uuids, posted, Carried}
 
 -- What the server sends, as it stands in the world: nothing, or one PDU; h is the header of the PDU answered.
-abbrev pub serverPdus : Send → Server → Header → List ℕ → List (List ℕ)
-serverPdus Nothing s h message = []
-serverPdus (Response f) s h message = datagram (replyHeader 2 (flagsOf (s .outgoing .count) f) f s) (fragmentOf message f) ∷ []
-serverPdus (Fault status) s h message = datagram (replyHeader 3 0 0 s) (statusBytes status) ∷ []
-serverPdus Working s h message = datagram (echoHeader 4 0 s h) [] ∷ []
-serverPdus Nocall s h message = datagram (echoHeader 5 0 s h) [] ∷ []
-serverPdus (Fack serial) s h message =
-    datagram (echoHeader 9 (lastContiguous (contiguous (s .incoming))) s h) (fackBytes (fackFields serial (maskOf (s .incoming)))) ∷ []
+abbrev pub serverPdus : ℕ → Send → Server → Header → List ℕ → List Posted
+serverPdus o Nothing s h message = []
+serverPdus o (Response f) s h message = postedOf o (datagram (replyHeader 2 (flagsOf (s .outgoing .count) f) f s) (fragmentOf message f)) ∷ []
+serverPdus o (Fault status) s h message = postedOf o (datagram (replyHeader 3 0 0 s) (statusBytes status)) ∷ []
+serverPdus o Working s h message = postedOf o (datagram (echoHeader 4 0 s h) []) ∷ []
+serverPdus o Nocall s h message = postedOf o (datagram (echoHeader 5 0 s h) []) ∷ []
+serverPdus o (Fack serial) s h message =
+    postedOf o (datagram (echoHeader 9 (lastContiguous (contiguous (s .incoming))) s h) (fackBytes (fackFields serial (maskOf (s .incoming))))) ∷ []
 
-server-sent : (send : Send) (s : Server) (h : Header) (message out : List ℕ) (before : List (List ℕ)) → Uuids (s .activity) (s .call)
+server-sent : (send : Send) (s : Server) (h : Header) (message out : List ℕ) (before : List Posted) (o : ℕ) → Uuids (s .activity) (s .call)
     → Uuids (s .activity) (echoed h) → length out ≡ 1472
-    → sentAfter before (sentOut send s h message out .sent) (sentOut send s h message out .out) ≡ before ++ serverPdus send s h message
+    → sentAfter before (sentOut send s h message out .sent) (sentOut send s h message out .out) o ≡ before ++ serverPdus o send s h message
 unfolding sentOut responseSent faultSent emptySent fackSent replyHeader echoHeader sentAfter fackBytes
-server-sent Nothing s h message out before z y room = sym (append-nil before)
-server-sent (Response f) s h message out before z y room =
-    posted 2 _ _ _ _ _ _ _ (fragmentOf message f) out before (omega arith) (fragment-most message f) z room
-server-sent (Fault status) s h message out before z y room =
-    posted 3 _ _ _ _ _ _ _ (statusBytes status) out before (omega arith) (omega arith) z room
-server-sent Working s h message out before z y room = posted 4 _ _ _ _ _ _ _ [] out before (omega arith) (omega arith) y room
-server-sent Nocall s h message out before z y room = posted 5 _ _ _ _ _ _ _ [] out before (omega arith) (omega arith) y room
-server-sent (Fack serial) s h message out before z y room =
-    posted 9 _ _ _ _ _ _ _ (fackBytes (fackFields serial (maskOf (s .incoming)))) out before (omega arith) (omega arith) y room
+server-sent Nothing s h message out before o z y room = sym (append-nil before)
+server-sent (Response f) s h message out before o z y room =
+    posted 2 _ _ _ _ _ _ _ (fragmentOf message f) out before o (omega arith) (fragment-most message f) z room
+server-sent (Fault status) s h message out before o z y room =
+    posted 3 _ _ _ _ _ _ _ (statusBytes status) out before o (omega arith) (omega arith) z room
+server-sent Working s h message out before o z y room = posted 4 _ _ _ _ _ _ _ [] out before o (omega arith) (omega arith) y room
+server-sent Nocall s h message out before o z y room = posted 5 _ _ _ _ _ _ _ [] out before o (omega arith) (omega arith) y room
+server-sent (Fack serial) s h message out before o z y room =
+    posted 9 _ _ _ _ _ _ _ (fackBytes (fackFields serial (maskOf (s .incoming)))) out before o (omega arith) (omega arith) y room
 
 -- The world after a plan of the server.
-abbrev pub serverLeft : World → Plan → Header → List ℕ → List ℕ → ℕ → World
-serverLeft w plan h message slots number = record {
+abbrev pub serverLeft : World → Plan → Header → List ℕ → List ℕ → ℕ → ℕ → World
+serverLeft w plan h message slots ordinal standing = record {
   client = w .client;
   server = plan .server;
   clientSlots = w .clientSlots;
   serverSlots = slots;
   clientSent = w .clientSent;
-  serverSent = w .serverSent ++ serverPdus (plan .send) (plan .server) h message;
+  serverSent = w .serverSent ++ serverPdus ordinal (plan .send) (plan .server) h message;
+  standing = standing;
   starts = w .starts;
-  dispatches = dispatchesAfter (w .dispatches) (plan .notice) number (handsUp (plan .server) slots);
+  dispatches = dispatchesAfter (w .dispatches) (plan .notice) ordinal (handsUp (plan .server) slots);
   replies = w .replies;
   completions = w .completions;
 }
 
-abbrev serverDone : World → Plan → Header → List ℕ → List ℕ → List ℕ → ℕ → World
-serverDone w plan h message out slots number = serverStep w (sending plan h message out .outcome) (sending plan h message out .out) slots number
+abbrev serverDone : World → Plan → Header → List ℕ → List ℕ → List ℕ → ℕ → ℕ → World
+serverDone w plan h message out slots ordinal standing = serverStep w (sending plan h message out .outcome) (sending plan h message out .out) slots ordinal standing
 
-server-left : (w : World) (plan : Plan) (h : Header) (message out slots : List ℕ) (number : ℕ) → Uuids (plan .server .activity) (plan .server .call)
+server-left : (w : World) (plan : Plan) (h : Header) (message out slots : List ℕ) (ordinal standing : ℕ) → Uuids (plan .server .activity) (plan .server .call)
     → Uuids (plan .server .activity) (echoed h) → length out ≡ 1472
-    → serverDone w plan h message out slots number ≡ serverLeft w plan h message slots number
+    → serverDone w plan h message out slots ordinal standing ≡ serverLeft w plan h message slots ordinal standing
 unfolding sending outcomeOf
-server-left w plan h message out slots number z y room = λ i. record {
+server-left w plan h message out slots ordinal standing z y room = λ i. record {
   client = w .client;
   server = plan .server;
   clientSlots = w .clientSlots;
   serverSlots = slots;
   clientSent = w .clientSent;
-  serverSent = server-sent (plan .send) (plan .server) h message out (w .serverSent) z y room i;
+  serverSent = server-sent (plan .send) (plan .server) h message out (w .serverSent) ordinal z y room i;
+  standing = standing;
   starts = w .starts;
-  dispatches = dispatchesAfter (w .dispatches) (plan .notice) number (handsUp (plan .server) slots);
+  dispatches = dispatchesAfter (w .dispatches) (plan .notice) ordinal (handsUp (plan .server) slots);
   replies = w .replies;
   completions = w .completions;
 }
@@ -105,36 +108,37 @@ module _ (w : World) (out : List ℕ) (room : length out ≡ 1472) where
   pub server-transmits : (message : List ℕ) (n : ℕ) → length message ≡ n
       → Uuids (serverTransmit (w .server) n .server .activity) (serverTransmit (w .server) n .server .call)
       → Makes w (ServerTransmit message out) (numberOf (serverTransmit (w .server) n .answer))
-      (serverLeft w (serverTransmit (w .server) n) blank message (w .serverSlots) (w .server .number))
+      (serverLeft w (serverTransmit (w .server) n) blank message (w .serverSlots) (w .standing) (w .standing))
   unfolding step answerTo happens transmitting sending outcomeOf blank echoed
   server-transmits message n whole z = record {
     answered = λ i. numberOf (transmitPlan (transmitGround (w .server) (whole i) (room i)) (w .server) .answer);
     leaves =
-        (λ i. serverDone w (transmitPlan (transmitGround (w .server) (whole i) (room i)) (w .server)) blank message out (w .serverSlots) (w .server .number))
-        ∙ server-left w (serverTransmit (w .server) n) blank message out (w .serverSlots) (w .server .number) z
+        (λ i. serverDone w (transmitPlan (transmitGround (w .server) (whole i) (room i)) (w .server)) blank message out (w .serverSlots) (w .standing) (w .standing))
+        ∙ server-left w (serverTransmit (w .server) n) blank message out (w .serverSlots) (w .standing) (w .standing) z
         (record { activity-16 = z .activity-16; object-16 = refl; interface-16 = refl }) room;
   }
 
   -- a timer event;
   pub server-times : (ticket : ℕ) → Uuids (serverTime (w .server) ticket .server .activity) (serverTime (w .server) ticket .server .call)
       → Makes w (ServerTimer ticket out) (numberOf (serverTime (w .server) ticket .answer))
-      (serverLeft w (serverTime (w .server) ticket) blank [] (w .serverSlots) (w .server .number))
+      (serverLeft w (serverTime (w .server) ticket) blank [] (w .serverSlots) (w .standing) (w .standing))
   unfolding step answerTo happens timing sending outcomeOf blank echoed
   server-times ticket z = record {
     answered = λ i. numberOf (timerPlan (timerGround (w .server) ticket (room i)) (w .server) .answer);
     leaves =
-        (λ i. serverDone w (timerPlan (timerGround (w .server) ticket (room i)) (w .server)) blank [] out (w .serverSlots) (w .server .number))
-        ∙ server-left w (serverTime (w .server) ticket) blank [] out (w .serverSlots) (w .server .number) z
+        (λ i. serverDone w (timerPlan (timerGround (w .server) ticket (room i)) (w .server)) blank [] out (w .serverSlots) (w .standing) (w .standing))
+        ∙ server-left w (serverTime (w .server) ticket) blank [] out (w .serverSlots) (w .standing) (w .standing) z
         (record { activity-16 = z .activity-16; object-16 = refl; interface-16 = refl }) room;
   }
 
   -- a PDU that arrives.
-  pub server-arrives : {h : Header} {body : List ℕ} → Carried h body → length (w .serverSlots) ≡ 44544
+  pub server-arrives : {h : Header} {body : List ℕ} {o : ℕ} → Carried h body → length (w .serverSlots) ≡ 44544
       → Uuids (serverArrival (w .server) h body .server .activity) (serverArrival (w .server) h body .server .call)
-      → Makes w (ServerArrive (datagram h body) Own out) (numberOf (serverArrival (w .server) h body .answer))
-      (serverLeft w (serverArrival (w .server) h body) h [] (storing (serverArrival (w .server) h body .put) (h .fragment) body (w .serverSlots)) (h .number))
+      → Makes w (ServerArrive (postedOf o (datagram h body)) Own out) (numberOf (serverArrival (w .server) h body .answer))
+      (serverLeft w (serverArrival (w .server) h body) h [] (storing (serverArrival (w .server) h body .put) (h .fragment) body (w .serverSlots)) o
+      (standingAfter (w .standing) (serverArrival (w .server) h body .answer) (h .kind) o))
   unfolding step answerTo happens arriving acted sending outcomeOf bytesLent ownAfter echoed
-  server-arrives {h} {body} c whole z =
+  server-arrives {h} {body} {o} c whole z =
       let read = read-written h body (c .fits) (c .known) (c .plain) (c .short) in
       let rest = body-written h body (c .fits .sized) in
       let sized = c .fits .sized in
@@ -143,8 +147,9 @@ module _ (w : World) (out : List ℕ) (room : length out ≡ 1472) where
         leaves =
             (λ i. serverDone w (planOf (w .server) (lentGround (whole i) (room i)) (read i) (rest i)) (read i .header) [] out
             (storing (planOf (w .server) (lentGround (whole i) (room i)) (read i) (rest i) .put) (read i .header .fragment) (rest i) (w .serverSlots))
-            (read i .header .number))
+            o (standingAfter (w .standing) (planOf (w .server) (lentGround (whole i) (room i)) (read i) (rest i) .answer) (read i .header .kind) o))
             ∙ server-left w (serverArrival (w .server) h body) h [] out
-            (storing (serverArrival (w .server) h body .put) (h .fragment) body (w .serverSlots)) (h .number) z
+            (storing (serverArrival (w .server) h body .put) (h .fragment) body (w .serverSlots)) o
+            (standingAfter (w .standing) (serverArrival (w .server) h body .answer) (h .kind) o) z
             (record { activity-16 = z .activity-16; object-16 = sized .object; interface-16 = sized .interface }) room;
       }

@@ -1,7 +1,7 @@
 -- A world by its sides, and the records of the runs, in short.
 use Prim.Native.Nat.{ℕ}
 use mathlib.Core.Bool.{true}
-use mathlib.Core.List.{List, _∷_}
+use mathlib.Core.List.{List, [], _∷_}
 use lib.ListN.{replicate}
 use Rattle.calls.specs.declared.Call.{Call}
 use Rattle.incoming.specs.declared.Slot.{Slot}
@@ -15,19 +15,24 @@ use Rattle.client_record.specs.declared.Client.{Client}
 use Rattle.client_record.specs.declared.State.{State as ClientState}
 use Rattle.server_record.specs.declared.Server.{Server}
 use Rattle.server_record.specs.declared.State.{State as ServerState}
-use Rattle.history.specs.World.{World, Started, Dispatched, Replied, Completed}
+use Rattle.history.specs.World.{World, Started, Dispatched, Replied, Completed, Posted}
 use Rattle.history.specs.Runs.{activity}
 
 -- A side: its record, its slot buffer and what it has sent.
 pub record ClientSide : Type 0 where
   pub client : Client
   pub slots : List ℕ
-  pub sent : List (List ℕ)
+  pub sent : List Posted
 
 pub record ServerSide : Type 0 where
   pub server : Server
   pub slots : List ℕ
-  pub sent : List (List ℕ)
+  pub sent : List Posted
+
+-- Datagrams of start 0, the only one.
+abbrev pub ofFirst : List (List ℕ) → List Posted
+ofFirst [] = []
+ofFirst (d ∷ ds) = record { ordinal = 0; bytes = d } ∷ ofFirst ds
 
 -- What is on record of the calls.
 pub record Books : Type 0 where
@@ -44,6 +49,7 @@ world c s b = record {
   serverSlots = s .slots;
   clientSent = c .sent;
   serverSent = s .sent;
+  standing = 0;
   starts = b .starts;
   dispatches = b .dispatches;
   replies = b .replies;

@@ -32,7 +32,8 @@ use Rattle.history.proofs.ComputedLaws.{Plays, told, came, over, then, 
 use Rattle.history.proofs.ComputedParts.{put}
 use Rattle.history.proofs.ComputedClient.{client-transmits, client-times, client-arrives}
 use Rattle.history.proofs.ComputedServer.{server-transmits, server-arrives}
-use Rattle.history.proofs.ComputedSides.{ClientSide, ServerSide, Books, world, held, holds, nothing, sends, clientIn, serverIn}
+use Rattle.history.specs.World.{Posted}
+use Rattle.history.proofs.ComputedSides.{ClientSide, ServerSide, ofFirst, Books, world, held, holds, nothing, sends, clientIn, serverIn}
 
 uuids : Uuids activity asking
 uuids = record { activity-16 = refl; object-16 = refl; interface-16 = refl }
@@ -67,11 +68,11 @@ module _ (clientSlots serverSlots out : List ℕ) (clientRoom : length clientSlo
   u1-long = filled-length 0 secondReply clientSlots ∙ clientRoom
 
   -- The first n PDUs of all that the client has sent, and the server.
-  abbrev clientSent : ℕ → List (List ℕ)
-  clientSent n = take n (questionPdu 1 ∷ pingPdu 2 ∷ questionPdu 3 ∷ clientFackPdu ∷ [])
+  abbrev clientSent : ℕ → List Posted
+  clientSent n = take n (ofFirst (questionPdu 1 ∷ pingPdu 2 ∷ questionPdu 3 ∷ clientFackPdu ∷ []))
 
-  abbrev serverSent : ℕ → List (List ℕ)
-  serverSent n = take n (fackPdu 1 ∷ replyPdu firstReply ∷ nocallPdu ∷ fackPdu 3 ∷ replyPdu secondReply ∷ [])
+  abbrev serverSent : ℕ → List Posted
+  serverSent n = take n (ofFirst (fackPdu 1 ∷ replyPdu firstReply ∷ nocallPdu ∷ fackPdu 3 ∷ replyPdu secondReply ∷ []))
 
   -- The client after each of its events.
   abbrev k0 : ClientSide
@@ -129,18 +130,18 @@ module _ (clientSlots serverSlots out : List ℕ) (clientRoom : length clientSlo
   b0 = record { starts = []; dispatches = []; replies = []; completions = [] }
 
   abbrev b1 : Books
-  b1 = record { starts = record { number = 0; idempotent = true; message = question } ∷ []; dispatches = []; replies = []; completions = [] }
+  b1 = record { starts = record { ordinal = 0; number = 0; idempotent = true; message = question } ∷ []; dispatches = []; replies = []; completions = [] }
 
   abbrev b2 : List ℕ → Books
-  b2 bytes = record { starts = b1 .starts; dispatches = record { number = 0; bytes = bytes } ∷ []; replies = []; completions = [] }
+  b2 bytes = record { starts = b1 .starts; dispatches = record { ordinal = 0; bytes = bytes } ∷ []; replies = []; completions = [] }
 
   abbrev b3 : Books
-  b3 = record { starts = b1 .starts; dispatches = b2 question .dispatches; replies = record { number = 0; message = firstReply } ∷ []; completions = [] }
+  b3 = record { starts = b1 .starts; dispatches = b2 question .dispatches; replies = record { ordinal = 0; message = firstReply } ∷ []; completions = [] }
 
   abbrev b4 : List ℕ → Books
   b4 bytes = record {
     starts = b1 .starts;
-    dispatches = record { number = 0; bytes = question } ∷ record { number = 0; bytes = bytes } ∷ [];
+    dispatches = record { ordinal = 0; bytes = question } ∷ record { ordinal = 0; bytes = bytes } ∷ [];
     replies = b3 .replies;
     completions = [];
   }
@@ -149,7 +150,7 @@ module _ (clientSlots serverSlots out : List ℕ) (clientRoom : length clientSlo
   b5 = record {
     starts = b1 .starts;
     dispatches = b4 question .dispatches;
-    replies = record { number = 0; message = firstReply } ∷ record { number = 0; message = secondReply } ∷ [];
+    replies = record { ordinal = 0; message = firstReply } ∷ record { ordinal = 0; message = secondReply } ∷ [];
     completions = [];
   }
 
@@ -158,7 +159,7 @@ module _ (clientSlots serverSlots out : List ℕ) (clientRoom : length clientSlo
     starts = b1 .starts;
     dispatches = b5 .dispatches;
     replies = b5 .replies;
-    completions = record { number = 0; bytes = bytes } ∷ [];
+    completions = record { ordinal = 0; bytes = bytes } ∷ [];
   }
 
   -- What the server hands up at each dispatch is the request,

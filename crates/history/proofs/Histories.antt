@@ -33,17 +33,17 @@ accepted-inv : (w : World) (e : Event) → Inv w → answerTo w e ≡ Done → P
 unfolding step answerTo happens bytesLent ownAfter
 accepted-inv w (Start call n message) inv done fair = started-inv w call n message inv done fair
 accepted-inv w (ClientTransmit message out) inv done fair = client-transmit-inv w message out inv done fair
-accepted-inv w (ClientArrive datagram lent out) inv done fair =
-    subst (λ (l : Lent). answerTo w (ClientArrive datagram l out) ≡ Done → Inv (step w (ClientArrive datagram l out))) (sym (fair .own))
-    (λ d. client-arrive-inv w datagram out inv d (fair .earlier)) done
+accepted-inv w (ClientArrive p lent out) inv done fair =
+    subst (λ (l : Lent). answerTo w (ClientArrive p l out) ≡ Done → Inv (step w (ClientArrive p l out))) (sym (fair .own))
+    (λ d. client-arrive-inv w p out inv d (fair .earlier)) done
 accepted-inv w (ClientTimer kind ticket out) inv done fair = client-timer-inv w kind ticket out inv done
-accepted-inv w (ServerArrive datagram lent out) inv done fair =
-    subst (λ (l : Lent). answerTo w (ServerArrive datagram l out) ≡ Done → Inv (step w (ServerArrive datagram l out))) (sym (fair .own))
-    (λ d. server-arrive-inv w datagram out inv d (fair .earlier)) done
-accepted-inv w (ServerTransmit message out) inv done fair = server-transmit-inv w message out (w .server .number) inv done fair
-accepted-inv w (ServerTimer ticket out) inv done fair = server-timer-inv w ticket out (w .server .number) inv done
+accepted-inv w (ServerArrive p lent out) inv done fair =
+    subst (λ (l : Lent). answerTo w (ServerArrive p l out) ≡ Done → Inv (step w (ServerArrive p l out))) (sym (fair .own))
+    (λ d. server-arrive-inv w p out inv d (fair .earlier)) done
+accepted-inv w (ServerTransmit message out) inv done fair = server-transmit-inv w message out inv done fair
+accepted-inv w (ServerTimer ticket out) inv done fair = server-timer-inv w ticket out inv done
 accepted-inv w (Reply n message) inv done fair = replied-inv w n message inv done fair
-accepted-inv w (Fault status out) inv done fair = server-fault-inv w status out (w .server .number) inv done
+accepted-inv w (Fault status out) inv done fair = server-fault-inv w status out inv done
 
 -- and so every event, keeps what is known.
 pub step-inv : (w : World) (e : Event) → Inv w → (answerTo w e ≡ Done → Premise w e) → Inv (step w e)
@@ -79,7 +79,7 @@ pub record OneMore (before after : List Started) : Type 0 where
 start-more : (w : World) (call : Call) (n : ℕ) (message : List ℕ) → starting (w .client) call n .answer ≡ Done
     → OneMore (w .starts) (startStep w (starting (w .client) call n) (call .idempotent) message .starts)
 start-more w call n message done =
-    let new : Started = record { number = starting (w .client) call n .client .number; idempotent = call .idempotent; message = message } in
+    let new : Started = record { ordinal = length (w .starts); number = starting (w .client) call n .client .number; idempotent = call .idempotent; message = message } in
     record { start = new; is = choose-true (isDone (starting (w .client) call n .answer)) (andThen (w .starts) new) (w .starts) (ap isDone done) }
 
 -- and no other event changes the starts.
@@ -92,9 +92,9 @@ step-starts w (Start call n message) = by-answer (done-or-not (starting (w .clie
     by-answer (yes done) = unfold step happens in inr (start-more w call n message done)
     by-answer (no other) = unfold answerTo happens in inl (ap (λ (v : World). v .starts) (refused-same w (Start call n message) other))
 step-starts w (ClientTransmit message out) = inl refl
-step-starts w (ClientArrive datagram lent out) = inl refl
+step-starts w (ClientArrive p lent out) = inl refl
 step-starts w (ClientTimer kind ticket out) = inl refl
-step-starts w (ServerArrive datagram lent out) = inl refl
+step-starts w (ServerArrive p lent out) = inl refl
 step-starts w (ServerTransmit message out) = inl refl
 step-starts w (ServerTimer ticket out) = inl refl
 step-starts w (Reply n message) = inl refl
@@ -119,12 +119,12 @@ accepted-grows : (w : World) (e : Event) → answerTo w e ≡ Done → Premise w
 unfolding step answerTo happens bytesLent ownAfter
 accepted-grows w (Start call n message) done fair = inl (start-more w call n message done)
 accepted-grows w (ClientTransmit message out) done fair = inr (transmit-grows (w .client) message out (w .clientSlots))
-accepted-grows w (ClientArrive datagram lent out) done fair =
+accepted-grows w (ClientArrive p lent out) done fair =
     inr
-    (subst (λ (l : Lent). Leads (replyHandedUp w) (replyHandedUp (step w (ClientArrive datagram l out)))) (sym (fair .own))
-    (arrive-grows (w .client) datagram (w .clientSlots) out))
+    (subst (λ (l : Lent). Leads (replyHandedUp w) (replyHandedUp (step w (ClientArrive p l out)))) (sym (fair .own))
+    (arrive-grows (w .client) (p .bytes) (w .clientSlots) out))
 accepted-grows w (ClientTimer kind ticket out) done fair = inr (timer-grows (w .client) kind ticket out (w .clientSlots))
-accepted-grows w (ServerArrive datagram lent out) done fair = inr (leads-refl (replyHandedUp w))
+accepted-grows w (ServerArrive p lent out) done fair = inr (leads-refl (replyHandedUp w))
 accepted-grows w (ServerTransmit message out) done fair = inr (leads-refl (replyHandedUp w))
 accepted-grows w (ServerTimer ticket out) done fair = inr (leads-refl (replyHandedUp w))
 accepted-grows w (Reply n message) done fair = inr (leads-refl (replyHandedUp w))

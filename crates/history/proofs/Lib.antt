@@ -1,6 +1,7 @@
 -- The theorem over every list of events, and two runs that show that it is not empty.
 pub mod ListLaws
 pub mod Holding
+pub mod Ordinals
 pub mod Network
 pub mod Invariant
 pub mod Beginning

@@ -1,12 +1,15 @@
 -- Every row of a PDU that arrives at the server keeps what is known of the world.
-use Prim.Native.Nat.{ℕ, _≤_}
+use Prim.Native.Nat.{ℕ, _≤_, _<_}
 use mathlib.Core.Bool.{Bool, true, false, false≢true}
 use mathlib.Core.List.{List, []}
 use mathlib.Core.Logic.{_⊎_, inl, inr}
 use mathlib.Core.Path.{_≡_, refl, sym, ap, subst, _∙_}
 use native.Mathlib.Omega.{arith}
+use lib.Dec.{eqb, leb}
 use lib.ListN.{length}
+use borrow.Author.Tests.{eqb-true}
 use Rattle.words.specs.Choice.{choose}
+use Rattle.words.proofs.Tests.{choose-true}
 use Rattle.answers.specs.declared.Answer.the-variants.{Done, OldCall, NoRow, Repeated}
 use Rattle.answers.specs.declared.Ground.{Ground}
 use Rattle.answers.specs.declared.Ground.the-variants.{Pass}
@@ -32,14 +35,15 @@ use Rattle.server_record.specs.declared.State.the-variants.{Idle as IdleState, 
 use Rattle.server_record.specs.States.{isFresh, isRunning, isHeld}
 use Rattle.server_record.specs.Rules.{sound}
 use Rattle.server_record.proofs.StateLaws.{held-state}
-use Rattle.server_rows.specs.declared.Event.the-variants.{Request as RequestEvent}
+use Rattle.server_rows.specs.declared.Event.{Event}
+use Rattle.server_rows.specs.declared.Event.the-variants.{Request as RequestEvent, Ping as PingEvent, Ack as AckEvent, Fack as FackEvent, Foreign as ForeignEvent}
 use Rattle.server_rows.specs.declared.Order.the-variants.{Equal, Newer}
 use Rattle.server_rows.specs.declared.Row.{Row}
 use Rattle.server_rows.specs.declared.Row.the-variants.{Old, Missing, Repeat, Begin, Put, Working, Nocall, Replay, Acknowledge, Finish}
-use Rattle.server_rows.specs.Events.{eventOf}
+use Rattle.server_rows.specs.Events.{eventOf, clientEvent}
 use Rattle.server_rows.specs.Rows.{orderFor, rowFor}
 use Rattle.server_table.specs.Arrival.{oldGround, rowGround}
-use Rattle.server_rows.proofs.TableLaws.{newer-told, equal-told, begin-told, put-told, replay-told, acknowledge-told, finish-told}
+use Rattle.server_rows.proofs.TableLaws.{newer-told, equal-told, begin-told, put-told, working-told, nocall-told, replay-told, acknowledge-told, finish-told}
 use Rattle.server_arrivals.specs.Rows.{begun, putPlan, requestPlan, beginPlan, workingPlan, nocallPlan, fackPlan, ackPlan}
 use Rattle.server_arrivals.specs.Table.{arrivalRow, arrivalPlan}
 use Rattle.server_arrivals.proofs.ArrivalLaws.{fack-sound, ack-sound}
@@ -51,48 +55,142 @@ use Rattle.server.specs.Machine.{sending, planOf, acted, arriving}
 use Rattle.server.proofs.Judging.{CanArrive, begin-fits, put-fits, fack-fits, arrival-passes}
 use Rattle.server.proofs.Accepting.{arrive-accepted}
 use Rattle.history.specs.Lists.{In}
-use Rattle.history.specs.World.{World}
+use Rattle.history.specs.World.{bears, Posted, World}
+use Rattle.history.specs.Steps.{isDone, lastStart, standingAfter}
 use Rattle.history.specs.Fairness.{Typed}
 use Rattle.history.proofs.Network.{Request, Response, read-sized}
-use Rattle.history.proofs.Invariant.{unanswered, hasData, ServerInv, Inv, serverStep}
+use Rattle.history.proofs.Invariant.{unanswered, hasData, NewTo, ServerInv, Inv, serverStep}
+use Rattle.history.proofs.Ordinals.{newer-start, equal-start}
 use Rattle.history.proofs.ServerSteps.{past, past-called, goes-on, rewinding-goes-on, spent-goes-on, stays-goes-on}
 use Rattle.history.proofs.ServerSends.{answers, ofCall, others-sent, planned}
 use Rattle.history.proofs.ServerPuts.{Begins, begun-inv, put-inv}
 
+-- The server takes type 0 alone for a request.
+abbrev isPing : Event → Bool
+isPing RequestEvent = false
+isPing PingEvent = true
+isPing AckEvent = false
+isPing FackEvent = false
+isPing ForeignEvent = false
+
+no-ping : PingEvent ≡ RequestEvent → ⊥
+no-ping e = false≢true (sym (ap isPing e))
+
+kind-request : (kind : ℕ) → eqb kind 0 ≡ true → eventOf kind ≡ RequestEvent
+unfolding eventOf clientEvent choose
+kind-request kind e = ap eventOf (eqb-true kind 0 e)
+
+request-kind : (kind : ℕ) → eventOf kind ≡ RequestEvent → eqb kind 0 ≡ true
+unfolding eventOf clientEvent choose
+request-kind kind e = by-zero (eqb kind 0) refl (leb kind 1) (eqb kind 7) (eqb kind 9) e
+  where
+    isRequest : Event → Bool
+    isRequest RequestEvent = true
+    isRequest PingEvent = false
+    isRequest AckEvent = false
+    isRequest FackEvent = false
+    isRequest ForeignEvent = false
+
+    by-zero : (t : Bool) → eqb kind 0 ≡ t → (a b c : Bool)
+        → choose a (choose t RequestEvent PingEvent) (choose b AckEvent (choose c FackEvent ForeignEvent)) ≡ RequestEvent → t ≡ true
+    by-zero true z a b c q = refl
+    by-zero false z true b c q = absurd (false≢true (ap isRequest q))
+    by-zero false z false true c q = absurd (false≢true (ap isRequest q))
+    by-zero false z false false true q = absurd (false≢true (ap isRequest q))
+    by-zero false z false false false q = absurd (false≢true (ap isRequest q))
+
 -- The row of an arriving PDU that passed.
-module _ (w : World) (inv : Inv w) (h : Header) (body : List ℕ) (j : CanArrive (w .server) h) (whole : length (w .serverSlots) ≡ 44544)
-    (short : length body ≤ 1392) (sized : Sized h) (known : eventOf (h .kind) ≡ RequestEvent → Request (w .starts) h body)
+module _ (w : World) (inv : Inv w) (o : ℕ) (h : Header) (body : List ℕ) (j : CanArrive (w .server) h) (whole : length (w .serverSlots) ≡ 44544)
+    (short : length body ≤ 1392) (sized : Sized h) (known : eventOf (h .kind) ≡ RequestEvent → Request (w .starts) o h body)
     (out : List ℕ) (room : length out ≡ 1472) where
+  -- Where the record then stands: at a request's start.
+  abbrev stands : ℕ
+  stands = choose (eqb (h .kind) 0) o (w .standing)
+
+  stands-at : eventOf (h .kind) ≡ RequestEvent → stands ≡ o
+  stands-at e = choose-true (eqb (h .kind) 0) o (w .standing) (request-kind (h .kind) e)
+
+  -- A request is of a start up to the client's last one, and so is the record's call.
+  sent-most : Request (w .starts) o h body → o ≤ lastStart (w .starts)
+  sent-most request =
+      let below = inv .calls .below (request .start) (request .started) in
+      let is = request .is in
+      omega arith
+
+  stood-most : isFresh (w .server .state) ≡ false → w .standing ≤ lastStart (w .starts)
+  stood-most called =
+      let k = inv .server .called called in
+      let below = inv .calls .below (k .start) (k .started) in
+      let is = k .is in
+      omega arith
+
+  -- A newer request is of a later start,
+  newer-ordinal : Request (w .starts) o h body → orderFor (w .server) h ≡ Newer → NewTo (w .server) (w .standing) o
+  unfolding orderFor
+  newer-ordinal request e = by-fresh (isFresh (w .server .state)) refl (newer-told (isFresh (w .server .state)) (w .server .number) (h .number) e)
+    where
+      by-fresh : (t : Bool) → isFresh (w .server .state) ≡ t → (isFresh (w .server .state) ≡ true) ⊎ (w .server .number < h .number)
+          → NewTo (w .server) (w .standing) o
+      by-fresh true f told = inl f
+      by-fresh false f (inl fresh) = inl fresh
+      by-fresh false f (inr above) =
+          inr
+          (newer-start o (w .standing) (lastStart (w .starts)) (sent-most request) (stood-most f)
+          (subst (λ (n : ℕ). n < bears o) (inv .server .called f .number) (subst (λ (n : ℕ). w .server .number < n) (request .number) above)))
+
+  -- and an equal one of the start that the record stands at.
+  equal-ordinal : Request (w .starts) o h body → orderFor (w .server) h ≡ Equal → w .standing ≡ o
+  unfolding orderFor
+  equal-ordinal request e =
+      let told = equal-told (isFresh (w .server .state)) (w .server .number) (h .number) e in
+      equal-start o (w .standing) (lastStart (w .starts)) (sent-most request) (stood-most (told .0))
+      (sym (inv .server .called (told .0) .number) ∙ told .1 ∙ request .number)
+
+  -- So where no other request than an equal one is taken, the record stands where it stood.
+  settles : (eventOf (h .kind) ≡ RequestEvent → orderFor (w .server) h ≡ Equal) → w .standing ≡ stands
+  unfolding choose
+  settles equal = by-kind (eqb (h .kind) 0) refl
+    where
+      by-kind : (t : Bool) → eqb (h .kind) 0 ≡ t → w .standing ≡ choose t o (w .standing)
+      by-kind true e = let is = kind-request (h .kind) e in equal-ordinal (known is) (equal is)
+      by-kind false e = refl
+
   -- The world after a plan for it.
   abbrev After : Plan → World
-  After plan = serverStep w (sending plan h [] out .outcome) (sending plan h [] out .out) (storing (plan .put) (h .fragment) body (w .serverSlots)) (h .number)
+  After plan = serverStep w (sending plan h [] out .outcome) (sending plan h [] out .out) (storing (plan .put) (h .fragment) body (w .serverSlots)) o stands
 
   -- A plan that puts nothing, tells nothing and sends no response.
   quiet-inv : (plan : Plan) → plan .put ≡ false → plan .notice ≡ Untold → answers (plan .send) ≡ false → (ofCall (plan .send) ≡ true → Typed (plan .server .call))
-      → ServerInv (plan .server) (w .serverSlots) (w .starts) (w .dispatches) (w .replies) → Inv (After plan)
+      → ServerInv (plan .server) (w .standing) (w .serverSlots) (w .starts) (w .dispatches) (w .replies)
+      → (eventOf (h .kind) ≡ RequestEvent → orderFor (w .server) h ≡ Equal) → Inv (After plan)
   unfolding storing choose
-  quiet-inv plan unput untold none typed server =
+  quiet-inv plan unput untold none typed server equal =
       subst
       (λ (put : Bool).
-      Inv (serverStep w (sending plan h [] out .outcome) (sending plan h [] out .out) (storing put (h .fragment) body (w .serverSlots)) (h .number)))
+      Inv (serverStep w (sending plan h [] out .outcome) (sending plan h [] out .out) (storing put (h .fragment) body (w .serverSlots)) o stands))
       (sym unput)
-      (planned w plan h [] out (w .serverSlots) (h .number) inv untold server
-      (others-sent (w .serverSent) (Response (w .replies)) (plan .server) h out room (server .activity) (sized .object) (sized .interface) (inv .responses)
+      (planned w plan h [] out (w .serverSlots) o stands inv untold
+      (subst (λ (n : ℕ). ServerInv (plan .server) n (w .serverSlots) (w .starts) (w .dispatches) (w .replies)) (settles equal) server)
+      (others-sent (w .serverSent) (Response (w .replies)) o (plan .server) h out room (server .activity) (sized .object) (sized .interface) (inv .responses)
       (plan .send) [] none typed))
 
   -- Begin: the request is newer, or repeats an idempotent call.
-  begins : rowFor (w .server) h ≡ Begin → (eventOf (h .kind) ≡ RequestEvent) × Begins (w .server) h
-  unfolding rowFor orderFor
+  begins : rowFor (w .server) h ≡ Begin → (eventOf (h .kind) ≡ RequestEvent) × Begins (w .server) (w .standing) o h
+  unfolding rowFor
   begins e =
       let told = begin-told (eventOf (h .kind)) (orderFor (w .server) h) (w .server .state) (hasFlag idempotent (h .flags1)) (w .server .call .idempotent) e in
-      (told .0, by-order (told .1))
+      (told .0, by-order (known (told .0)) (told .1))
     where
-      by-order : ((orderFor (w .server) h ≡ Newer) × (isRunning (w .server .state) ≡ false))
+      by-order : Request (w .starts) o h body → ((orderFor (w .server) h ≡ Newer) × (isRunning (w .server .state) ≡ false))
           ⊎ ((orderFor (w .server) h ≡ Equal) × (w .server .state ≡ IdleState Repeatable) × (hasFlag idempotent (h .flags1) ≡ true))
-          → Begins (w .server) h
-      by-order (inl newer) = unfold orderFor in inl (newer-told (isFresh (w .server .state)) (w .server .number) (h .number) (newer .0))
-      by-order (inr equal) =
-          unfold orderFor in inr (equal-told (isFresh (w .server .state)) (w .server .number) (h .number) (equal .0) .1, (equal .1, equal .2))
+          → Begins (w .server) (w .standing) o h
+      by-order request (inl newer) = inl (newer-ordinal request (newer .0))
+      by-order request (inr equal) = inr (equal-ordinal request (equal .0), (equal .1, equal .2))
+
+  -- The world after a plan that leaves the record at the PDU's start.
+  abbrev AfterAt : Plan → ℕ → World
+  AfterAt plan standing =
+      serverStep w (sending plan h [] out .outcome) (sending plan h [] out .out) (storing (plan .put) (h .fragment) body (w .serverSlots)) o standing
 
   begin-inv : rowFor (w .server) h ≡ Begin → Inv (After (beginPlan (w .server) h (bodyLength body)))
   unfolding beginPlan requestPlan putPlan storing choose begun
@@ -100,30 +198,34 @@ module _ (w : World) (inv : Inv w) (h : Header) (body : List ℕ) (j : CanArrive
       let b = begins e in
       let fits = begin-fits (w .server) h j e in
       let request = known (b .0) in
-      put-inv w inv (begun (w .server) h)
-      (begun-inv (w .server) (w .serverSlots) (w .starts) (w .dispatches) (w .replies) (inv .server) h body request (b .1)) refl h body request refl whole short
-      (omega (arith, fits .0)) (fits .1) out room
+      subst (λ (n : ℕ). Inv (AfterAt (beginPlan (w .server) h (bodyLength body)) n)) (sym (stands-at (b .0)))
+      (put-inv w inv (begun (w .server) h) o
+      (begun-inv (w .server) (w .standing) (w .serverSlots) (w .starts) (w .dispatches) (w .replies) (inv .server) o h body request (b .1)) refl h body request whole short
+      (omega (arith, fits .0)) (fits .1) out room)
 
   -- Put: the request is of the call that is collected.
   put-row-inv : rowFor (w .server) h ≡ Put
       → Inv (After (requestPlan (w .server) (h .flags1) (h .serial) (h .fragment) (bodyLength body)))
-  unfolding requestPlan putPlan storing choose rowFor orderFor
+  unfolding requestPlan putPlan storing choose rowFor
   put-row-inv e =
       let told = put-told (eventOf (h .kind)) (orderFor (w .server) h) (w .server .state) (hasFlag idempotent (h .flags1)) (w .server .call .idempotent) e in
       let fits = put-fits (w .server) h j e in
-      put-inv w inv (w .server) (inv .server) (told .2) h body (known (told .0))
-      (equal-told (isFresh (w .server .state)) (w .server .number) (h .number) (told .1) .1) whole short (omega (arith, fits .0)) (fits .2) out room
+      let request = known (told .0) in
+      subst (λ (n : ℕ). Inv (AfterAt (requestPlan (w .server) (h .flags1) (h .serial) (h .fragment) (bodyLength body)) n)) (sym (stands-at (told .0)))
+      (put-inv w inv (w .server) o
+      (subst (λ (n : ℕ). ServerInv (w .server) n (w .serverSlots) (w .starts) (w .dispatches) (w .replies)) (equal-ordinal request (told .1)) (inv .server))
+      (told .2) h body request whole short (omega (arith, fits .0)) (fits .2) out room)
 
   -- Replay: data is sent again by transmit, a fault at once.
   replay-inv : (reply : Reply) → w .server .state ≡ Held reply → sound (replayHeld (w .server) reply .server) ≡ true
-      → Inv (After (replayHeld (w .server) reply))
+      → orderFor (w .server) h ≡ Equal → Inv (After (replayHeld (w .server) reply))
   unfolding replayHeld accepted isFresh
-  replay-inv Data e kept =
+  replay-inv Data e kept equal =
       quiet-inv (replayHeld (w .server) Data) refl refl refl (λ x. absurd (false≢true x))
-      (goes-on (w .server) (rewinding (w .server)) (w .serverSlots) (w .starts) (w .dispatches) (w .replies) (inv .server) (ap isFresh e) kept
-      (rewinding-goes-on (w .server) (w .server) (w .replies) refl refl refl refl refl refl (inv .server .replying (ap hasData e))))
-  replay-inv (Fault status) e kept =
-      quiet-inv (replayHeld (w .server) (Fault status)) refl refl refl (λ x. inv .server .called (ap isFresh e) .typed) (inv .server)
+      (goes-on (w .server) (rewinding (w .server)) (w .standing) (w .serverSlots) (w .starts) (w .dispatches) (w .replies) (inv .server) (ap isFresh e) kept
+      (rewinding-goes-on (w .server) (w .server) (w .standing) (w .replies) refl refl refl refl refl refl (inv .server .replying (ap hasData e)))) (λ x. equal)
+  replay-inv (Fault status) e kept equal =
+      quiet-inv (replayHeld (w .server) (Fault status)) refl refl refl (λ x. inv .server .called (ap isFresh e) .typed) (inv .server) (λ x. equal)
 
   replay-row-inv : rowFor (w .server) h ≡ Replay → Inv (After (replayPlan (w .server .state) (w .server)))
   unfolding replayPlan rowFor
@@ -133,7 +235,7 @@ module _ (w : World) (inv : Inv w) (h : Header) (body : List ℕ) (j : CanArrive
       let kept = replay-sound (w .server) (inv .server .kept) in
       subst (λ (x : State). Inv (After (replayPlan x (w .server)))) (sym (held .is))
       (replay-inv (held .reply) (held .is)
-      (subst (λ (x : State). sound (replayPlan x (w .server) .server) ≡ true) (held .is) kept))
+      (subst (λ (x : State). sound (replayPlan x (w .server) .server) ≡ true) (held .is) kept) (told .0))
 
   -- REPLYING and HELD come past RUNNING.
   replied-past : (x : State) → (x ≡ Replying) ⊎ (isHeld x ≡ true) → (past x ≡ true) × (unanswered x ≡ false)
@@ -147,10 +249,10 @@ module _ (w : World) (inv : Inv w) (h : Header) (body : List ℕ) (j : CanArrive
       let told = acknowledge-told (eventOf (h .kind)) (orderFor (w .server) h) (w .server .state) (hasFlag idempotent (h .flags1)) (w .server .call .idempotent) e in
       let later = replied-past (w .server .state) (told .2) in
       quiet-inv (fackPlan (w .server) (h .fragment)) refl refl refl (λ x. absurd (false≢true x))
-      (goes-on (w .server) (fackPlan (w .server) (h .fragment) .server) (w .serverSlots) (w .starts) (w .dispatches) (w .replies) (inv .server)
+      (goes-on (w .server) (fackPlan (w .server) (h .fragment) .server) (w .standing) (w .serverSlots) (w .starts) (w .dispatches) (w .replies) (inv .server)
       (past-called (w .server .state) (later .0)) (fack-sound (w .server) (inv .server .kept) (h .fragment) (fack-fits (w .server) h j e))
-      (stays-goes-on (w .server) (fackPlan (w .server) (h .fragment) .server) (w .replies) refl refl refl refl refl refl refl (later .0)
-      (λ u. absurd (false≢true (sym (later .1) ∙ u))) (inv .server .replying)))
+      (stays-goes-on (w .server) (fackPlan (w .server) (h .fragment) .server) (w .standing) (w .replies) refl refl refl refl refl refl refl (later .0)
+      (λ u. absurd (false≢true (sym (later .1) ∙ u))) (inv .server .replying))) (λ x. told .1)
 
   -- Ack: the call is spent.
   ack-inv : rowFor (w .server) h ≡ Finish → Inv (After (ackPlan (w .server)))
@@ -159,43 +261,60 @@ module _ (w : World) (inv : Inv w) (h : Header) (body : List ℕ) (j : CanArrive
       let told = finish-told (eventOf (h .kind)) (orderFor (w .server) h) (w .server .state) (hasFlag idempotent (h .flags1)) (w .server .call .idempotent) e in
       let later = replied-past (w .server .state) (told .2) in
       quiet-inv (ackPlan (w .server)) refl refl refl (λ x. absurd (false≢true x))
-      (goes-on (w .server) (ackPlan (w .server) .server) (w .serverSlots) (w .starts) (w .dispatches) (w .replies) (inv .server)
-      (past-called (w .server .state) (later .0)) (ack-sound (w .server) (inv .server .kept)) (spent-goes-on (w .server) (w .replies)))
+      (goes-on (w .server) (ackPlan (w .server) .server) (w .standing) (w .serverSlots) (w .starts) (w .dispatches) (w .replies) (inv .server)
+      (past-called (w .server .state) (later .0)) (ack-sound (w .server) (inv .server .kept)) (spent-goes-on (w .server) (w .standing) (w .replies))) (λ x. told .0)
 
   by-row : (row : Row) → rowFor (w .server) h ≡ row → Inv (After (arrivalRow row (w .server) h (bodyLength body)))
-  unfolding arrivalRow workingPlan nocallPlan accepted oldGround rowGround
+  unfolding arrivalRow workingPlan nocallPlan accepted oldGround rowGround rowFor
   by-row Old e = absurd (refusal-stops OldCall (subst (λ (x : Row). oldGround x ≡ Pass) e (j .old)))
   by-row Missing e = absurd (refusal-stops NoRow (subst (λ (x : Row). rowGround x ≡ Pass) e (j .row)))
   by-row Repeat e = absurd (refusal-stops Repeated (subst (λ (x : Row). rowGround x ≡ Pass) e (j .row)))
   by-row Begin e = begin-inv e
   by-row Put e = put-row-inv e
-  by-row Working e = quiet-inv (workingPlan (w .server)) refl refl refl (λ x. absurd (false≢true x)) (inv .server)
-  by-row Nocall e = quiet-inv (nocallPlan (w .server)) refl refl refl (λ x. absurd (false≢true x)) (inv .server)
+  by-row Working e =
+      quiet-inv (workingPlan (w .server)) refl refl refl (λ x. absurd (false≢true x)) (inv .server)
+      (λ x. working-told (eventOf (h .kind)) (orderFor (w .server) h) (w .server .state) (hasFlag idempotent (h .flags1)) (w .server .call .idempotent) e)
+  by-row Nocall e =
+      quiet-inv (nocallPlan (w .server)) refl refl refl (λ x. absurd (false≢true x)) (inv .server)
+      (λ x.
+      absurd
+      (no-ping
+      (sym (nocall-told (eventOf (h .kind)) (orderFor (w .server) h) (w .server .state) (hasFlag idempotent (h .flags1)) (w .server .call .idempotent) e) ∙ x)))
   by-row Replay e = replay-row-inv e
   by-row Acknowledge e = fack-inv e
   by-row Finish e = ack-inv e
 
 -- An arriving datagram keeps what is known of the world, where the client sent it and the buffer lent is the server's own.
-pub server-arrive-inv : (w : World) (datagram out : List ℕ) → Inv w → arriving (w .server) datagram (w .serverSlots) out .outcome .answer ≡ Done
-    → In datagram (w .clientSent)
+pub server-arrive-inv : (w : World) (p : Posted) (out : List ℕ) → Inv w → arriving (w .server) (p .bytes) (w .serverSlots) out .outcome .answer ≡ Done
+    → In p (w .clientSent)
     → Inv
-    (serverStep w (arriving (w .server) datagram (w .serverSlots) out .outcome) (arriving (w .server) datagram (w .serverSlots) out .out)
-    (arriving (w .server) datagram (w .serverSlots) out .slots) (reading datagram .header .number))
+    (serverStep w (arriving (w .server) (p .bytes) (w .serverSlots) out .outcome) (arriving (w .server) (p .bytes) (w .serverSlots) out .out)
+    (arriving (w .server) (p .bytes) (w .serverSlots) out .slots) (p .ordinal)
+    (standingAfter (w .standing) (arriving (w .server) (p .bytes) (w .serverSlots) out .outcome .answer) (reading (p .bytes) .header .kind) (p .ordinal)))
 unfolding arriving acted planOf arrivalPlan
-server-arrive-inv w datagram out inv done sent =
+server-arrive-inv w p out inv done sent =
     let s = w .server in
     let lent = lentGround (length (w .serverSlots)) (length out) in
-    let r = reading datagram in
-    let body = bodyOf datagram in
-    let pass = arrive-accepted s datagram (w .serverSlots) out done in
+    let r = reading (p .bytes) in
+    let body = bodyOf (p .bytes) in
+    let pass = arrive-accepted s (p .bytes) (w .serverSlots) out done in
     let j = arrival-passes s lent r body pass in
     let buffers = lent-passes (length (w .serverSlots)) (length out) (j .0 .buffers) in
+    let stands = choose (eqb (r .header .kind) 0) (p .ordinal) (w .standing) in
+    let standing : standingAfter (w .standing) (arriving s (p .bytes) (w .serverSlots) out .outcome .answer) (r .header .kind) (p .ordinal) ≡ stands =
+    choose-true (isDone (arriving s (p .bytes) (w .serverSlots) out .outcome .answer)) stands (w .standing) (ap isDone done) in
     subst
+    (λ (n : ℕ).
+    Inv
+    (serverStep w (arriving s (p .bytes) (w .serverSlots) out .outcome) (arriving s (p .bytes) (w .serverSlots) out .out)
+    (arriving s (p .bytes) (w .serverSlots) out .slots) (p .ordinal) n))
+    (sym standing)
+    (subst
     (λ (x : Ground).
     Inv
     (serverStep w (sending (arrivalPlan x s (r .header) (bodyLength body)) (r .header) [] out .outcome)
     (sending (arrivalPlan x s (r .header) (bodyLength body)) (r .header) [] out .out)
-    (storing (arrivalPlan x s (r .header) (bodyLength body) .put) (r .header .fragment) body (w .serverSlots)) (r .header .number)))
+    (storing (arrivalPlan x s (r .header) (bodyLength body) .put) (r .header .fragment) body (w .serverSlots)) (p .ordinal) stands))
     (sym pass)
-    (by-row w inv (r .header) body (j .1) (buffers .0) (body-short datagram (j .0 .done)) (read-sized datagram (j .0 .done))
-    (inv .requests datagram sent .told (j .0 .done)) out (buffers .1) (rowFor s (r .header)) refl)
+    (by-row w inv (p .ordinal) (r .header) body (j .1) (buffers .0) (body-short (p .bytes) (j .0 .done)) (read-sized (p .bytes) (j .0 .done))
+    (inv .requests p sent .told (j .0 .done)) out (buffers .1) (rowFor s (r .header)) refl))

@@ -1,5 +1,5 @@
 -- Transmit, fault, the RESEND timer and reply keep what is known of the world.
-use Prim.Native.Nat.{ℕ, _≤_}
+use Prim.Native.Nat.{ℕ}
 use mathlib.Core.Bool.{Bool, true, false, false≢true}
 use mathlib.Core.List.{List, []}
 use mathlib.Core.Logic.{_⊎_, inl, inr}
@@ -37,21 +37,21 @@ use Rattle.server.proofs.Accepting.{reply-accepted, transmit-accepted, fault-ac
 use Rattle.history.specs.Lists.{In, andThen}
 use Rattle.history.specs.Claim.{DispatchOf}
 use Rattle.history.specs.World.{Replied, World}
-use Rattle.history.specs.Steps.{lastDispatched, sentAfter, dispatchesAfter}
+use Rattle.history.specs.Steps.{lastStart, lastDispatched, sentAfter, dispatchesAfter}
 use Rattle.history.specs.Fairness.{OfLastReply}
 use Rattle.history.proofs.ListLaws.{in-before, in-added, in-grown, all-grown, last-replied}
 use Rattle.history.proofs.Holding.{Single}
 use Rattle.history.proofs.Network.{Response, more-known}
-use Rattle.history.proofs.Invariant.{ClientHolds, nothing, fragments-of, ClientInv, unanswered, hasData, ServerInv, IsResponse, Inv, serverStep, replyStep}
+use Rattle.history.proofs.Invariant.{ClientHolds, nothing, fragments-of, ClientInv, unanswered, hasData, NewTo, new-on, ServerInv, IsResponse, Inv, serverStep, replyStep}
 use Rattle.history.proofs.ServerSteps.{goes-on, settled-goes-on, transmitted-goes-on, resend-goes-on}
 use Rattle.history.proofs.ServerSends.{answers, others-sent, all-single, response-sent, transmitted-counts, planned}
 
 -- Transmit.
-pub server-transmit-inv : (w : World) (message out : List ℕ) (number : ℕ) → Inv w → transmitting (w .server) message out .outcome .answer ≡ Done
+pub server-transmit-inv : (w : World) (message out : List ℕ) → Inv w → transmitting (w .server) message out .outcome .answer ≡ Done
     → OfLastReply (w .replies) message
-    → Inv (serverStep w (transmitting (w .server) message out .outcome) (transmitting (w .server) message out .out) (w .serverSlots) number)
+    → Inv (serverStep w (transmitting (w .server) message out .outcome) (transmitting (w .server) message out .out) (w .serverSlots) (w .standing) (w .standing))
 unfolding transmitting transmitPlan accepted sentOut isFresh
-server-transmit-inv w message out number inv done lent =
+server-transmit-inv w message out inv done lent =
     let s = w .server in
     let pass = transmit-accepted s message out done in
     let j = transmit-passes s (length message) (length out) pass in
@@ -60,23 +60,23 @@ server-transmit-inv w message out number inv done lent =
     let now = inv .server .replying (ap hasData state) in
     let k = inv .server .called called in
     let last = sendsLast (s .outgoing) in
-    let single = all-single s (w .starts) (w .replies) message k now (inv .server .activity) (inv .server .boot) (j .kept) (j .row) lent in
-    let g = transmitted-goes-on last s (w .replies) state now single in
+    let single = all-single s (w .standing) (w .starts) (w .replies) message k now (inv .server .activity) (inv .server .boot) (j .kept) (j .row) lent in
+    let g = transmitted-goes-on last s (w .standing) (w .replies) state now single in
     subst
     (λ (x : Ground).
-    Inv (serverStep w (sending (transmitPlan x s) blank message out .outcome) (sending (transmitPlan x s) blank message out .out) (w .serverSlots) number))
+    Inv (serverStep w (sending (transmitPlan x s) blank message out .outcome) (sending (transmitPlan x s) blank message out .out) (w .serverSlots) (w .standing) (w .standing)))
     (sym pass)
-    (planned w (transmitPlan Pass s) blank message out (w .serverSlots) number inv refl
-    (goes-on s (transmitted last s) (w .serverSlots) (w .starts) (w .dispatches) (w .replies) (inv .server) called
+    (planned w (transmitPlan Pass s) blank message out (w .serverSlots) (w .standing) (w .standing) inv refl
+    (goes-on s (transmitted last s) (w .standing) (w .serverSlots) (w .starts) (w .dispatches) (w .replies) (inv .server) called
     (transmitted-sound s (j .kept) (j .row) (j .free)) g)
-    (response-sent s (w .starts) (w .replies) message k now (inv .server .activity) (inv .server .boot) (j .kept) (j .row) lent (transmitted last s) g
+    (response-sent s (w .standing) (w .starts) (w .replies) message k now (inv .server .activity) (inv .server .boot) (j .kept) (j .row) lent (transmitted last s) g
     (transmitted-counts last s .0) (transmitted-counts last s .1) (w .serverSent) out (j .buffer) (inv .responses)))
 
 -- Fault.
-pub server-fault-inv : (w : World) (status : ℕ) (out : List ℕ) (number : ℕ) → Inv w → faulting (w .server) status out .outcome .answer ≡ Done
-    → Inv (serverStep w (faulting (w .server) status out .outcome) (faulting (w .server) status out .out) (w .serverSlots) number)
+pub server-fault-inv : (w : World) (status : ℕ) (out : List ℕ) → Inv w → faulting (w .server) status out .outcome .answer ≡ Done
+    → Inv (serverStep w (faulting (w .server) status out .outcome) (faulting (w .server) status out .out) (w .serverSlots) (w .standing) (w .standing))
 unfolding faulting faultPlan accepted isFresh blank
-server-fault-inv w status out number inv done =
+server-fault-inv w status out inv done =
     let s = w .server in
     let pass = fault-accepted s status out done in
     let j = fault-passes s (length out) pass in
@@ -84,15 +84,15 @@ server-fault-inv w status out number inv done =
     let called : isFresh (s .state) ≡ false = ap isFresh state in
     let t = settled (s .call .idempotent) s (Fault status) in
     let g =
-    settled-goes-on (s .call .idempotent) s s (Fault status) (w .replies) refl refl refl refl refl refl (λ e. inv .server .single (ap unanswered state))
+    settled-goes-on (s .call .idempotent) s s (Fault status) (w .standing) (w .replies) refl refl refl refl refl refl (λ e. inv .server .single (ap unanswered state))
     (λ e. absurd (false≢true e)) in
-    let next = goes-on s t (w .serverSlots) (w .starts) (w .dispatches) (w .replies) (inv .server) called (fault-sound s (j .kept) status (j .row) (j .free)) g in
+    let next = goes-on s t (w .standing) (w .serverSlots) (w .starts) (w .dispatches) (w .replies) (inv .server) called (fault-sound s (j .kept) status (j .row) (j .free)) g in
     subst
     (λ (x : Ground).
-    Inv (serverStep w (sending (faultPlan x s status) blank [] out .outcome) (sending (faultPlan x s status) blank [] out .out) (w .serverSlots) number))
+    Inv (serverStep w (sending (faultPlan x s status) blank [] out .outcome) (sending (faultPlan x s status) blank [] out .out) (w .serverSlots) (w .standing) (w .standing)))
     (sym pass)
-    (planned w (faultPlan Pass s status) blank [] out (w .serverSlots) number inv refl next
-    (others-sent (w .serverSent) (Response (w .replies)) t blank out (j .buffer) (next .activity) refl refl (inv .responses) (SendFault status) [] refl
+    (planned w (faultPlan Pass s status) blank [] out (w .serverSlots) (w .standing) (w .standing) inv refl next
+    (others-sent (w .serverSent) (Response (w .replies)) (w .standing) t blank out (j .buffer) (next .activity) refl refl (inv .responses) (SendFault status) [] refl
     (λ e. rw (g .call) (inv .server .called called .typed))))
 
 -- RESEND sends no response, and tells nothing.
@@ -108,36 +108,36 @@ timer-quiet s reply = by-count (ltb (s .resends) 5) reply
     by-count false r = unfold accepted choose in (refl, refl)
 
 -- The RESEND timer.
-pub server-timer-inv : (w : World) (ticket : ℕ) (out : List ℕ) (number : ℕ) → Inv w → timing (w .server) ticket out .outcome .answer ≡ Done
-    → Inv (serverStep w (timing (w .server) ticket out .outcome) (timing (w .server) ticket out .out) (w .serverSlots) number)
+pub server-timer-inv : (w : World) (ticket : ℕ) (out : List ℕ) → Inv w → timing (w .server) ticket out .outcome .answer ≡ Done
+    → Inv (serverStep w (timing (w .server) ticket out .outcome) (timing (w .server) ticket out .out) (w .serverSlots) (w .standing) (w .standing))
 unfolding timing timerPlan timerRow isFresh blank
-server-timer-inv w ticket out number inv done =
+server-timer-inv w ticket out inv done =
     let s = w .server in
     let pass = timer-accepted s ticket out done in
     let j = timer-passes s ticket (length out) pass in
     let held = held-state (s .state) (j .row) in
     let called : isFresh (s .state) ≡ false = ap isFresh (held .is) in
     let plan = resendRow s (held .reply) in
-    let g = resend-goes-on s (held .reply) (w .replies) (λ e. inv .server .replying (ap hasData (held .is) ∙ e)) in
+    let g = resend-goes-on s (held .reply) (w .standing) (w .replies) (λ e. inv .server .replying (ap hasData (held .is) ∙ e)) in
     let kept : sound (plan .server) ≡ true =
     subst (λ (x : State). sound (timerRow x s .server) ≡ true) (held .is) (timer-sound s (j .kept) (j .free)) in
-    let next = goes-on s (plan .server) (w .serverSlots) (w .starts) (w .dispatches) (w .replies) (inv .server) called kept g in
+    let next = goes-on s (plan .server) (w .standing) (w .serverSlots) (w .starts) (w .dispatches) (w .replies) (inv .server) called kept g in
     let quiet = timer-quiet s (held .reply) in
     subst
     (λ (x : Ground).
-    Inv (serverStep w (sending (timerPlan x s) blank [] out .outcome) (sending (timerPlan x s) blank [] out .out) (w .serverSlots) number))
+    Inv (serverStep w (sending (timerPlan x s) blank [] out .outcome) (sending (timerPlan x s) blank [] out .out) (w .serverSlots) (w .standing) (w .standing)))
     (sym pass)
     (subst
-    (λ (x : State). Inv (serverStep w (sending (timerRow x s) blank [] out .outcome) (sending (timerRow x s) blank [] out .out) (w .serverSlots) number))
+    (λ (x : State). Inv (serverStep w (sending (timerRow x s) blank [] out .outcome) (sending (timerRow x s) blank [] out .out) (w .serverSlots) (w .standing) (w .standing)))
     (sym (held .is))
-    (planned w plan blank [] out (w .serverSlots) number inv (quiet .1) next
-    (others-sent (w .serverSent) (Response (w .replies)) (plan .server) blank out (j .buffer) (next .activity) refl refl (inv .responses) (plan .send) []
+    (planned w plan blank [] out (w .serverSlots) (w .standing) (w .standing) inv (quiet .1) next
+    (others-sent (w .serverSent) (Response (w .replies)) (w .standing) (plan .server) blank out (j .buffer) (next .activity) refl refl (inv .responses) (plan .send) []
     (quiet .0) (λ e. rw (g .call) (inv .server .called called .typed)))))
 
 -- A reply that goes on record.
 module _ (w : World) (inv : Inv w) (n : ℕ) (message : List ℕ) (can : CanReply (w .server) n) (whole : length message ≡ n) where
   abbrev reply : Replied
-  reply = record { number = lastDispatched (w .dispatches); message = message }
+  reply = record { ordinal = lastDispatched (w .dispatches); message = message }
 
   abbrev replies : List Replied
   replies = andThen (w .replies) reply
@@ -145,15 +145,20 @@ module _ (w : World) (inv : Inv w) (n : ℕ) (message : List ℕ) (can : CanRepl
   running : w .server .state ≡ Running
   running = running-state (w .server .state) (can .row)
 
-  -- It is given to the server's number,
-  to-number : lastDispatched (w .dispatches) ≡ w .server .number
-  to-number = inv .server .running running .last
+  -- It is given to the start that the server stands at,
+  to-start : lastDispatched (w .dispatches) ≡ w .standing
+  to-start = inv .server .running running .last
 
   -- to which every earlier reply was a single fragment.
-  earlier : (r : Replied) → In r (w .replies) → r .number ≡ w .server .number → Single (r .message)
+  earlier : (r : Replied) → In r (w .replies) → r .ordinal ≡ w .standing → Single (r .message)
   earlier = inv .server .single (ap unanswered running)
 
-  server-replied : ServerInv (answered (w .server) n) (w .serverSlots) (w .starts) (w .dispatches) replies
+  above-other : (k : ℕ) → NewTo (answered (w .server) n) (w .standing) k → lastDispatched (w .dispatches) ≡ k → ⊥
+  unfolding answered withOutgoing unarmed isFresh
+  above-other k (inl fresh) e = false≢true fresh
+  above-other k (inr above) e = omega (arith, to-start)
+
+  server-replied : ServerInv (answered (w .server) n) (w .standing) (w .serverSlots) (w .starts) (w .dispatches) replies
   unfolding answered withOutgoing unarmed replied messageOf isFresh
   server-replied =
       let old = inv .server in
@@ -164,13 +169,16 @@ module _ (w : World) (inv : Inv w) (n : ℕ) (message : List ℕ) (can : CanRepl
         activity = old .activity;
         boot = old .boot;
         slotted = old .slotted;
-        dispatched = λ d m. (refl, old .dispatched d m .1);
-        answered =
-            all-grown (λ (r : Replied). (false ≡ false) × (r .number ≤ w .server .number)) (w .replies) reply (λ r m. (refl, old .answered r m .1))
-            (refl, omega (arith, to-number));
+        takes =
+            λ k new.
+            let before = old .takes k (new-on (w .server) (answered (w .server) n) (w .standing) refl k new) in
+            record {
+              first = before .first;
+              single = all-grown (λ (r : Replied). r .ordinal ≡ k → Single (r .message)) (w .replies) reply (before .single) (λ e. absurd (above-other k new e));
+            };
         called =
             λ e.
-            record { start = k .start; started = k .started; number = k .number; mark = k .mark; typed = k .typed; small = k .small };
+            record { start = k .start; started = k .started; is = k .is; number = k .number; mark = k .mark; typed = k .typed; small = k .small };
         collecting = λ e. absurd (false≢true (sym (ap hasData e)));
         running = λ e. absurd (false≢true (sym (ap hasData e)));
         single = λ e. absurd (false≢true e);
@@ -179,14 +187,14 @@ module _ (w : World) (inv : Inv w) (n : ℕ) (message : List ℕ) (can : CanRepl
             record {
               reply = reply;
               given = in-added (w .replies) reply;
-              number = to-number;
+              is = to-start;
               message = last-replied (w .replies) reply;
               size = whole;
               others = others;
             };
       }
     where
-      others : (r : Replied) → In r replies → r .number ≡ w .server .number → (r ≡ reply) ⊎ Single (r .message)
+      others : (r : Replied) → In r replies → r .ordinal ≡ w .standing → (r ≡ reply) ⊎ Single (r .message)
       others r m e = by-place (in-grown (w .replies) r reply m)
         where
           by-place : In r (w .replies) ⊎ (r ≡ reply) → (r ≡ reply) ⊎ Single (r .message)
@@ -201,31 +209,31 @@ module _ (w : World) (inv : Inv w) (n : ℕ) (message : List ℕ) (can : CanRepl
         kept = old .kept;
         activity = old .activity;
         slotted = old .slotted;
-        begun = old .begun;
+        unbegun = old .unbegun;
         current = old .current;
         unasked = old .unasked;
         whole = old .whole;
         holds = λ e. more (old .holds e);
       }
     where
-      more : ClientHolds (w .client .number) (w .client .incoming) (w .clientSlots) (w .replies)
-          → ClientHolds (w .client .number) (w .client .incoming) (w .clientSlots) replies
+      more : ClientHolds (lastStart (w .starts)) (w .client .incoming) (w .clientSlots) (w .replies)
+          → ClientHolds (lastStart (w .starts)) (w .client .incoming) (w .clientSlots) replies
       more (nothing e) = nothing e
       more (fragments-of r m e z h) = fragments-of r (in-before (w .replies) r reply m) e z h
 
   -- and of two replies to one number the earlier is a single fragment.
-  alike : (r t : Replied) → In r replies → In t replies → r .number ≡ t .number → (r ≡ t) ⊎ (Single (r .message) ⊎ Single (t .message))
+  alike : (r t : Replied) → In r replies → In t replies → r .ordinal ≡ t .ordinal → (r ≡ t) ⊎ (Single (r .message) ⊎ Single (t .message))
   alike r t m k e = by-places (in-grown (w .replies) r reply m) (in-grown (w .replies) t reply k)
     where
       by-places : In r (w .replies) ⊎ (r ≡ reply) → In t (w .replies) ⊎ (t ≡ reply) → (r ≡ t) ⊎ (Single (r .message) ⊎ Single (t .message))
       by-places (inl p) (inl q) = inv .calls .alike r t p q e
-      by-places (inl p) (inr q) = inr (inl (earlier r p (e ∙ ap (λ (x : Replied). x .number) q ∙ to-number)))
-      by-places (inr p) (inl q) = inr (inr (earlier t q (sym e ∙ ap (λ (x : Replied). x .number) p ∙ to-number)))
+      by-places (inl p) (inr q) = inr (inl (earlier r p (e ∙ ap (λ (x : Replied). x .ordinal) q ∙ to-start)))
+      by-places (inr p) (inl q) = inr (inr (earlier t q (sym e ∙ ap (λ (x : Replied). x .ordinal) p ∙ to-start)))
       by-places (inr p) (inr q) = inl (p ∙ sym q)
 
-  response-replied : (h : Header) (body : List ℕ) → Response (w .replies) h body → Response replies h body
-  response-replied h body r =
-      record { reply = r .reply; given = in-before (w .replies) (r .reply) reply (r .given); number = r .number; part = r .part }
+  response-replied : (o : ℕ) (h : Header) (body : List ℕ) → Response (w .replies) o h body → Response replies o h body
+  response-replied o h body r =
+      record { reply = r .reply; given = in-before (w .replies) (r .reply) reply (r .given); is = r .is; number = r .number; part = r .part }
 
   reply-inv : Inv (replyStep w (outcomeOf (replyPlan Pass (w .server) n) Unsent) message)
   unfolding outcomeOf replyPlan accepted choose sentAfter dispatchesAfter
@@ -235,12 +243,13 @@ module _ (w : World) (inv : Inv w) (n : ℕ) (message : List ℕ) (can : CanRepl
     calls =
         record {
           unique = inv .calls .unique;
+          below = inv .calls .below;
+          numbered = inv .calls .numbered;
           once = inv .calls .once;
           whole = inv .calls .whole;
-          rising = inv .calls .rising;
           replied =
-              all-grown (λ (r : Replied). DispatchOf (w .dispatches) (r .number)) (w .replies) reply (inv .calls .replied)
-              (subst (DispatchOf (w .dispatches)) (sym to-number) (inv .server .running running .ran));
+              all-grown (λ (r : Replied). DispatchOf (w .dispatches) (r .ordinal)) (w .replies) reply (inv .calls .replied)
+              (subst (DispatchOf (w .dispatches)) (sym to-start) (inv .server .running running .ran));
           alike = alike;
         };
     requests = inv .requests;
@@ -248,7 +257,7 @@ module _ (w : World) (inv : Inv w) (n : ℕ) (message : List ℕ) (can : CanRepl
     completed =
         λ c m.
         let old = inv .completed c m in
-        record { reply = old .reply; given = in-before (w .replies) (old .reply) reply (old .given); number = old .number; whole = old .whole };
+        record { reply = old .reply; given = in-before (w .replies) (old .reply) reply (old .given); ordinal = old .ordinal; whole = old .whole };
   }
 
 -- Reply.

@@ -38,10 +38,10 @@ use Rattle.history.specs.Lists.{In, andThen}
 use Rattle.history.specs.World.{Started, Dispatched, Replied, World}
 use Rattle.history.specs.Steps.{dispatchesAfter}
 use Rattle.history.specs.Claim.{times}
-use Rattle.history.proofs.ListLaws.{in-added, dispatch-before, all-grown, last-dispatched, times-same, times-other, times-none, rises-on}
+use Rattle.history.proofs.ListLaws.{in-added, dispatch-before, all-grown, last-dispatched, times-same, times-other, times-none}
 use Rattle.history.proofs.Holding.{PartOf, Holding, Single, empty-holding, put-holding, holding-whole}
 use Rattle.history.proofs.Network.{Request, Response}
-use Rattle.history.proofs.Invariant.{Collecting, unanswered, ServerInv, CallInv, Inv, serverStep}
+use Rattle.history.proofs.Invariant.{Collecting, unanswered, NewTo, new-on, ServerInv, CallInv, Inv, serverStep}
 use Rattle.history.proofs.ServerSends.{answers, ofCall, others-sent}
 use Rattle.history.proofs.StartStep.{cleared-none}
 
@@ -51,54 +51,46 @@ unfolding begun outgoingSound messageRule bounded hasNothing noMessage both choo
 begun-sound s h = rules-hold (begun s h) (record { count = refl; outgoing = refl; incoming = cleared-sound; timer = off-sound false (s .tickets) })
 
 -- How a request comes to begin: it is newer, or equal with the bit set in IDLE repeatable.
-abbrev pub Begins : Server → Header → Type 0
-Begins s h =
-    ((isFresh (s .state) ≡ true) ⊎ (s .number < h .number))
-    ⊎ ((s .number ≡ h .number) × ((s .state ≡ IdleState Repeatable) × (hasFlag idempotent (h .flags1) ≡ true)))
+abbrev pub Begins : Server → ℕ → ℕ → Header → Type 0
+Begins s standing o h =
+    NewTo s standing o
+    ⊎ ((standing ≡ o) × ((s .state ≡ IdleState Repeatable) × (hasFlag idempotent (h .flags1) ≡ true)))
 
 -- A request that begins.
-module _ (s : Server) (slots : List ℕ) (starts : List Started) (dispatches : List Dispatched) (replies : List Replied)
-    (inv : ServerInv s slots starts dispatches replies) (h : Header) (body : List ℕ) (request : Request starts h body) where
-  -- What is on record of a number not below one that is newer is not there.
-  newer-none : (fresh : Bool) → isFresh (s .state) ≡ fresh → (fresh ≡ true) ⊎ (s .number < h .number) → (k : ℕ) → isFresh (s .state) ≡ false
-      → k ≤ s .number → k < h .number
-  newer-none fresh e (inl f) k old most = absurd (false≢true (sym old ∙ e ∙ f))
-  newer-none fresh e (inr above) k old most = omega arith
-
-  bounded-by : Begins s h → (k : ℕ) → isFresh (s .state) ≡ false → k ≤ s .number → k ≤ h .number
-  bounded-by (inl newer) k old most = let below = newer-none (isFresh (s .state)) refl newer k old most in omega arith
-  bounded-by (inr equal) k old most = rw (← equal .0) most
+module _ (s : Server) (standing : ℕ) (slots : List ℕ) (starts : List Started) (dispatches : List Dispatched) (replies : List Replied)
+    (inv : ServerInv s standing slots starts dispatches replies) (o : ℕ) (h : Header) (body : List ℕ) (request : Request starts o h body) where
+  -- What is newer to the record that has begun was newer before.
+  newer-on : Begins s standing o h → (k : ℕ) → NewTo (begun s h) o k → NewTo s standing k
+  unfolding begun isFresh
+  newer-on begins k (inl fresh) = absurd (false≢true fresh)
+  newer-on (inl (inl fresh)) k (inr above) = inl fresh
+  newer-on (inl (inr newer)) k (inr above) = inr (omega arith)
+  newer-on (inr equal) k (inr above) = inr (rw (equal .0) above)
 
   -- A call not marked idempotent was not dispatched before it begins,
-  first-time : Begins s h → hasFlag idempotent (h .flags1) ≡ false → (d : Dispatched) → In d dispatches → d .number ≡ h .number → ⊥
-  first-time (inl newer) e d m n =
-      let old = inv .dispatched d m in
-      let below = newer-none (isFresh (s .state)) refl newer (d .number) (old .0) (old .1) in
-      omega arith
+  first-time : Begins s standing o h → hasFlag idempotent (h .flags1) ≡ false → (d : Dispatched) → In d dispatches → d .ordinal ≡ o → ⊥
+  first-time (inl newer) e d m n = inv .takes o newer .first (request .start) (request .started) (request .is) (sym (request .mark) ∙ e) d m n
   first-time (inr equal) e d m n = false≢true (sym e ∙ equal .1 .1)
 
   -- and every reply to one that begins again was a single fragment.
-  all-single : Begins s h → (r : Replied) → In r replies → r .number ≡ h .number → Single (r .message)
-  all-single (inl newer) r m n =
-      let old = inv .answered r m in
-      let below = newer-none (isFresh (s .state)) refl newer (r .number) (old .0) (old .1) in
-      absurd (omega arith)
+  all-single : Begins s standing o h → (r : Replied) → In r replies → r .ordinal ≡ o → Single (r .message)
+  all-single (inl newer) r m n = inv .takes o newer .single r m n
   all-single (inr equal) r m n = inv .single (ap unanswered (equal .1 .0)) r m (n ∙ sym (equal .0))
 
-  pub begun-inv : Begins s h → ServerInv (begun s h) slots starts dispatches replies
+  pub begun-inv : Begins s standing o h → ServerInv (begun s h) o slots starts dispatches replies
   unfolding begun callOf isFresh isRunning
   begun-inv begins = record {
     kept = begun-sound s h;
     activity = inv .activity;
     boot = inv .boot;
     slotted = cleared-length;
-    dispatched = λ d m. (refl, bounded-by begins (d .number) (inv .dispatched d m .0) (inv .dispatched d m .1));
-    answered = λ r m. (refl, bounded-by begins (r .number) (inv .answered r m .0) (inv .answered r m .1));
+    takes = λ k new. inv .takes k (newer-on begins k new);
     called =
         λ e.
         record {
           start = request .start;
           started = request .started;
+          is = request .is;
           number = request .number;
           mark = sym (request .mark);
           typed =
@@ -115,7 +107,7 @@ module _ (s : Server) (slots : List ℕ) (starts : List Started) (dispatches : L
         record {
           start = request .start;
           started = request .started;
-          number = request .number;
+          is = request .is;
           holding = empty-holding cleared slots (request .start .message) cleared-none;
           first = first-time begins;
         };
@@ -125,17 +117,17 @@ module _ (s : Server) (slots : List ℕ) (starts : List Started) (dispatches : L
   }
 
 -- A request of the call is put in COLLECT.
-module _ (s : Server) (slots : List ℕ) (starts : List Started) (dispatches : List Dispatched) (replies : List Replied)
-    (inv : ServerInv s slots starts dispatches replies) (calls : CallInv starts dispatches replies) (state : s .state ≡ Collect)
-    (h : Header) (body : List ℕ) (request : Request starts h body) (mine : s .number ≡ h .number)
+module _ (s : Server) (o : ℕ) (slots : List ℕ) (starts : List Started) (dispatches : List Dispatched) (replies : List Replied)
+    (inv : ServerInv s o slots starts dispatches replies) (calls : CallInv starts dispatches replies) (state : s .state ≡ Collect)
+    (h : Header) (body : List ℕ) (request : Request starts o h body)
     (whole : length slots ≡ 44544) (short : length body ≤ 1392) (small : h .fragment < 32)
     (fits : contradicts (s .incoming) (h .fragment) (isLast (h .flags1)) ≡ false) where
-  collecting : Collecting s slots starts dispatches
+  collecting : Collecting s o slots starts dispatches
   collecting = inv .collecting state
 
   -- It is a fragment of the message that is collected,
   same-start : request .start ≡ collecting .start
-  same-start = calls .unique (request .start) (collecting .start) (request .started) (collecting .started) (request .number ∙ sym mine ∙ sym (collecting .number))
+  same-start = calls .unique (request .start) (collecting .start) (request .started) (collecting .started) (request .is ∙ sym (collecting .is))
 
   abbrev after : Incoming
   after = stored (s .incoming) (h .fragment) (length body) (isLast (h .flags1))
@@ -165,7 +157,7 @@ module _ (s : Server) (slots : List ℕ) (starts : List Started) (dispatches : L
   putServer all = withIncoming (unarmed s (putState all)) after
 
   -- Not all is held: it goes on collecting.
-  collects : sound (putServer false) ≡ true → ServerInv (putServer false) (filled (h .fragment) body slots) starts dispatches replies
+  collects : sound (putServer false) ≡ true → ServerInv (putServer false) o (filled (h .fragment) body slots) starts dispatches replies
   unfolding withIncoming unarmed putState choose isFresh isRunning
   collects kept =
       let called : isFresh (s .state) ≡ false = ap isFresh state in
@@ -175,17 +167,16 @@ module _ (s : Server) (slots : List ℕ) (starts : List Started) (dispatches : L
         activity = inv .activity;
         boot = inv .boot;
         slotted = stored-length (s .incoming) (h .fragment) (length body) (isLast (h .flags1)) ∙ inv .slotted;
-        dispatched = λ d m. (refl, inv .dispatched d m .1);
-        answered = λ r m. (refl, inv .answered r m .1);
+        takes = λ n new. inv .takes n (new-on s (putServer false) o refl n new);
         called =
             λ e.
-            record { start = k .start; started = k .started; number = k .number; mark = k .mark; typed = k .typed; small = k .small };
+            record { start = k .start; started = k .started; is = k .is; number = k .number; mark = k .mark; typed = k .typed; small = k .small };
         collecting =
             λ e.
             record {
               start = collecting .start;
               started = collecting .started;
-              number = collecting .number;
+              is = collecting .is;
               holding = after-holds;
               first = collecting .first;
             };
@@ -196,10 +187,16 @@ module _ (s : Server) (slots : List ℕ) (starts : List Started) (dispatches : L
 
   -- All is held: it is dispatched.
   abbrev dispatch : List ℕ → Dispatched
-  dispatch bytes = record { number = h .number; bytes = bytes }
+  dispatch bytes = record { ordinal = o; bytes = bytes }
+
+  -- What is newer to it is another start.
+  above-other : (n : ℕ) → NewTo (putServer true) o n → o ≡ n → ⊥
+  unfolding withIncoming unarmed putState choose isFresh
+  above-other n (inl fresh) e = false≢true fresh
+  above-other n (inr above) e = omega arith
 
   runs : (bytes : List ℕ) → sound (putServer true) ≡ true
-      → ServerInv (putServer true) (filled (h .fragment) body slots) starts (andThen dispatches (dispatch bytes)) replies
+      → ServerInv (putServer true) o (filled (h .fragment) body slots) starts (andThen dispatches (dispatch bytes)) replies
   unfolding withIncoming unarmed putState choose isFresh isRunning
   runs bytes kept =
       let called : isFresh (s .state) ≡ false = ap isFresh state in
@@ -209,65 +206,71 @@ module _ (s : Server) (slots : List ℕ) (starts : List Started) (dispatches : L
         activity = inv .activity;
         boot = inv .boot;
         slotted = stored-length (s .incoming) (h .fragment) (length body) (isLast (h .flags1)) ∙ inv .slotted;
-        dispatched =
-            all-grown (λ (d : Dispatched). (false ≡ false) × (d .number ≤ s .number)) dispatches (dispatch bytes) (λ d m. (refl, inv .dispatched d m .1))
-            (refl, omega (arith, mine));
-        answered = λ r m. (refl, inv .answered r m .1);
+        takes =
+            λ n new.
+            let old = inv .takes n (new-on s (putServer true) o refl n new) in
+            record {
+              first =
+                  λ t m e i.
+                  all-grown (λ (d : Dispatched). d .ordinal ≡ n → ⊥) dispatches (dispatch bytes) (old .first t m e i) (above-other n new);
+              single = old .single;
+            };
         called =
             λ e.
-            record { start = k .start; started = k .started; number = k .number; mark = k .mark; typed = k .typed; small = k .small };
+            record { start = k .start; started = k .started; is = k .is; number = k .number; mark = k .mark; typed = k .typed; small = k .small };
         collecting = λ e. absurd (false≢true (sym (ap isRunning e)));
         running =
             λ e.
             record {
-              last = last-dispatched dispatches (dispatch bytes) ∙ sym mine;
-              ran = record { dispatch = dispatch bytes; dispatched = in-added dispatches (dispatch bytes); same = sym mine };
+              last = last-dispatched dispatches (dispatch bytes);
+              ran = record { dispatch = dispatch bytes; dispatched = in-added dispatches (dispatch bytes); same = refl };
             };
         single = λ e. inv .single (ap unanswered state);
         replying = λ e. absurd (false≢true e);
       }
 
   -- The call's mark is that of its start,
-  call-mark : (t : Started) → In t starts → t .number ≡ h .number → t .idempotent ≡ s .call .idempotent
+  call-mark : (t : Started) → In t starts → t .ordinal ≡ o → t .idempotent ≡ s .call .idempotent
   unfolding isFresh
   call-mark t m e =
       let k = inv .called (ap isFresh state) in
-      ap (λ (x : Started). x .idempotent) (calls .unique t (k .start) m (k .started) (e ∙ sym mine ∙ sym (k .number))) ∙ k .mark
+      ap (λ (x : Started). x .idempotent) (calls .unique t (k .start) m (k .started) (e ∙ sym (k .is))) ∙ k .mark
 
-  -- so a number not marked idempotent is dispatched once,
-  dispatched-once : (bytes : List ℕ) (t : Started) → In t starts → t .idempotent ≡ false → times (t .number) (andThen dispatches (dispatch bytes)) ≤ 1
-  dispatched-once bytes t m mark = by-number (eqb (t .number) (h .number)) refl
+  -- so a start not marked idempotent is dispatched once,
+  dispatched-once : (bytes : List ℕ) (t : Started) → In t starts → t .idempotent ≡ false → times (t .ordinal) (andThen dispatches (dispatch bytes)) ≤ 1
+  dispatched-once bytes t m mark = by-ordinal (eqb (t .ordinal) o) refl
     where
-      by-number : (x : Bool) → eqb (t .number) (h .number) ≡ x → times (t .number) (andThen dispatches (dispatch bytes)) ≤ 1
-      by-number true e =
-          let same : t .number ≡ h .number = eqb-true (t .number) (h .number) e in
-          let none : times (t .number) dispatches ≡ 0 =
-          times-none dispatches (t .number)
-          (λ d k n. collecting .first (sym (call-mark t m same) ∙ mark) d k (n ∙ same ∙ sym mine)) in
-          let one = times-same dispatches (dispatch bytes) (t .number) same in
+      by-ordinal : (x : Bool) → eqb (t .ordinal) o ≡ x → times (t .ordinal) (andThen dispatches (dispatch bytes)) ≤ 1
+      by-ordinal true e =
+          let same : t .ordinal ≡ o = eqb-true (t .ordinal) o e in
+          let none : times (t .ordinal) dispatches ≡ 0 =
+          times-none dispatches (t .ordinal)
+          (λ d k n. collecting .first (sym (call-mark t m same) ∙ mark) d k (n ∙ same)) in
+          let one = times-same dispatches (dispatch bytes) (t .ordinal) same in
           omega arith
-      by-number false e =
-          let other = times-other dispatches (dispatch bytes) (t .number) (eqb-false (t .number) (h .number) e) in
+      by-ordinal false e =
+          let other = times-other dispatches (dispatch bytes) (t .ordinal) (eqb-false (t .ordinal) o e) in
           rw other (calls .once t m mark)
 
   -- and the calls on record stay as they are known.
   calls-dispatched : (bytes : List ℕ) → bytes ≡ collecting .start .message → CallInv starts (andThen dispatches (dispatch bytes)) replies
   calls-dispatched bytes all = record {
     unique = calls .unique;
+    below = calls .below;
+    numbered = calls .numbered;
     once = dispatched-once bytes;
     whole =
-        all-grown (λ (d : Dispatched). (t : Started) × (In t starts × ((t .number ≡ d .number) × (d .bytes ≡ t .message)))) dispatches (dispatch bytes)
-        (calls .whole) (collecting .start, (collecting .started, (collecting .number ∙ mine, all)));
-    rising = rises-on dispatches (dispatch bytes) (calls .rising) (λ d m. rw (← mine) (inv .dispatched d m .1));
-    replied = λ r m. dispatch-before dispatches (dispatch bytes) (r .number) (calls .replied r m);
+        all-grown (λ (d : Dispatched). (t : Started) × (In t starts × ((t .ordinal ≡ d .ordinal) × (d .bytes ≡ t .message)))) dispatches (dispatch bytes)
+        (calls .whole) (collecting .start, (collecting .started, (collecting .is, all)));
+    replied = λ r m. dispatch-before dispatches (dispatch bytes) (r .ordinal) (calls .replied r m);
     alike = calls .alike;
   }
 
   -- Both ways the server and the calls are as they are known.
   put-known : (all : Bool) → complete after ≡ all → sound (putServer all) ≡ true
-      → ServerInv (putServer all) (filled (h .fragment) body slots) starts
-      (dispatchesAfter dispatches (putNotice all) (h .number) (handsUp (putServer all) (filled (h .fragment) body slots))) replies
-      × CallInv starts (dispatchesAfter dispatches (putNotice all) (h .number) (handsUp (putServer all) (filled (h .fragment) body slots))) replies
+      → ServerInv (putServer all) o (filled (h .fragment) body slots) starts
+      (dispatchesAfter dispatches (putNotice all) o (handsUp (putServer all) (filled (h .fragment) body slots))) replies
+      × CallInv starts (dispatchesAfter dispatches (putNotice all) o (handsUp (putServer all) (filled (h .fragment) body slots))) replies
   unfolding putNotice dispatchesAfter choose withIncoming
   put-known true e kept =
       let bytes = handsUp (putServer true) (filled (h .fragment) body slots) in
@@ -281,21 +284,21 @@ fack-sends true serial = (refl, refl)
 fack-sends false serial = (refl, refl)
 
 -- A world whose server put a request.
-pub put-inv : (w : World) → Inv w → (s : Server) → ServerInv s (w .serverSlots) (w .starts) (w .dispatches) (w .replies) → s .state ≡ Collect
-    → (h : Header) (body : List ℕ) → Request (w .starts) h body → s .number ≡ h .number → length (w .serverSlots) ≡ 44544 → length body ≤ 1392
+pub put-inv : (w : World) → Inv w → (s : Server) (o : ℕ) → ServerInv s o (w .serverSlots) (w .starts) (w .dispatches) (w .replies) → s .state ≡ Collect
+    → (h : Header) (body : List ℕ) → Request (w .starts) o h body → length (w .serverSlots) ≡ 44544 → length body ≤ 1392
     → h .fragment < 32 → contradicts (s .incoming) (h .fragment) (isLast (h .flags1)) ≡ false → (out : List ℕ) → length out ≡ 1472
     → Inv
     (serverStep w (sending (requestPlan s (h .flags1) (h .serial) (h .fragment) (bodyLength body)) h [] out .outcome)
     (sending (requestPlan s (h .flags1) (h .serial) (h .fragment) (bodyLength body)) h [] out .out)
-    (filled (h .fragment) body (w .serverSlots)) (h .number))
+    (filled (h .fragment) body (w .serverSlots)) o o)
 unfolding requestPlan putPlan sending outcomeOf
-put-inv w inv s server state h body request mine whole short small fits out room =
+put-inv w inv s o server state h body request whole short small fits out room =
     subst
     (λ (n : ℕ).
     Inv
     (serverStep w (sending (requestPlan s (h .flags1) (h .serial) (h .fragment) n) h [] out .outcome)
     (sending (requestPlan s (h .flags1) (h .serial) (h .fragment) n) h [] out .out)
-    (filled (h .fragment) body (w .serverSlots)) (h .number)))
+    (filled (h .fragment) body (w .serverSlots)) o o))
     (sym (body-length body short))
     (record {
       client = inv .client;
@@ -304,7 +307,7 @@ put-inv w inv s server state h body request mine whole short small fits out room
       requests = inv .requests;
       completed = inv .completed;
       responses =
-          others-sent (w .serverSent) (Response (w .replies)) (putServer-of (complete m)) h out room (known .0 .activity) (request .sized .object)
+          others-sent (w .serverSent) (Response (w .replies)) o (putServer-of (complete m)) h out room (known .0 .activity) (request .sized .object)
           (request .sized .interface) (inv .responses) (fackFor (wantsFack (h .flags1)) (h .serial)) [] (fack-sends (wantsFack (h .flags1)) (h .serial) .0)
           (λ e. absurd (false≢true (sym (fack-sends (wantsFack (h .flags1)) (h .serial) .1) ∙ e)));
     })
@@ -321,9 +324,9 @@ put-inv w inv s server state h body request mine whole short small fits out room
         put-sound s (server .kept) m (h .flags1) (h .serial) state
         (stored-sound (s .incoming) (h .fragment) (length body) (isLast (h .flags1)) (rules-told s (server .kept) .incoming) (omega arith) short fits)
 
-    known : ServerInv (putServer-of (complete m)) (filled (h .fragment) body (w .serverSlots)) (w .starts)
-        (dispatchesAfter (w .dispatches) (putNotice (complete m)) (h .number) (handsUp (putServer-of (complete m)) (filled (h .fragment) body (w .serverSlots)))) (w .replies)
+    known : ServerInv (putServer-of (complete m)) o (filled (h .fragment) body (w .serverSlots)) (w .starts)
+        (dispatchesAfter (w .dispatches) (putNotice (complete m)) o (handsUp (putServer-of (complete m)) (filled (h .fragment) body (w .serverSlots)))) (w .replies)
         × CallInv (w .starts)
-        (dispatchesAfter (w .dispatches) (putNotice (complete m)) (h .number) (handsUp (putServer-of (complete m)) (filled (h .fragment) body (w .serverSlots)))) (w .replies)
+        (dispatchesAfter (w .dispatches) (putNotice (complete m)) o (handsUp (putServer-of (complete m)) (filled (h .fragment) body (w .serverSlots)))) (w .replies)
     known =
-        put-known s (w .serverSlots) (w .starts) (w .dispatches) (w .replies) server (inv .calls) state h body request mine whole short small fits (complete m) refl kept
+        put-known s o (w .serverSlots) (w .starts) (w .dispatches) (w .replies) server (inv .calls) state h body request whole short small fits (complete m) refl kept

@@ -24,7 +24,7 @@ use Rattle.server_steps.specs.Rows.{settled, transmitted, rewinding, resendHeld
 use Rattle.history.specs.Lists.{In}
 use Rattle.history.specs.World.{Started, Dispatched, Replied}
 use Rattle.history.proofs.Holding.{Single}
-use Rattle.history.proofs.Invariant.{CurrentReply, unanswered, hasData, ServerInv}
+use Rattle.history.proofs.Invariant.{CurrentReply, unanswered, hasData, new-on, ServerInv}
 
 -- The states that follow RUNNING.
 abbrev pub past : State → Bool
@@ -48,7 +48,7 @@ past-called (Held reply) e = refl
 
 -- A server that goes on with its call past RUNNING: the call stays; one that could be answered again was answered by single
 -- fragments, and one that replies with data has that reply.
-pub record GoesOn (s t : Server) (replies : List Replied) : Type 0 where
+pub record GoesOn (s t : Server) (standing : ℕ) (replies : List Replied) : Type 0 where
   pub activity : t .activity ≡ s .activity
   pub boot : t .boot ≡ s .boot
   pub number : t .number ≡ s .number
@@ -56,14 +56,14 @@ pub record GoesOn (s t : Server) (replies : List Replied) : Type 0 where
   pub incoming : t .incoming ≡ s .incoming
   pub size : t .outgoing .length ≡ s .outgoing .length
   pub after : past (t .state) ≡ true
-  pub single : unanswered (t .state) ≡ true → (r : Replied) → In r replies → r .number ≡ s .number → Single (r .message)
-  pub replying : hasData (t .state) ≡ true → CurrentReply s replies
+  pub single : unanswered (t .state) ≡ true → (r : Replied) → In r replies → r .ordinal ≡ standing → Single (r .message)
+  pub replying : hasData (t .state) ≡ true → CurrentReply s standing replies
 
 -- What is known of it stays known.
-pub goes-on : (s t : Server) (slots : List ℕ) (starts : List Started) (dispatches : List Dispatched) (replies : List Replied)
-    → ServerInv s slots starts dispatches replies → isFresh (s .state) ≡ false → sound t ≡ true → GoesOn s t replies
-    → ServerInv t slots starts dispatches replies
-goes-on s t slots starts dispatches replies inv called kept g =
+pub goes-on : (s t : Server) (standing : ℕ) (slots : List ℕ) (starts : List Started) (dispatches : List Dispatched) (replies : List Replied)
+    → ServerInv s standing slots starts dispatches replies → isFresh (s .state) ≡ false → sound t ≡ true → GoesOn s t standing replies
+    → ServerInv t standing slots starts dispatches replies
+goes-on s t standing slots starts dispatches replies inv called kept g =
     let later = past-called (t .state) (g .after) in
     let k = inv .called called in
     record {
@@ -71,13 +71,13 @@ goes-on s t slots starts dispatches replies inv called kept g =
       activity = rw (g .activity) (inv .activity);
       boot = rw (g .boot) (inv .boot);
       slotted = rw (g .incoming) (inv .slotted);
-      dispatched = λ d m. (later, rw (g .number) (inv .dispatched d m .1));
-      answered = λ r m. (later, rw (g .number) (inv .answered r m .1));
+      takes = λ n new. inv .takes n (new-on s t standing later n new);
       called =
           λ e.
           record {
             start = k .start;
             started = k .started;
+            is = k .is;
             number = rw (g .number) (k .number);
             mark = rw (g .call) (k .mark);
             typed = rw (g .call) (k .typed);
@@ -85,27 +85,27 @@ goes-on s t slots starts dispatches replies inv called kept g =
           };
       collecting = λ e. absurd (false≢true (sym (ap past e) ∙ g .after));
       running = λ e. absurd (false≢true (sym (ap past e) ∙ g .after));
-      single = λ e r m n. g .single e r m (n ∙ g .number);
+      single = λ e r m n. g .single e r m n;
       replying =
           λ e.
           let c = g .replying e in
           record {
             reply = c .reply;
             given = c .given;
-            number = rw (g .number) (c .number);
+            is = c .is;
             message = c .message;
             size = rw (g .size) (c .size);
-            others = λ r m n. c .others r m (n ∙ g .number);
+            others = λ r m n. c .others r m n;
           };
     }
 
 -- The rows that go on with a call. To IDLE repeatable where every reply is single, else to HELD:
-pub settled-goes-on : (again : Bool) (s t : Server) (reply : Reply) (replies : List Replied) → t .activity ≡ s .activity → t .boot ≡ s .boot
+pub settled-goes-on : (again : Bool) (s t : Server) (reply : Reply) (standing : ℕ) (replies : List Replied) → t .activity ≡ s .activity → t .boot ≡ s .boot
     → t .number ≡ s .number → t .call ≡ s .call → t .incoming ≡ s .incoming → t .outgoing .length ≡ s .outgoing .length
-    → (again ≡ true → (r : Replied) → In r replies → r .number ≡ s .number → Single (r .message)) → (hasData (Held reply) ≡ true → CurrentReply s replies)
-    → GoesOn s (settled again t reply) replies
+    → (again ≡ true → (r : Replied) → In r replies → r .ordinal ≡ standing → Single (r .message)) → (hasData (Held reply) ≡ true → CurrentReply s standing replies)
+    → GoesOn s (settled again t reply) standing replies
 unfolding settled unarmed holding choose
-settled-goes-on true s t reply replies a b n c i z single has = record {
+settled-goes-on true s t reply standing replies a b n c i z single has = record {
   activity = a;
   boot = b;
   number = n;
@@ -116,7 +116,7 @@ settled-goes-on true s t reply replies a b n c i z single has = record {
   single = λ e. single refl;
   replying = λ e. absurd (false≢true e);
 }
-settled-goes-on false s t reply replies a b n c i z single has = record {
+settled-goes-on false s t reply standing replies a b n c i z single has = record {
   activity = a;
   boot = b;
   number = n;
@@ -129,14 +129,14 @@ settled-goes-on false s t reply replies a b n c i z single has = record {
 }
 
 -- transmit, where the reply that is out is single if the call can be run again,
-pub transmitted-goes-on : (last : Bool) (s : Server) (replies : List Replied) → s .state ≡ Replying → CurrentReply s replies
-    → (runsAgain (s .call .idempotent) (s .outgoing) ≡ true → (r : Replied) → In r replies → r .number ≡ s .number → Single (r .message))
-    → GoesOn s (transmitted last s) replies
+pub transmitted-goes-on : (last : Bool) (s : Server) (standing : ℕ) (replies : List Replied) → s .state ≡ Replying → CurrentReply s standing replies
+    → (runsAgain (s .call .idempotent) (s .outgoing) ≡ true → (r : Replied) → In r replies → r .ordinal ≡ standing → Single (r .message))
+    → GoesOn s (transmitted last s) standing replies
 unfolding transmitted withOutgoing afterSend choose
-transmitted-goes-on true s replies state now single =
-    settled-goes-on (runsAgain (s .call .idempotent) (s .outgoing)) s (withOutgoing s (afterSend (s .outgoing))) Data replies refl refl refl refl refl refl
+transmitted-goes-on true s standing replies state now single =
+    settled-goes-on (runsAgain (s .call .idempotent) (s .outgoing)) s (withOutgoing s (afterSend (s .outgoing))) Data standing replies refl refl refl refl refl refl
     single (λ e. now)
-transmitted-goes-on false s replies state now single = record {
+transmitted-goes-on false s standing replies state now single = record {
   activity = refl;
   boot = refl;
   number = refl;
@@ -149,11 +149,11 @@ transmitted-goes-on false s replies state now single = record {
 }
 
 -- replaying data,
-pub rewinding-goes-on : (s t : Server) (replies : List Replied) → t .activity ≡ s .activity → t .boot ≡ s .boot → t .number ≡ s .number
-    → t .call ≡ s .call → t .incoming ≡ s .incoming → t .outgoing .length ≡ s .outgoing .length → CurrentReply s replies
-    → GoesOn s (rewinding t) replies
+pub rewinding-goes-on : (s t : Server) (standing : ℕ) (replies : List Replied) → t .activity ≡ s .activity → t .boot ≡ s .boot → t .number ≡ s .number
+    → t .call ≡ s .call → t .incoming ≡ s .incoming → t .outgoing .length ≡ s .outgoing .length → CurrentReply s standing replies
+    → GoesOn s (rewinding t) standing replies
 unfolding rewinding unarmed withOutgoing rewound
-rewinding-goes-on s t replies a b n c i z now = record {
+rewinding-goes-on s t standing replies a b n c i z now = record {
   activity = a;
   boot = b;
   number = n;
@@ -166,9 +166,9 @@ rewinding-goes-on s t replies a b n c i z now = record {
 }
 
 -- a call that is spent,
-pub spent-goes-on : (s : Server) (replies : List Replied) → GoesOn s (unarmed s (IdleState Spent)) replies
+pub spent-goes-on : (s : Server) (standing : ℕ) (replies : List Replied) → GoesOn s (unarmed s (IdleState Spent)) standing replies
 unfolding unarmed
-spent-goes-on s replies = record {
+spent-goes-on s standing replies = record {
   activity = refl;
   boot = refl;
   number = refl;
@@ -181,13 +181,13 @@ spent-goes-on s replies = record {
 }
 
 -- RESEND,
-pub resend-goes-on : (s : Server) (reply : Reply) (replies : List Replied) → (hasData (Held reply) ≡ true → CurrentReply s replies)
-    → GoesOn s (resendRow s reply .server) replies
+pub resend-goes-on : (s : Server) (reply : Reply) (standing : ℕ) (replies : List Replied) → (hasData (Held reply) ≡ true → CurrentReply s standing replies)
+    → GoesOn s (resendRow s reply .server) standing replies
 unfolding resendRow resendHeld withResends holding accepted choose
-resend-goes-on s reply replies has = by-count (ltb (s .resends) 5)
+resend-goes-on s reply standing replies has = by-count (ltb (s .resends) 5)
   where
-    again : (reply : Reply) → (hasData (Held reply) ≡ true → CurrentReply s replies) → GoesOn s (resendHeld s reply .server) replies
-    again Data now = unfold resendHeld accepted withResends in rewinding-goes-on s (withResends s (s .resends + 1)) replies refl refl refl refl refl refl (now refl)
+    again : (reply : Reply) → (hasData (Held reply) ≡ true → CurrentReply s standing replies) → GoesOn s (resendHeld s reply .server) standing replies
+    again Data now = unfold resendHeld accepted withResends in rewinding-goes-on s (withResends s (s .resends + 1)) standing replies refl refl refl refl refl refl (now refl)
     again (Fault status) now = unfold resendHeld accepted withResends holding in record {
       activity = refl;
       boot = refl;
@@ -200,16 +200,16 @@ resend-goes-on s reply replies has = by-count (ltb (s .resends) 5)
       replying = λ e. absurd (false≢true e);
     }
 
-    by-count : (t : Bool) → GoesOn s (choose t (resendHeld s reply) (accepted (unarmed s (IdleState Spent)) Nothing) .server) replies
+    by-count : (t : Bool) → GoesOn s (choose t (resendHeld s reply) (accepted (unarmed s (IdleState Spent)) Nothing) .server) standing replies
     by-count true = again reply has
-    by-count false = spent-goes-on s replies
+    by-count false = spent-goes-on s standing replies
 
 -- and a record that stays, past RUNNING.
-pub stays-goes-on : (s t : Server) (replies : List Replied) → t .activity ≡ s .activity → t .boot ≡ s .boot → t .number ≡ s .number → t .call ≡ s .call
+pub stays-goes-on : (s t : Server) (standing : ℕ) (replies : List Replied) → t .activity ≡ s .activity → t .boot ≡ s .boot → t .number ≡ s .number → t .call ≡ s .call
     → t .incoming ≡ s .incoming → t .outgoing .length ≡ s .outgoing .length → t .state ≡ s .state → past (s .state) ≡ true
-    → (unanswered (s .state) ≡ true → (r : Replied) → In r replies → r .number ≡ s .number → Single (r .message))
-    → (hasData (s .state) ≡ true → CurrentReply s replies) → GoesOn s t replies
-stays-goes-on s t replies a b n c i z e p single has = record {
+    → (unanswered (s .state) ≡ true → (r : Replied) → In r replies → r .ordinal ≡ standing → Single (r .message))
+    → (hasData (s .state) ≡ true → CurrentReply s standing replies) → GoesOn s t standing replies
+stays-goes-on s t standing replies a b n c i z e p single has = record {
   activity = a;
   boot = b;
   number = n;

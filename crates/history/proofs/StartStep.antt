@@ -6,6 +6,7 @@ use mathlib.Core.Logic.{_⊎_, inl, inr}
 use mathlib.Core.Path.{_≡_, refl, sym, ap, subst, _∙_}
 use native.Mathlib.Omega.{arith}
 use native.Mathlib.Decide.{decLt}
+use lib.ListN.{length, length-append}
 use Rattle.words.specs.Choice.{choose, either}
 use Rattle.answers.specs.declared.Answer.the-variants.{Done}
 use Rattle.answers.specs.declared.Ground.{Ground}
@@ -27,8 +28,8 @@ use Rattle.client.specs.Machine.{outcomeOf, starting}
 use Rattle.client.proofs.Judging.{CanStart, start-passes}
 use Rattle.client.proofs.Accepting.{start-accepted}
 use Rattle.history.specs.Lists.{In, andThen}
-use Rattle.history.specs.World.{Started, Dispatched, Replied, World}
-use Rattle.history.specs.Steps.{sentAfter, completionsAfter}
+use Rattle.history.specs.World.{bears, Started, Dispatched, Replied, World}
+use Rattle.history.specs.Steps.{lastStart, sentAfter, completionsAfter}
 use Rattle.history.specs.Fairness.{FairStart}
 use Rattle.history.specs.Claim.{times}
 use Rattle.history.proofs.ListLaws.{in-before, in-added, in-grown, all-grown, last-started, times-none}
@@ -41,9 +42,9 @@ pub cleared-none : Empty cleared
 unfolding held cleared either choose
 cleared-none = record { none = λ f. none-held (cleared .slots) f refl; last = refl }
 
--- The number of a new start is above all that were started.
-module _ (c : Client) (slots : List ℕ) (starts : List Started) (replies : List Replied) (inv : ClientInv c slots starts replies) (n : ℕ)
-    (can : CanStart c n) where
+-- The number of a new start is that of its ordinal.
+module _ (c : Client) (slots : List ℕ) (starts : List Started) (replies : List Replied) (inv : ClientInv c slots starts replies)
+    (below : (s : Started) → In s starts → s .ordinal < length starts) (n : ℕ) (can : CanStart c n) where
   next-small : nextNumber (isQueued (c .state)) (c .number) < 4294967296
   unfolding nextNumber choose
   next-small = by-state (isQueued (c .state))
@@ -52,16 +53,18 @@ module _ (c : Client) (slots : List ℕ) (starts : List Started) (replies : List
       by-state true = omega arith
       by-state false = omega arith
 
-  next-above : (s : Started) → In s starts → s .number < nextNumber (isQueued (c .state)) (c .number)
+  next-number : nextNumber (isQueued (c .state)) (c .number) ≡ bears (length starts)
   unfolding nextNumber choose
-  next-above s m = by-state (isQueued (c .state)) refl
+  next-number = by-state (isQueued (c .state)) refl
     where
-      by-state : (t : Bool) → isQueued (c .state) ≡ t → s .number < choose t 0 ((c .number + 1) % 4294967296)
-      by-state true e = absurd (false≢true (sym (inv .begun s m .0) ∙ e))
+      by-state : (t : Bool) → isQueued (c .state) ≡ t → choose t 0 ((c .number + 1) % 4294967296) ≡ bears (length starts)
+      by-state true e = sym (ap length (inv .unbegun e))
       by-state false e =
-          let small = inv .current e .small in
-          let most = inv .begun s m .1 in
-          let below : c .number < 4294967295 = below-last (c .number) small (can .numbered e) in
+          let now = inv .current e in
+          let number = now .number in
+          let small = now .small in
+          let some = below (now .start) (now .started) in
+          let short : c .number < 4294967295 = below-last (c .number) small (can .numbered e) in
           omega arith
         where
           below-last : (k : ℕ) → k < 4294967296 → (k ≡ 4294967295 → ⊥) → k < 4294967295
@@ -77,13 +80,22 @@ module _ (w : World) (inv : Inv w) (call : Call) (n : ℕ) (message : List ℕ) 
   number = nextNumber (isQueued (w .client .state)) (w .client .number)
 
   abbrev start : Started
-  start = record { number = number; idempotent = call .idempotent; message = message }
+  start = record { ordinal = length (w .starts); number = number; idempotent = call .idempotent; message = message }
 
   abbrev starts : List Started
   starts = andThen (w .starts) start
 
-  above : (s : Started) → In s (w .starts) → s .number < number
-  above = next-above (w .client) (w .clientSlots) (w .starts) (w .replies) (inv .client) n can
+  above : (s : Started) → In s (w .starts) → s .ordinal < length (w .starts)
+  above = inv .calls .below
+
+  more : length starts ≡ length (w .starts) + 1
+  more = rw length-append refl
+
+  last : length (w .starts) ≡ lastStart starts
+  last = let one = more in omega arith
+
+  numbered : number ≡ bears (length (w .starts))
+  numbered = next-number (w .client) (w .clientSlots) (w .starts) (w .replies) (inv .client) above n can
 
   -- The client has the new call and holds nothing,
   client-started : ClientInv (started (w .client) call n) (w .clientSlots) starts (w .replies)
@@ -92,27 +104,35 @@ module _ (w : World) (inv : Inv w) (call : Call) (n : ℕ) (message : List ℕ) 
     kept = started-sound (w .client) call n (can .short);
     activity = inv .client .activity;
     slotted = cleared-length;
-    begun =
-        all-grown (λ (s : Started). (false ≡ false) × (s .number ≤ number)) (w .starts) start (λ s m. (refl, omega (arith, above s m))) (refl, omega arith);
+    unbegun = λ e. absurd (false≢true e);
     current =
         λ e.
         record {
           start = start;
           started = in-added (w .starts) start;
-          number = refl;
+          is = last;
+          number = numbered ∙ ap bears last;
           mark = refl;
           message = last-started (w .starts) start;
           size = fair .whole;
           typed = fair .typed;
-          small = next-small (w .client) (w .clientSlots) (w .starts) (w .replies) (inv .client) n can;
+          small = next-small (w .client) (w .clientSlots) (w .starts) (w .replies) (inv .client) above n can;
         };
     unasked = λ e. absurd (false≢true e);
     whole = λ e. absurd (false≢true e);
     holds = λ e. nothing cleared-none;
   }
 
+  -- no start has that ordinal, and no dispatch;
+  undispatched : (d : Dispatched) → In d (w .dispatches) → d .ordinal ≡ length (w .starts) → ⊥
+  undispatched d m e =
+      let from = inv .calls .whole d m in
+      let below = above (from .0) (from .1 .0) in
+      let same : from .0 .ordinal ≡ d .ordinal = from .1 .1 .0 in
+      omega arith
+
   -- the server's call is still one that was started,
-  server-started : ServerInv (w .server) (w .serverSlots) starts (w .dispatches) (w .replies)
+  server-started : ServerInv (w .server) (w .standing) (w .serverSlots) starts (w .dispatches) (w .replies)
   server-started =
       let old = inv .server in
       record {
@@ -120,14 +140,22 @@ module _ (w : World) (inv : Inv w) (call : Call) (n : ℕ) (message : List ℕ) 
         activity = old .activity;
         boot = old .boot;
         slotted = old .slotted;
-        dispatched = old .dispatched;
-        answered = old .answered;
+        takes =
+            λ k new.
+            let before = old .takes k new in
+            record {
+              first =
+                  all-grown (λ (t : Started). t .ordinal ≡ k → t .idempotent ≡ false → (d : Dispatched) → In d (w .dispatches) → d .ordinal ≡ k → ⊥) (w .starts) start
+                  (before .first) (λ e i d m n. undispatched d m (n ∙ sym e));
+              single = before .single;
+            };
         called =
             λ e.
             let k = old .called e in
             record {
               start = k .start;
               started = in-before (w .starts) (k .start) start (k .started);
+              is = k .is;
               number = k .number;
               mark = k .mark;
               typed = k .typed;
@@ -139,7 +167,7 @@ module _ (w : World) (inv : Inv w) (call : Call) (n : ℕ) (message : List ℕ) 
             record {
               start = k .start;
               started = in-before (w .starts) (k .start) start (k .started);
-              number = k .number;
+              is = k .is;
               holding = k .holding;
               first = k .first;
             };
@@ -148,49 +176,44 @@ module _ (w : World) (inv : Inv w) (call : Call) (n : ℕ) (message : List ℕ) 
         replying = old .replying;
       }
 
-  -- no start has that number, and no dispatch;
-  undispatched : (d : Dispatched) → In d (w .dispatches) → d .number ≡ number → ⊥
-  undispatched d m e =
-      let from = inv .calls .whole d m in
-      let below = above (from .0) (from .1 .0) in
-      let same : from .0 .number ≡ d .number = from .1 .1 .0 in
-      omega arith
-
-  unique : (s t : Started) → In s starts → In t starts → s .number ≡ t .number → s ≡ t
+  unique : (s t : Started) → In s starts → In t starts → s .ordinal ≡ t .ordinal → s ≡ t
   unique s t m k e = by-places (in-grown (w .starts) s start m) (in-grown (w .starts) t start k)
     where
       by-places : In s (w .starts) ⊎ (s ≡ start) → In t (w .starts) ⊎ (t ≡ start) → s ≡ t
       by-places (inl p) (inl q) = inv .calls .unique s t p q e
       by-places (inl p) (inr q) =
           let below = above s p in
-          let same : t .number ≡ number = ap (λ (x : Started). x .number) q in
+          let same : t .ordinal ≡ length (w .starts) = ap (λ (x : Started). x .ordinal) q in
           absurd (omega arith)
       by-places (inr p) (inl q) =
           let below = above t q in
-          let same : s .number ≡ number = ap (λ (x : Started). x .number) p in
+          let same : s .ordinal ≡ length (w .starts) = ap (λ (x : Started). x .ordinal) p in
           absurd (omega arith)
       by-places (inr p) (inr q) = p ∙ sym q
 
   calls-started : CallInv starts (w .dispatches) (w .replies)
   calls-started = record {
     unique = unique;
+    below =
+        all-grown (λ (s : Started). s .ordinal < length starts) (w .starts) start (λ s m. omega (arith, above s m, more)) (omega (arith, more));
+    numbered = all-grown (λ (s : Started). s .number ≡ bears (s .ordinal)) (w .starts) start (inv .calls .numbered) numbered;
     once =
-        all-grown (λ (s : Started). s .idempotent ≡ false → times (s .number) (w .dispatches) ≤ 1) (w .starts) start (inv .calls .once)
-        (λ e. let none = times-none (w .dispatches) number undispatched in omega arith);
+        all-grown (λ (s : Started). s .idempotent ≡ false → times (s .ordinal) (w .dispatches) ≤ 1) (w .starts) start (inv .calls .once)
+        (λ e. let none = times-none (w .dispatches) (length (w .starts)) undispatched in omega arith);
     whole =
         λ d m.
         let from = inv .calls .whole d m in
         (from .0, (in-before (w .starts) (from .0) start (from .1 .0), from .1 .1));
-    rising = inv .calls .rising;
     replied = inv .calls .replied;
     alike = inv .calls .alike;
   }
 
   -- and what was sent is known with one start more.
-  request-started : (h : Header) (body : List ℕ) → Request (w .starts) h body → Request starts h body
-  request-started h body r = record {
+  request-started : (o : ℕ) (h : Header) (body : List ℕ) → Request (w .starts) o h body → Request starts o h body
+  request-started o h body r = record {
     start = r .start;
     started = in-before (w .starts) (r .start) start (r .started);
+    is = r .is;
     number = r .number;
     mark = r .mark;
     part = r .part;

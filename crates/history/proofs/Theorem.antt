@@ -15,20 +15,22 @@ use Rattle.timers.specs.declared.Timer.the-variants.{Off, Armed}
 use Rattle.timers.proofs.TimerLaws.{ticket-most}
 use Rattle.client_record.specs.declared.State.{State}
 use Rattle.client_record.specs.declared.State.the-variants.{Queued, SendFrags, Dispatched as DispatchedState, ReceiveFrags, AckPending, Complete, Fault}
-use Rattle.client_record.specs.States.{isQueued}
-use Rattle.client_record.proofs.RuleLaws.{rules-told, complete-unarmed, fault-unarmed}
+use Rattle.client_record.specs.States.{isQueued, isWaiting, isAckPending}
+use Rattle.client_record.proofs.RuleLaws.{rules-told, wait-off, ack-off}
 use Rattle.client_record.specs.declared.TimerKind.the-variants.{Wait, Ack}
 use Rattle.client_table.specs.Local.{namedTimer}
 use Rattle.client.proofs.Growing.{hands-joined}
 use Rattle.client.proofs.TicketLaws.{old-most as client-most}
 use Rattle.server_record.specs.States.{isHeld}
-use Rattle.server_record.proofs.RuleLaws.{idle-unarmed, rules-told as server-rules-told}
+use Rattle.server_record.specs.declared.State.{State as ServerState}
+use Rattle.server_record.specs.declared.State.the-variants.{Idle, Collect, Running, Replying, Held}
+use Rattle.server_record.proofs.RuleLaws.{resend-off, rules-told as server-rules-told}
 use Rattle.history.specs.World.{World}
 use Rattle.history.specs.Events.{Event}
-use Rattle.history.specs.Steps.{run}
+use Rattle.history.specs.Steps.{lastStart, run}
 use Rattle.history.specs.Fairness.{Fair}
 use Rattle.history.specs.Freshness.{Fresh}
-use Rattle.history.specs.Claim.{AtMostOnce, WholeMessages, replyHandedUp, RepliesToDispatches, LeadsReply, OneReply, WholeReplies, WholeWhereAnswered, OnlyGrows, TimerOf, OfClient, OfServer, timerIn, LateTimers, GoneTickets, finished, Quiet, Claim}
+use Rattle.history.specs.Claim.{AtMostOnce, WholeMessages, replyHandedUp, RepliesToDispatches, LeadsReply, OneReply, WholeReplies, WholeWhereAnswered, OnlyGrows, TimerOf, OfClient, OfServer, timerIn, LateTimers, GoneTickets, waits, confirms, resends, Quiet, Claim}
 use Rattle.history.proofs.Holding.{unheld-none}
 use Rattle.history.proofs.Invariant.{ClientHolds, nothing, fragments-of, Inv}
 use Rattle.history.proofs.Beginning.{fresh-inv}
@@ -51,7 +53,7 @@ module _ (w : World) (inv : Inv w) where
   unfolding OneReply
   one-reply = by-state (isQueued (w .client .state)) refl
     where
-      by-holds : ClientHolds (w .client .number) (w .client .incoming) (w .clientSlots) (w .replies)
+      by-holds : ClientHolds (lastStart (w .starts)) (w .client .incoming) (w .clientSlots) (w .replies)
           → (replyHandedUp w ≡ []) ⊎ LeadsReply w
       by-holds (nothing e) = inl (joins ∙ unheld-joined (w .client .incoming) (w .clientSlots) (e .none))
       by-holds (fragments-of r m n whole h) =
@@ -62,7 +64,7 @@ module _ (w : World) (inv : Inv w) where
           (record {
             reply = r;
             given = m;
-            number = n;
+            ordinal = n;
             leads =
                 record {
                   rest = drop (1392 * count) (r .message);
@@ -74,7 +76,7 @@ module _ (w : World) (inv : Inv w) where
       by-state true e = inl (joins ∙ unheld-joined (w .client .incoming) (w .clientSlots) (inv .client .unasked e))
       by-state false e = by-holds (inv .client .holds e)
 
-  -- Each dispatch gets the whole message of the one start that has its number.
+  -- Each dispatch gets the whole message of its one start.
   whole-messages : WholeMessages w
   unfolding WholeMessages
   whole-messages d m =
@@ -82,27 +84,43 @@ module _ (w : World) (inv : Inv w) where
       record {
         start = from .0;
         started = from .1 .0;
-        number = from .1 .1 .0;
+        ordinal = from .1 .1 .0;
         whole = from .1 .1 .1;
         only = λ other k n. inv .calls .unique other (from .0) k (from .1 .0) (n ∙ sym (from .1 .1 .0));
       }
 
-  -- Nothing is armed in a finished call.
+  -- A timer is armed only in the states that name it.
   quiet : Quiet w
   quiet = record {
-    wait = λ e. by-state (w .client .state) refl e .0;
-    ack = λ e. by-state (w .client .state) refl e .1;
-    resend = λ e. idle-unarmed (w .server) (inv .server .kept) e;
+    wait = λ e. wait-off (w .client) (inv .client .kept) (sym (named-wait (w .client .state)) ∙ e);
+    ack = λ e. ack-off (w .client) (inv .client .kept) (sym (named-ack (w .client .state)) ∙ e);
+    resend = λ e. resend-off (w .server) (inv .server .kept) (sym (named-resend (w .server .state)) ∙ e);
   }
     where
-      by-state : (s : State) → w .client .state ≡ s → finished s ≡ true → (w .client .wait ≡ Off) × (w .client .ack ≡ Off)
-      by-state Queued e f = absurd (false≢true f)
-      by-state SendFrags e f = absurd (false≢true f)
-      by-state DispatchedState e f = absurd (false≢true f)
-      by-state ReceiveFrags e f = absurd (false≢true f)
-      by-state AckPending e f = absurd (false≢true f)
-      by-state Complete e f = complete-unarmed (w .client) (inv .client .kept) e
-      by-state Fault e f = fault-unarmed (w .client) (inv .client .kept) e
+      named-wait : (s : State) → waits s ≡ isWaiting s
+      named-wait Queued = unfold isWaiting in refl
+      named-wait SendFrags = unfold isWaiting in refl
+      named-wait DispatchedState = unfold isWaiting in refl
+      named-wait ReceiveFrags = unfold isWaiting in refl
+      named-wait AckPending = unfold isWaiting in refl
+      named-wait Complete = unfold isWaiting in refl
+      named-wait Fault = unfold isWaiting in refl
+
+      named-ack : (s : State) → confirms s ≡ isAckPending s
+      named-ack Queued = unfold isAckPending in refl
+      named-ack SendFrags = unfold isAckPending in refl
+      named-ack DispatchedState = unfold isAckPending in refl
+      named-ack ReceiveFrags = unfold isAckPending in refl
+      named-ack AckPending = unfold isAckPending in refl
+      named-ack Complete = unfold isAckPending in refl
+      named-ack Fault = unfold isAckPending in refl
+
+      named-resend : (s : ServerState) → resends s ≡ isHeld s
+      named-resend (Idle idle) = unfold isHeld in refl
+      named-resend Collect = unfold isHeld in refl
+      named-resend Running = unfold isHeld in refl
+      named-resend Replying = unfold isHeld in refl
+      named-resend (Held reply) = unfold isHeld in refl
 
 -- An armed ticket is at most the counter of its side.
 armed-in-most : (w : World) → Inv w → (timer : TimerOf) (ticket : ℕ) → timerIn w timer ≡ Armed ticket → ticket ≤ counterOf w timer
@@ -141,6 +159,12 @@ theorem w fresh events fair =
     let start = fresh-inv w fresh in
     let inv = run-inv w events start fair in
     record {
+      numbered =
+          record {
+            starts = inv .calls .numbered;
+            client = λ e. inv .client .current e .number;
+            server = λ e. inv .server .called e .number;
+          };
       once = inv .calls .once;
       whole = whole-messages (run w events) inv;
       replied = inv .calls .replied;
@@ -154,5 +178,4 @@ theorem w fresh events fair =
       afresh = armed-afresh (run w events);
       quiet = quiet (run w events) inv;
       rules = record { client = inv .client .kept; server = inv .server .kept };
-      order = inv .calls .rising;
     }

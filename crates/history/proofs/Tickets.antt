@@ -55,12 +55,12 @@ unfolding step happens
 step-moves w (Start call n message) = client-moved w (step w (Start call n message)) (start-moves (w .client) call n) refl
 step-moves w (ClientTransmit message out) =
     client-moved w (step w (ClientTransmit message out)) (client-transmit-moves (w .client) message out) refl
-step-moves w (ClientArrive datagram lent out) =
-    client-moved w (step w (ClientArrive datagram lent out)) (client-arrive-moves (w .client) datagram (bytesLent lent (w .clientSlots)) out) refl
+step-moves w (ClientArrive p lent out) =
+    client-moved w (step w (ClientArrive p lent out)) (client-arrive-moves (w .client) (p .bytes) (bytesLent lent (w .clientSlots)) out) refl
 step-moves w (ClientTimer kind ticket out) =
     client-moved w (step w (ClientTimer kind ticket out)) (client-timer-moves (w .client) kind ticket out) refl
-step-moves w (ServerArrive datagram lent out) =
-    server-moved w (step w (ServerArrive datagram lent out)) (server-arrive-moves (w .server) datagram (bytesLent lent (w .serverSlots)) out) refl
+step-moves w (ServerArrive p lent out) =
+    server-moved w (step w (ServerArrive p lent out)) (server-arrive-moves (w .server) (p .bytes) (bytesLent lent (w .serverSlots)) out) refl
 step-moves w (ServerTransmit message out) =
     server-moved w (step w (ServerTransmit message out)) (server-transmit-moves (w .server) message out) refl
 step-moves w (ServerTimer ticket out) = server-moved w (step w (ServerTimer ticket out)) (server-timer-moves (w .server) ticket out) refl
@@ -101,13 +101,13 @@ acts-once w OfServer ticket out done = server-timer-spends (w .server) ticket ou
 -- What arms afresh leaves no ticket armed that was so before.
 pub armed-afresh : (w : World) → ArmedAfresh w
 unfolding ArmedAfresh answerTo happens step timerIn namedTimer
-armed-afresh w datagram lent out done known = by-timer (renewing known)
+armed-afresh w p lent out done known = by-timer (renewing known)
   where
-    renewing : Renews (reading datagram .header .kind) → renews (eventOf (reading datagram .header .kind)) ≡ true
+    renewing : Renews (reading (p .bytes) .header .kind) → renews (eventOf (reading (p .bytes) .header .kind)) ≡ true
     renewing (inl response) = unfold eventOf serverEvent choose in ap (λ (k : ℕ). renews (eventOf k)) response
     renewing (inr working) = unfold eventOf serverEvent choose in ap (λ (k : ℕ). renews (eventOf k)) working
 
-    by-timer : renews (eventOf (reading datagram .header .kind)) ≡ true → (kind : TimerKind) (ticket : ℕ)
-        → timerIn w (OfClient kind) ≡ Armed ticket → timerIn (step w (ClientArrive datagram lent out)) (OfClient kind) ≡ Armed ticket → ⊥
-    by-timer r Wait ticket = arrive-spends (w .client) datagram (bytesLent lent (w .clientSlots)) out done r Wait ticket
-    by-timer r Ack ticket = arrive-spends (w .client) datagram (bytesLent lent (w .clientSlots)) out done r Ack ticket
+    by-timer : renews (eventOf (reading (p .bytes) .header .kind)) ≡ true → (kind : TimerKind) (ticket : ℕ)
+        → timerIn w (OfClient kind) ≡ Armed ticket → timerIn (step w (ClientArrive p lent out)) (OfClient kind) ≡ Armed ticket → ⊥
+    by-timer r Wait ticket = arrive-spends (w .client) (p .bytes) (bytesLent lent (w .clientSlots)) out done r Wait ticket
+    by-timer r Ack ticket = arrive-spends (w .client) (p .bytes) (bytesLent lent (w .clientSlots)) out done r Ack ticket

@@ -6,7 +6,7 @@ use lib.ListN.{length}
 use Rattle.answers.specs.declared.Answer.the-variants.{Done}
 use Rattle.calls.specs.declared.Call.{Call}
 use Rattle.history.specs.Lists.{In}
-use Rattle.history.specs.World.{Started, Replied, World}
+use Rattle.history.specs.World.{Started, Replied, Posted, World}
 use Rattle.history.specs.Events.{Lent, Own, Event, Start, ClientTransmit, ClientArrive, ClientTimer, ServerArrive, ServerTransmit, ServerTimer, Reply, Fault}
 use Rattle.history.specs.Steps.{step, answerTo}
 
@@ -33,18 +33,18 @@ pub record FairStart (call : Call) (n : ℕ) (message : List ℕ) : Type 0 where
   pub typed : Typed call
   pub whole : length message ≡ n
 
--- A PDU that arrives was sent by the other side earlier, and the slot buffer lent is the side's own.
-pub record FairArrival (sent : List (List ℕ)) (datagram : List ℕ) (lent : Lent) : Type 0 where
-  pub earlier : In datagram sent
+-- A PDU that arrives was sent by the other side earlier, of the start that is named, and the slot buffer lent is the side's own.
+pub record FairArrival (sent : List Posted) (p : Posted) (lent : Lent) : Type 0 where
+  pub earlier : In p sent
   pub own : lent ≡ Own
 
 -- What is owed by an event that is answered 0.
 abbrev pub Premise : World → Event → Type 0
 Premise w (Start call n message) = FairStart call n message
 Premise w (ClientTransmit message out) = OfLastStart (w .starts) message
-Premise w (ClientArrive datagram lent out) = FairArrival (w .serverSent) datagram lent
+Premise w (ClientArrive p lent out) = FairArrival (w .serverSent) p lent
 Premise w (ClientTimer kind ticket out) = Unit {0}
-Premise w (ServerArrive datagram lent out) = FairArrival (w .clientSent) datagram lent
+Premise w (ServerArrive p lent out) = FairArrival (w .clientSent) p lent
 Premise w (ServerTransmit message out) = OfLastReply (w .replies) message
 Premise w (ServerTimer ticket out) = Unit {0}
 Premise w (Reply n message) = length message ≡ n

@@ -61,8 +61,8 @@ RowTells event order state bit mark Repeat = Unit {0}
 RowTells event order state bit mark Begin =
     (event ≡ Request) × (((order ≡ Newer) × (isRunning state ≡ false)) ⊎ ((order ≡ Equal) × (state ≡ IdleState Repeatable) × (bit ≡ true)))
 RowTells event order state bit mark Put = (event ≡ Request) × (order ≡ Equal) × (state ≡ Collect)
-RowTells event order state bit mark Working = Unit {0}
-RowTells event order state bit mark Nocall = Unit {0}
+RowTells event order state bit mark Working = order ≡ Equal
+RowTells event order state bit mark Nocall = event ≡ Ping
 RowTells event order state bit mark Replay = (order ≡ Equal) × (isHeld state ≡ true)
 RowTells event order state bit mark Acknowledge = (event ≡ Fack) × (order ≡ Equal) × ((state ≡ Replying) ⊎ (isHeld state ≡ true))
 RowTells event order state bit mark Finish = (order ≡ Equal) × (mark ≡ false) × ((state ≡ Replying) ⊎ (isHeld state ≡ true))
@@ -76,7 +76,7 @@ request-tells bit mark Equal (IdleState Spent) = tt
 request-tells true mark Equal (IdleState Repeatable) = (refl, inr (refl, refl, refl))
 request-tells false mark Equal (IdleState Repeatable) = tt
 request-tells bit mark Equal Collect = (refl, refl, refl)
-request-tells bit mark Equal Running = tt
+request-tells bit mark Equal Running = refl
 request-tells bit mark Equal Replying = tt
 request-tells bit mark Equal (Held reply) = (refl, refl)
 request-tells bit mark Newer (IdleState idle) = (refl, inl (refl, refl))
@@ -89,12 +89,12 @@ request-tells bit mark Newer (Held reply) = (refl, inl (refl, refl))
 ping-tells : (bit mark : Bool) (order : Order) (state : State) → RowTells Ping order state bit mark (pingRow order state)
 unfolding RowTells pingRow pingEqual isHeld
 ping-tells bit mark Below state = tt
-ping-tells bit mark Equal (IdleState idle) = tt
-ping-tells bit mark Equal Collect = tt
-ping-tells bit mark Equal Running = tt
+ping-tells bit mark Equal (IdleState idle) = refl
+ping-tells bit mark Equal Collect = refl
+ping-tells bit mark Equal Running = refl
 ping-tells bit mark Equal Replying = tt
 ping-tells bit mark Equal (Held reply) = (refl, refl)
-ping-tells bit mark Newer state = tt
+ping-tells bit mark Newer state = refl
 
 -- of an ack,
 ack-tells : (bit mark : Bool) (order : Order) (state : State) → RowTells Ack order state bit mark (ackRow order state mark)
@@ -140,6 +140,16 @@ module _ (event : Event) (order : Order) (state : State) (bit mark : Bool) where
   pub put-told : rowOf event order state bit mark ≡ Put → (event ≡ Request) × (order ≡ Equal) × (state ≡ Collect)
   unfolding RowTells
   put-told e = subst (RowTells event order state bit mark) e (row-tells event order state bit mark)
+
+  -- Working: an equal number.
+  pub working-told : rowOf event order state bit mark ≡ Working → order ≡ Equal
+  unfolding RowTells
+  working-told e = subst (RowTells event order state bit mark) e (row-tells event order state bit mark)
+
+  -- Nocall: a ping.
+  pub nocall-told : rowOf event order state bit mark ≡ Nocall → event ≡ Ping
+  unfolding RowTells
+  nocall-told e = subst (RowTells event order state bit mark) e (row-tells event order state bit mark)
 
   -- Replay: an equal number in HELD.
   pub replay-told : rowOf event order state bit mark ≡ Replay → (order ≡ Equal) × (isHeld state ≡ true)
