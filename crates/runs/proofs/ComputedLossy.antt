@@ -29,17 +29,17 @@ use Rattle.server_record.specs.declared.State.{State as ServerState}
 use Rattle.server_record.specs.declared.State.the-variants.{Idle, Collect, Running, Replying, Held}
 use Rattle.server_record.specs.Rules.{sound as serverSound}
 use Rattle.server.specs.HandUp.{handsUp as serverHandsUp}
 use Rattle.history.specs.Fairness.{Typed}
-use Rattle.history.specs.Runs.{before, activity, called, request, ping, ack, response, working, nocall, asked, askedAgain, answered, answeredAgain, closed, lossy}
+use Rattle.runs.specs.Runs.{before, activity, called, request, ping, ack, response, working, nocall, asked, askedAgain, answered, answeredAgain, closed, lossy}
 use Rattle.history.proofs.Holding.{empty-holding, holding-whole}
 use Rattle.history.proofs.StartStep.{cleared-none}
-use Rattle.history.proofs.ComputedOpen.{opened}
-use Rattle.history.proofs.ComputedLaws.{Plays, told, came, over, then, refused, joined, Uuids, Carried, carried}
-use Rattle.history.proofs.ComputedParts.{kept, put}
-use Rattle.history.proofs.ComputedClient.{client-transmits, client-times, client-arrives}
-use Rattle.history.proofs.ComputedServer.{server-transmits, server-times, server-arrives}
-use Rattle.history.specs.World.{Posted}
-use Rattle.history.proofs.ComputedSides.{ClientSide, ServerSide, ofFirst, Books, world, held, holds, nothing, sends, clientIn, serverIn}
+use Rattle.runs.proofs.ComputedOpen.{opened}
+use Rattle.runs.proofs.ComputedLaws.{Plays, told, came, over, then, refused, joined, Uuids, Carried, carried}
+use Rattle.runs.proofs.ComputedParts.{kept, put}
+use Rattle.runs.proofs.ComputedClient.{client-transmits, client-times, client-arrives}
+use Rattle.runs.proofs.ComputedServer.{server-transmits, server-times, server-arrives}
+use Rattle.history.specs.World.{SentPdu}
+use Rattle.runs.proofs.ComputedSides.{ClientSide, ServerSide, ofFirst, Books, world, held, holds, nothing, sends, clientIn, serverIn}
 
 uuids : Uuids activity called
 uuids = record { activity-16 = refl; object-16 = refl; interface-16 = refl }
@@ -98,13 +98,13 @@ module _ (message reply clientSlots serverSlots out : List ℕ) (asks : length m
   u3-long = filled-length 2 (fragmentOf reply 2) u2 ∙ u2-long
 
   -- The first n PDUs of all that the client has sent, and the server.
-  abbrev clientSent : ℕ → List Posted
+  abbrev clientSent : ℕ → List SentPdu
   clientSent n =
       take n
       (ofFirst (request message 0 1 ∷ request message 1 2 ∷ request message 2 3 ∷ ping 4
       ∷ request message 0 5 ∷ request message 1 6 ∷ request message 2 7 ∷ ping 8 ∷ ack 8 ∷ []))
 
-  abbrev serverSent : ℕ → List Posted
+  abbrev serverSent : ℕ → List SentPdu
   serverSent n =
       take n
       (ofFirst (nocall ∷ working ∷ response reply 0 1 ∷ response reply 1 2 ∷ response reply 2 3

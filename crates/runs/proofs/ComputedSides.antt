@@ -15,22 +15,22 @@ use Rattle.client_record.specs.declared.Client.{Client}
 use Rattle.client_record.specs.declared.State.{State as ClientState}
 use Rattle.server_record.specs.declared.Server.{Server}
 use Rattle.server_record.specs.declared.State.{State as ServerState}
-use Rattle.history.specs.World.{World, Started, Dispatched, Replied, Completed, Posted}
-use Rattle.history.specs.Runs.{activity}
+use Rattle.history.specs.World.{World, Started, Dispatched, Replied, Completed, SentPdu}
+use Rattle.runs.specs.Runs.{activity}
 
 -- A side: its record, its slot buffer and what it has sent.
 pub record ClientSide : Type 0 where
   pub client : Client
   pub slots : List ℕ
-  pub sent : List Posted
+  pub sent : List SentPdu
 
 pub record ServerSide : Type 0 where
   pub server : Server
   pub slots : List ℕ
-  pub sent : List Posted
+  pub sent : List SentPdu
 
 -- Datagrams of start 0, the only one.
-abbrev pub ofFirst : List (List ℕ) → List Posted
+abbrev pub ofFirst : List (List ℕ) → List SentPdu
 ofFirst [] = []
 ofFirst (d ∷ ds) = record { ordinal = 0; bytes = d } ∷ ofFirst ds
 

@@ -23,17 +23,17 @@ use Rattle.server_record.specs.declared.Idle.the-variants.{Repeatable}
 use Rattle.server_record.specs.declared.State.the-variants.{Idle, Running, Replying}
 use Rattle.server_record.specs.Rules.{sound as serverSound}
 use Rattle.server.specs.HandUp.{handsUp as serverHandsUp}
 use Rattle.history.specs.Fairness.{Typed}
-use Rattle.history.specs.Runs.{before, activity, asking, question, firstReply, secondReply, questionPdu, pingPdu, clientFackPdu, fackPdu, replyPdu, nocallPdu, runOnce, runAgain, twice}
+use Rattle.runs.specs.Runs.{before, activity, asking, question, firstReply, secondReply, questionPdu, pingPdu, clientFackPdu, fackPdu, replyPdu, nocallPdu, runOnce, runAgain, twice}
 use Rattle.history.proofs.Holding.{empty-holding, holding-whole}
 use Rattle.history.proofs.StartStep.{cleared-none}
-use Rattle.history.proofs.ComputedOpen.{opened}
-use Rattle.history.proofs.ComputedLaws.{Plays, told, came, over, then, refused, joined, Uuids, Carried, carried}
-use Rattle.history.proofs.ComputedParts.{put}
-use Rattle.history.proofs.ComputedClient.{client-transmits, client-times, client-arrives}
-use Rattle.history.proofs.ComputedServer.{server-transmits, server-arrives}
-use Rattle.history.specs.World.{Posted}
-use Rattle.history.proofs.ComputedSides.{ClientSide, ServerSide, ofFirst, Books, world, held, holds, nothing, sends, clientIn, serverIn}
+use Rattle.runs.proofs.ComputedOpen.{opened}
+use Rattle.runs.proofs.ComputedLaws.{Plays, told, came, over, then, refused, joined, Uuids, Carried, carried}
+use Rattle.runs.proofs.ComputedParts.{put}
+use Rattle.runs.proofs.ComputedClient.{client-transmits, client-times, client-arrives}
+use Rattle.runs.proofs.ComputedServer.{server-transmits, server-arrives}
+use Rattle.history.specs.World.{SentPdu}
+use Rattle.runs.proofs.ComputedSides.{ClientSide, ServerSide, ofFirst, Books, world, held, holds, nothing, sends, clientIn, serverIn}
 
 uuids : Uuids activity asking
 uuids = record { activity-16 = refl; object-16 = refl; interface-16 = refl }
@@ -68,10 +68,10 @@ module _ (clientSlots serverSlots out : List ℕ) (clientRoom : length clientSlo
   u1-long = filled-length 0 secondReply clientSlots ∙ clientRoom
 
   -- The first n PDUs of all that the client has sent, and the server.
-  abbrev clientSent : ℕ → List Posted
+  abbrev clientSent : ℕ → List SentPdu
   clientSent n = take n (ofFirst (questionPdu 1 ∷ pingPdu 2 ∷ questionPdu 3 ∷ clientFackPdu ∷ []))
 
-  abbrev serverSent : ℕ → List Posted
+  abbrev serverSent : ℕ → List SentPdu
   serverSent n = take n (ofFirst (fackPdu 1 ∷ replyPdu firstReply ∷ nocallPdu ∷ fackPdu 3 ∷ replyPdu secondReply ∷ []))
 
   -- The client after each of its events.

@@ -7,14 +7,14 @@ use lib.ListN.{length, length-replicate}
 use Rattle.client_record.specs.declared.State.the-variants.{Complete}
 use Rattle.server_record.specs.declared.Idle.the-variants.{Spent, Repeatable}
 use Rattle.server_record.specs.declared.State.the-variants.{Idle}
 use Rattle.history.specs.World.{World}
 use Rattle.history.specs.Freshness.{Fresh}
 use Rattle.history.specs.Claim.{replyHandedUp}
-use Rattle.history.specs.Runs.{Story, Ran, before, lossy, twice, question, secondReply, exampleMessage, exampleReply, zeros}
-use Rattle.history.proofs.ComputedOpen.{opened}
-use Rattle.history.proofs.ComputedLaws.{Plays}
-use Rattle.history.proofs.ComputedLossy.{reply-whole as lossy-reply, plays-lossy}
-use Rattle.history.proofs.ComputedTwice.{reply-whole as twice-reply, plays-twice}
+use Rattle.runs.specs.Runs.{Story, Ran, before, lossy, twice, question, secondReply, exampleMessage, exampleReply, zeros}
+use Rattle.runs.proofs.ComputedOpen.{opened}
+use Rattle.runs.proofs.ComputedLaws.{Plays}
+use Rattle.runs.proofs.ComputedLossy.{reply-whole as lossy-reply, plays-lossy}
+use Rattle.runs.proofs.ComputedTwice.{reply-whole as twice-reply, plays-twice}
 
 -- The world before a run is fresh.
 before-fresh : (clientSlots serverSlots : List ℕ) → Fresh (before clientSlots serverSlots)
@@ -55,10 +55,10 @@ ran fresh plays told handed = record {
   fresh = fresh;
   fair = plays .fair;
   answers = plays .answers;
-  client-ends = ap (λ (v : World). v .client .state) (plays .ends);
-  server-ends = ap (λ (v : World). v .server .state) (plays .ends);
-  dispatched = ap (λ (v : World). v .dispatches) (plays .ends);
-  completed = ap (λ (v : World). v .completions) (plays .ends) ∙ told;
+  client-ends = ap (λ (v : World). v .client .machine .state) (plays .ends);
+  server-ends = ap (λ (v : World). v .server .machine .state) (plays .ends);
+  dispatched = ap (λ (v : World). v .books .dispatches) (plays .ends);
+  completed = ap (λ (v : World). v .books .completions) (plays .ends) ∙ told;
   hands-up = ap replyHandedUp (plays .ends) ∙ handed;
 }
 

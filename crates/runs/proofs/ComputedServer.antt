@@ -25,24 +25,24 @@ use Rattle.server.specs.Sending.{replyHeader, echoed, echoHeader, responseSent,
 use Rattle.server.specs.Machine.{outcomeOf, sending, transmitting, timing, planOf, acted, arriving}
 use Rattle.server.specs.HandUp.{handsUp}
 use Rattle.fragments.specs.Slots.{storing}
-use Rattle.history.specs.World.{Posted, World}
-use Rattle.history.specs.Events.{Own, ServerTransmit, ServerArrive, ServerTimer}
+use Rattle.history.specs.World.{SentPdu, World}
+use Rattle.history.specs.Events.{Own, ServerTransmit, ServerArrive, ServerTimer, OfClient, OfServer}
 use Rattle.history.specs.Steps.{standingAfter, sentAfter, dispatchesAfter, bytesLent, ownAfter, happens, step, answerTo}
-use Rattle.history.proofs.Network.{postedOf}
+use Rattle.history.proofs.Network.{pduOf}
 use Rattle.history.proofs.Invariant.{serverStep}
-use Rattle.history.proofs.ComputedLaws.{Makes, Uuids, posted, Carried}
+use Rattle.runs.proofs.ComputedLaws.{Makes, Uuids, posted, Carried}
 
 -- What the server sends, as it stands in the world: nothing, or one PDU; h is the header of the PDU answered.
-abbrev pub serverPdus : ℕ → Send → Server → Header → List ℕ → List Posted
+abbrev pub serverPdus : ℕ → Send → Server → Header → List ℕ → List SentPdu
 serverPdus o Nothing s h message = []
-serverPdus o (Response f) s h message = postedOf o (datagram (replyHeader 2 (flagsOf (s .outgoing .count) f) f s) (fragmentOf message f)) ∷ []
-serverPdus o (Fault status) s h message = postedOf o (datagram (replyHeader 3 0 0 s) (statusBytes status)) ∷ []
-serverPdus o Working s h message = postedOf o (datagram (echoHeader 4 0 s h) []) ∷ []
-serverPdus o Nocall s h message = postedOf o (datagram (echoHeader 5 0 s h) []) ∷ []
+serverPdus o (Response f) s h message = pduOf o (datagram (replyHeader 2 (flagsOf (s .outgoing .count) f) f s) (fragmentOf message f)) ∷ []
+serverPdus o (Fault status) s h message = pduOf o (datagram (replyHeader 3 0 0 s) (statusBytes status)) ∷ []
+serverPdus o Working s h message = pduOf o (datagram (echoHeader 4 0 s h) []) ∷ []
+serverPdus o Nocall s h message = pduOf o (datagram (echoHeader 5 0 s h) []) ∷ []
 serverPdus o (Fack serial) s h message =
-    postedOf o (datagram (echoHeader 9 (lastContiguous (contiguous (s .incoming))) s h) (fackBytes (fackFields serial (maskOf (s .incoming))))) ∷ []
+    pduOf o (datagram (echoHeader 9 (lastContiguous (contiguous (s .incoming))) s h) (fackBytes (fackFields serial (maskOf (s .incoming))))) ∷ []
 
-server-sent : (send : Send) (s : Server) (h : Header) (message out : List ℕ) (before : List Posted) (o : ℕ) → Uuids (s .activity) (s .call)
+server-sent : (send : Send) (s : Server) (h : Header) (message out : List ℕ) (before : List SentPdu) (o : ℕ) → Uuids (s .activity) (s .call)
     → Uuids (s .activity) (echoed h) → length out ≡ 1472
     → sentAfter before (sentOut send s h message out .sent) (sentOut send s h message out .out) o ≡ before ++ serverPdus o send s h message
 unfolding sentOut responseSent faultSent emptySent fackSent replyHeader echoHeader sentAfter fackBytes
@@ -59,17 +59,17 @@ server-sent (Fack serial) s h message out before o z y room =
 -- The world after a plan of the server.
 abbrev pub serverLeft : World → Plan → Header → List ℕ → List ℕ → ℕ → ℕ → World
 serverLeft w plan h message slots ordinal standing = record {
-  client = w .client;
+  client = w .client .machine;
   server = plan .server;
-  clientSlots = w .clientSlots;
+  clientSlots = w .client .slots;
   serverSlots = slots;
-  clientSent = w .clientSent;
-  serverSent = w .serverSent ++ serverPdus ordinal (plan .send) (plan .server) h message;
+  clientSent = w .client .sent;
+  serverSent = w .server .sent ++ serverPdus ordinal (plan .send) (plan .server) h message;
   standing = standing;
-  starts = w .starts;
-  dispatches = dispatchesAfter (w .dispatches) (plan .notice) ordinal (handsUp (plan .server) slots);
-  replies = w .replies;
-  completions = w .completions;
+  starts = w .books .starts;
+  dispatches = dispatchesAfter (w .books .dispatches) (plan .notice) ordinal (handsUp (plan .server) slots);
+  replies = w .books .replies;
+  completions = w .books .completions;
 }
 
 abbrev serverDone : World → Plan → Header → List ℕ → List ℕ → List ℕ → ℕ → ℕ → World
@@ -80,17 +80,17 @@ server-left : (w : World) (plan : Plan) (h : Header) (message out slots : List �
     → serverDone w plan h message out slots ordinal standing ≡ serverLeft w plan h message slots ordinal standing
 unfolding sending outcomeOf
 server-left w plan h message out slots ordinal standing z y room = λ i. record {
-  client = w .client;
+  client = w .client .machine;
   server = plan .server;
-  clientSlots = w .clientSlots;
+  clientSlots = w .client .slots;
   serverSlots = slots;
-  clientSent = w .clientSent;
-  serverSent = server-sent (plan .send) (plan .server) h message out (w .serverSent) ordinal z y room i;
+  clientSent = w .client .sent;
+  serverSent = server-sent (plan .send) (plan .server) h message out (w .server .sent) ordinal z y room i;
   standing = standing;
-  starts = w .starts;
-  dispatches = dispatchesAfter (w .dispatches) (plan .notice) ordinal (handsUp (plan .server) slots);
-  replies = w .replies;
-  completions = w .completions;
+  starts = w .books .starts;
+  dispatches = dispatchesAfter (w .books .dispatches) (plan .notice) ordinal (handsUp (plan .server) slots);
+  replies = w .books .replies;
+  completions = w .books .completions;
 }
 
 -- The plan of a transmit of n bytes, of a timer event, and of an arriving PDU.
@@ -106,50 +106,50 @@ serverArrival s h body = planOf s (lentGround 44544 1472) (accepted h) body
 module _ (w : World) (out : List ℕ) (room : length out ≡ 1472) where
   -- A transmit, of a message of n bytes;
   pub server-transmits : (message : List ℕ) (n : ℕ) → length message ≡ n
-      → Uuids (serverTransmit (w .server) n .server .activity) (serverTransmit (w .server) n .server .call)
-      → Makes w (ServerTransmit message out) (numberOf (serverTransmit (w .server) n .answer))
-      (serverLeft w (serverTransmit (w .server) n) blank message (w .serverSlots) (w .standing) (w .standing))
+      → Uuids (serverTransmit (w .server .machine) n .server .activity) (serverTransmit (w .server .machine) n .server .call)
+      → Makes w (ServerTransmit message out) (numberOf (serverTransmit (w .server .machine) n .answer))
+      (serverLeft w (serverTransmit (w .server .machine) n) blank message (w .server .slots) (w .books .standing) (w .books .standing))
   unfolding step answerTo happens transmitting sending outcomeOf blank echoed
   server-transmits message n whole z = record {
-    answered = λ i. numberOf (transmitPlan (transmitGround (w .server) (whole i) (room i)) (w .server) .answer);
+    answered = λ i. numberOf (transmitPlan (transmitGround (w .server .machine) (whole i) (room i)) (w .server .machine) .answer);
     leaves =
-        (λ i. serverDone w (transmitPlan (transmitGround (w .server) (whole i) (room i)) (w .server)) blank message out (w .serverSlots) (w .standing) (w .standing))
-        ∙ server-left w (serverTransmit (w .server) n) blank message out (w .serverSlots) (w .standing) (w .standing) z
+        (λ i. serverDone w (transmitPlan (transmitGround (w .server .machine) (whole i) (room i)) (w .server .machine)) blank message out (w .server .slots) (w .books .standing) (w .books .standing))
+        ∙ server-left w (serverTransmit (w .server .machine) n) blank message out (w .server .slots) (w .books .standing) (w .books .standing) z
         (record { activity-16 = z .activity-16; object-16 = refl; interface-16 = refl }) room;
   }
 
   -- a timer event;
-  pub server-times : (ticket : ℕ) → Uuids (serverTime (w .server) ticket .server .activity) (serverTime (w .server) ticket .server .call)
-      → Makes w (ServerTimer ticket out) (numberOf (serverTime (w .server) ticket .answer))
-      (serverLeft w (serverTime (w .server) ticket) blank [] (w .serverSlots) (w .standing) (w .standing))
+  pub server-times : (ticket : ℕ) → Uuids (serverTime (w .server .machine) ticket .server .activity) (serverTime (w .server .machine) ticket .server .call)
+      → Makes w (ServerTimer ticket out) (numberOf (serverTime (w .server .machine) ticket .answer))
+      (serverLeft w (serverTime (w .server .machine) ticket) blank [] (w .server .slots) (w .books .standing) (w .books .standing))
   unfolding step answerTo happens timing sending outcomeOf blank echoed
   server-times ticket z = record {
-    answered = λ i. numberOf (timerPlan (timerGround (w .server) ticket (room i)) (w .server) .answer);
+    answered = λ i. numberOf (timerPlan (timerGround (w .server .machine) ticket (room i)) (w .server .machine) .answer);
     leaves =
-        (λ i. serverDone w (timerPlan (timerGround (w .server) ticket (room i)) (w .server)) blank [] out (w .serverSlots) (w .standing) (w .standing))
-        ∙ server-left w (serverTime (w .server) ticket) blank [] out (w .serverSlots) (w .standing) (w .standing) z
+        (λ i. serverDone w (timerPlan (timerGround (w .server .machine) ticket (room i)) (w .server .machine)) blank [] out (w .server .slots) (w .books .standing) (w .books .standing))
+        ∙ server-left w (serverTime (w .server .machine) ticket) blank [] out (w .server .slots) (w .books .standing) (w .books .standing) z
         (record { activity-16 = z .activity-16; object-16 = refl; interface-16 = refl }) room;
   }
 
   -- a PDU that arrives.
-  pub server-arrives : {h : Header} {body : List ℕ} {o : ℕ} → Carried h body → length (w .serverSlots) ≡ 44544
-      → Uuids (serverArrival (w .server) h body .server .activity) (serverArrival (w .server) h body .server .call)
-      → Makes w (ServerArrive (postedOf o (datagram h body)) Own out) (numberOf (serverArrival (w .server) h body .answer))
-      (serverLeft w (serverArrival (w .server) h body) h [] (storing (serverArrival (w .server) h body .put) (h .fragment) body (w .serverSlots)) o
-      (standingAfter (w .standing) (serverArrival (w .server) h body .answer) (h .kind) o))
+  pub server-arrives : {h : Header} {body : List ℕ} {o : ℕ} → Carried h body → length (w .server .slots) ≡ 44544
+      → Uuids (serverArrival (w .server .machine) h body .server .activity) (serverArrival (w .server .machine) h body .server .call)
+      → Makes w (ServerArrive (pduOf o (datagram h body)) Own out) (numberOf (serverArrival (w .server .machine) h body .answer))
+      (serverLeft w (serverArrival (w .server .machine) h body) h [] (storing (serverArrival (w .server .machine) h body .put) (h .fragment) body (w .server .slots)) o
+      (standingAfter (w .books .standing) (serverArrival (w .server .machine) h body .answer) (h .kind) o))
   unfolding step answerTo happens arriving acted sending outcomeOf bytesLent ownAfter echoed
   server-arrives {h} {body} {o} c whole z =
       let read = read-written h body (c .fits) (c .known) (c .plain) (c .short) in
       let rest = body-written h body (c .fits .sized) in
       let sized = c .fits .sized in
       record {
-        answered = λ i. numberOf (planOf (w .server) (lentGround (whole i) (room i)) (read i) (rest i) .answer);
+        answered = λ i. numberOf (planOf (w .server .machine) (lentGround (whole i) (room i)) (read i) (rest i) .answer);
         leaves =
-            (λ i. serverDone w (planOf (w .server) (lentGround (whole i) (room i)) (read i) (rest i)) (read i .header) [] out
-            (storing (planOf (w .server) (lentGround (whole i) (room i)) (read i) (rest i) .put) (read i .header .fragment) (rest i) (w .serverSlots))
-            o (standingAfter (w .standing) (planOf (w .server) (lentGround (whole i) (room i)) (read i) (rest i) .answer) (read i .header .kind) o))
-            ∙ server-left w (serverArrival (w .server) h body) h [] out
-            (storing (serverArrival (w .server) h body .put) (h .fragment) body (w .serverSlots)) o
-            (standingAfter (w .standing) (serverArrival (w .server) h body .answer) (h .kind) o) z
+            (λ i. serverDone w (planOf (w .server .machine) (lentGround (whole i) (room i)) (read i) (rest i)) (read i .header) [] out
+            (storing (planOf (w .server .machine) (lentGround (whole i) (room i)) (read i) (rest i) .put) (read i .header .fragment) (rest i) (w .server .slots))
+            o (standingAfter (w .books .standing) (planOf (w .server .machine) (lentGround (whole i) (room i)) (read i) (rest i) .answer) (read i .header .kind) o))
+            ∙ server-left w (serverArrival (w .server .machine) h body) h [] out
+            (storing (serverArrival (w .server .machine) h body .put) (h .fragment) body (w .server .slots)) o
+            (standingAfter (w .books .standing) (serverArrival (w .server .machine) h body .answer) (h .kind) o) z
             (record { activity-16 = z .activity-16; object-16 = sized .object; interface-16 = sized .interface }) room;
       }
