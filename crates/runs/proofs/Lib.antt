@@ -1,10 +1,10 @@
 -- Both runs are computed to their end.
-pub mod ComputedOpen
-pub mod ComputedLaws
-pub mod ComputedParts
-pub mod ComputedClient
-pub mod ComputedServer
-pub mod ComputedSides
-pub mod ComputedLossy
-pub mod ComputedTwice
-pub mod Computed
+pub mod Opened
+pub mod Stories
+pub mod Fragments
+pub mod ClientTurns
+pub mod ServerTurns
+pub mod Sides
+pub mod Lossy
+pub mod Twice
+pub mod RunsHold

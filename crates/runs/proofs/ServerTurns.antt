@@ -4,6 +4,7 @@ use mathlib.Core.List.{List, [], _∷_, _++_, append-nil}
 use mathlib.Core.Path.{_≡_, refl, sym, _∙_}
 use native.Mathlib.Omega.{arith}
 use lib.ListN.{length}
+use Rattle.answers.specs.declared.Answer.{Answer}
 use Rattle.answers.specs.Number.{numberOf}
 use Rattle.pdu.specs.declared.Header.{Header}
 use Rattle.pdu.specs.Header.{datagram, blank}
@@ -25,12 +26,13 @@ use Rattle.server.specs.Sending.{replyHeader, echoed, echoHeader, responseSent,
 use Rattle.server.specs.Machine.{outcomeOf, sending, transmitting, timing, planOf, acted, arriving}
 use Rattle.server.specs.HandUp.{handsUp}
 use Rattle.fragments.specs.Slots.{storing}
+use Rattle.calls.specs.declared.Sent.the-variants.{Nothing as Unsent}
 use Rattle.history.specs.World.{SentPdu, World}
 use Rattle.history.specs.Events.{Own, ServerTransmit, ServerArrive, ServerTimer, OfClient, OfServer}
-use Rattle.history.specs.Steps.{standingAfter, sentAfter, dispatchesAfter, bytesLent, ownAfter, happens, step, answerTo}
+use Rattle.history.specs.Steps.{standingAfter, sentAfter, CallOf, ofRecord, bytesLent, ownAfter, happens, step, answerTo}
 use Rattle.history.proofs.Network.{pduOf}
 use Rattle.history.proofs.Invariant.{serverStep}
-use Rattle.runs.proofs.ComputedLaws.{Makes, Uuids, posted, Carried}
+use Rattle.runs.proofs.Stories.{Makes, Uuids, posted, Carried}
 
 -- What the server sends, as it stands in the world: nothing, or one PDU; h is the header of the PDU answered.
 abbrev pub serverPdus : ℕ → Send → Server → Header → List ℕ → List SentPdu
@@ -57,40 +59,34 @@ server-sent (Fack serial) s h message out before o z y room =
     posted 9 _ _ _ _ _ _ _ (fackBytes (fackFields serial (maskOf (s .incoming)))) out before o (omega arith) (omega arith) y room
 
 -- The world after a plan of the server.
-abbrev pub serverLeft : World → Plan → Header → List ℕ → List ℕ → ℕ → ℕ → World
-serverLeft w plan h message slots ordinal standing = record {
-  client = w .client .machine;
-  server = plan .server;
-  clientSlots = w .client .slots;
-  serverSlots = slots;
-  clientSent = w .client .sent;
-  serverSent = w .server .sent ++ serverPdus ordinal (plan .send) (plan .server) h message;
-  standing = standing;
-  starts = w .books .starts;
-  dispatches = dispatchesAfter (w .books .dispatches) (plan .notice) ordinal (handsUp (plan .server) slots);
-  replies = w .books .replies;
-  completions = w .books .completions;
+abbrev pub serverLeft : World → Plan → Header → List ℕ → List ℕ → CallOf → World
+serverLeft w plan h message slots of = record {
+  client = w .client;
+  server =
+      record {
+        machine = plan .server;
+        slots = slots;
+        sent = w .server .sent ++ serverPdus (of .ordinal) (plan .send) (plan .server) h message;
+      };
+  books = serverStep w (outcomeOf plan Unsent) [] slots of .books;
 }
 
-abbrev serverDone : World → Plan → Header → List ℕ → List ℕ → List ℕ → ℕ → ℕ → World
-serverDone w plan h message out slots ordinal standing = serverStep w (sending plan h message out .outcome) (sending plan h message out .out) slots ordinal standing
+abbrev serverDone : World → Plan → Header → List ℕ → List ℕ → List ℕ → CallOf → World
+serverDone w plan h message out slots of = serverStep w (sending plan h message out .outcome) (sending plan h message out .out) slots of
 
-server-left : (w : World) (plan : Plan) (h : Header) (message out slots : List ℕ) (ordinal standing : ℕ) → Uuids (plan .server .activity) (plan .server .call)
+server-left : (w : World) (plan : Plan) (h : Header) (message out slots : List ℕ) (of : CallOf) → Uuids (plan .server .activity) (plan .server .call)
     → Uuids (plan .server .activity) (echoed h) → length out ≡ 1472
-    → serverDone w plan h message out slots ordinal standing ≡ serverLeft w plan h message slots ordinal standing
+    → serverDone w plan h message out slots of ≡ serverLeft w plan h message slots of
 unfolding sending outcomeOf
-server-left w plan h message out slots ordinal standing z y room = λ i. record {
-  client = w .client .machine;
-  server = plan .server;
-  clientSlots = w .client .slots;
-  serverSlots = slots;
-  clientSent = w .client .sent;
-  serverSent = server-sent (plan .send) (plan .server) h message out (w .server .sent) ordinal z y room i;
-  standing = standing;
-  starts = w .books .starts;
-  dispatches = dispatchesAfter (w .books .dispatches) (plan .notice) ordinal (handsUp (plan .server) slots);
-  replies = w .books .replies;
-  completions = w .books .completions;
+server-left w plan h message out slots of z y room = λ i. record {
+  client = w .client;
+  server =
+      record {
+        machine = plan .server;
+        slots = slots;
+        sent = server-sent (plan .send) (plan .server) h message out (w .server .sent) (of .ordinal) z y room i;
+      };
+  books = serverStep w (outcomeOf plan Unsent) [] slots of .books;
 }
 
 -- The plan of a transmit of n bytes, of a timer event, and of an arriving PDU.
@@ -103,40 +99,44 @@ serverTime s ticket = timerPlan (timerGround s ticket 1472) s
 abbrev pub serverArrival : Server → Header → List ℕ → Plan
 serverArrival s h body = planOf s (lentGround 44544 1472) (accepted h) body
 
+-- What the arrival of a PDU with that header is of.
+abbrev ofHeader : World → ℕ → Header → Answer → CallOf
+ofHeader w o h answer = record { ordinal = o; number = h .number; standing = standingAfter (w .books .standing) answer (h .kind) o }
+
 module _ (w : World) (out : List ℕ) (room : length out ≡ 1472) where
   -- A transmit, of a message of n bytes;
   pub server-transmits : (message : List ℕ) (n : ℕ) → length message ≡ n
       → Uuids (serverTransmit (w .server .machine) n .server .activity) (serverTransmit (w .server .machine) n .server .call)
-      → Makes w (ServerTransmit message out) (numberOf (serverTransmit (w .server .machine) n .answer))
-      (serverLeft w (serverTransmit (w .server .machine) n) blank message (w .server .slots) (w .books .standing) (w .books .standing))
+      → Makes w (OfServer (ServerTransmit message out)) (numberOf (serverTransmit (w .server .machine) n .answer))
+      (serverLeft w (serverTransmit (w .server .machine) n) blank message (w .server .slots) (ofRecord w))
   unfolding step answerTo happens transmitting sending outcomeOf blank echoed
   server-transmits message n whole z = record {
     answered = λ i. numberOf (transmitPlan (transmitGround (w .server .machine) (whole i) (room i)) (w .server .machine) .answer);
     leaves =
-        (λ i. serverDone w (transmitPlan (transmitGround (w .server .machine) (whole i) (room i)) (w .server .machine)) blank message out (w .server .slots) (w .books .standing) (w .books .standing))
-        ∙ server-left w (serverTransmit (w .server .machine) n) blank message out (w .server .slots) (w .books .standing) (w .books .standing) z
+        (λ i. serverDone w (transmitPlan (transmitGround (w .server .machine) (whole i) (room i)) (w .server .machine)) blank message out (w .server .slots) (ofRecord w))
+        ∙ server-left w (serverTransmit (w .server .machine) n) blank message out (w .server .slots) (ofRecord w) z
         (record { activity-16 = z .activity-16; object-16 = refl; interface-16 = refl }) room;
   }
 
   -- a timer event;
   pub server-times : (ticket : ℕ) → Uuids (serverTime (w .server .machine) ticket .server .activity) (serverTime (w .server .machine) ticket .server .call)
-      → Makes w (ServerTimer ticket out) (numberOf (serverTime (w .server .machine) ticket .answer))
-      (serverLeft w (serverTime (w .server .machine) ticket) blank [] (w .server .slots) (w .books .standing) (w .books .standing))
+      → Makes w (OfServer (ServerTimer ticket out)) (numberOf (serverTime (w .server .machine) ticket .answer))
+      (serverLeft w (serverTime (w .server .machine) ticket) blank [] (w .server .slots) (ofRecord w))
   unfolding step answerTo happens timing sending outcomeOf blank echoed
   server-times ticket z = record {
     answered = λ i. numberOf (timerPlan (timerGround (w .server .machine) ticket (room i)) (w .server .machine) .answer);
     leaves =
-        (λ i. serverDone w (timerPlan (timerGround (w .server .machine) ticket (room i)) (w .server .machine)) blank [] out (w .server .slots) (w .books .standing) (w .books .standing))
-        ∙ server-left w (serverTime (w .server .machine) ticket) blank [] out (w .server .slots) (w .books .standing) (w .books .standing) z
+        (λ i. serverDone w (timerPlan (timerGround (w .server .machine) ticket (room i)) (w .server .machine)) blank [] out (w .server .slots) (ofRecord w))
+        ∙ server-left w (serverTime (w .server .machine) ticket) blank [] out (w .server .slots) (ofRecord w) z
         (record { activity-16 = z .activity-16; object-16 = refl; interface-16 = refl }) room;
   }
 
   -- a PDU that arrives.
   pub server-arrives : {h : Header} {body : List ℕ} {o : ℕ} → Carried h body → length (w .server .slots) ≡ 44544
       → Uuids (serverArrival (w .server .machine) h body .server .activity) (serverArrival (w .server .machine) h body .server .call)
-      → Makes w (ServerArrive (pduOf o (datagram h body)) Own out) (numberOf (serverArrival (w .server .machine) h body .answer))
-      (serverLeft w (serverArrival (w .server .machine) h body) h [] (storing (serverArrival (w .server .machine) h body .put) (h .fragment) body (w .server .slots)) o
-      (standingAfter (w .books .standing) (serverArrival (w .server .machine) h body .answer) (h .kind) o))
+      → Makes w (OfServer (ServerArrive (pduOf o (datagram h body)) Own out)) (numberOf (serverArrival (w .server .machine) h body .answer))
+      (serverLeft w (serverArrival (w .server .machine) h body) h [] (storing (serverArrival (w .server .machine) h body .put) (h .fragment) body (w .server .slots))
+      (ofHeader w o h (serverArrival (w .server .machine) h body .answer)))
   unfolding step answerTo happens arriving acted sending outcomeOf bytesLent ownAfter echoed
   server-arrives {h} {body} {o} c whole z =
       let read = read-written h body (c .fits) (c .known) (c .plain) (c .short) in
@@ -147,9 +147,9 @@ module _ (w : World) (out : List ℕ) (room : length out ≡ 1472) where
         leaves =
             (λ i. serverDone w (planOf (w .server .machine) (lentGround (whole i) (room i)) (read i) (rest i)) (read i .header) [] out
             (storing (planOf (w .server .machine) (lentGround (whole i) (room i)) (read i) (rest i) .put) (read i .header .fragment) (rest i) (w .server .slots))
-            o (standingAfter (w .books .standing) (planOf (w .server .machine) (lentGround (whole i) (room i)) (read i) (rest i) .answer) (read i .header .kind) o))
+            (ofHeader w o (read i .header) (planOf (w .server .machine) (lentGround (whole i) (room i)) (read i) (rest i) .answer)))
             ∙ server-left w (serverArrival (w .server .machine) h body) h [] out
-            (storing (serverArrival (w .server .machine) h body .put) (h .fragment) body (w .server .slots)) o
-            (standingAfter (w .books .standing) (serverArrival (w .server .machine) h body .answer) (h .kind) o) z
+            (storing (serverArrival (w .server .machine) h body .put) (h .fragment) body (w .server .slots))
+            (ofHeader w o h (serverArrival (w .server .machine) h body .answer)) z
             (record { activity-16 = z .activity-16; object-16 = sized .object; interface-16 = sized .interface }) room;
       }

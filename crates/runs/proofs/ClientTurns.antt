@@ -25,13 +25,14 @@ use Rattle.client_steps.specs.declared.Plan.{Plan}
 use Rattle.client_steps.specs.Rows.{transmitPlan, timerPlan}
 use Rattle.client.specs.Sending.{pduHeader, requestSent, emptySent, fackSent, sentOut}
 use Rattle.client.specs.Machine.{outcomeOf, sending, transmitting, timing, planOf, acted, arriving}
+use Rattle.calls.specs.declared.Sent.the-variants.{Nothing as Unsent}
 use Rattle.history.specs.World.{SentPdu, World}
 use Rattle.history.specs.Events.{Own, ClientTransmit, ClientArrive, ClientTimer, OfClient, OfServer}
-use Rattle.history.specs.Steps.{lastStart, sentAfter, completionsAfter, bytesLent, ownAfter, happens, step, answerTo}
+use Rattle.history.specs.Steps.{lastStart, sentAfter, bytesLent, ownAfter, happens, step, answerTo}
 use Rattle.client.specs.HandUp.{handsUp}
 use Rattle.history.proofs.Network.{pduOf}
 use Rattle.history.proofs.Invariant.{clientStep}
-use Rattle.runs.proofs.ComputedLaws.{Makes, Uuids, posted, Carried}
+use Rattle.runs.proofs.Stories.{Makes, Uuids, posted, Carried}
 
 -- What the client sends, as it stands in the world: nothing, or one PDU.
 abbrev pub clientPdus : ℕ → Send → Client → List ℕ → List SentPdu
@@ -56,17 +57,14 @@ client-sent (Fack serial) c message out before o z room =
 -- The world after a plan of the client.
 abbrev pub clientLeft : World → Plan → List ℕ → List ℕ → World
 clientLeft w plan message slots = record {
-  client = plan .client;
-  server = w .server .machine;
-  clientSlots = slots;
-  serverSlots = w .server .slots;
-  clientSent = w .client .sent ++ clientPdus (lastStart (w .books .starts)) (plan .send) (plan .client) message;
-  serverSent = w .server .sent;
-  standing = w .books .standing;
-  starts = w .books .starts;
-  dispatches = w .books .dispatches;
-  replies = w .books .replies;
-  completions = completionsAfter (w .books .completions) (plan .notice) (lastStart (w .books .starts)) (handsUp (plan .client) slots);
+  client =
+      record {
+        machine = plan .client;
+        slots = slots;
+        sent = w .client .sent ++ clientPdus (lastStart (w .books .starts)) (plan .send) (plan .client) message;
+      };
+  server = w .server;
+  books = clientStep w (outcomeOf plan Unsent) [] slots .books;
 }
 
 abbrev clientDone : World → Plan → List ℕ → List ℕ → List ℕ → World
@@ -76,17 +74,14 @@ client-left : (w : World) (plan : Plan) (message out slots : List ℕ) → Uuids
     → clientDone w plan message out slots ≡ clientLeft w plan message slots
 unfolding sending outcomeOf
 client-left w plan message out slots z room = λ i. record {
-  client = plan .client;
-  server = w .server .machine;
-  clientSlots = slots;
-  serverSlots = w .server .slots;
-  clientSent = client-sent (plan .send) (plan .client) message out (w .client .sent) (lastStart (w .books .starts)) z room i;
-  serverSent = w .server .sent;
-  standing = w .books .standing;
-  starts = w .books .starts;
-  dispatches = w .books .dispatches;
-  replies = w .books .replies;
-  completions = completionsAfter (w .books .completions) (plan .notice) (lastStart (w .books .starts)) (handsUp (plan .client) slots);
+  client =
+      record {
+        machine = plan .client;
+        slots = slots;
+        sent = client-sent (plan .send) (plan .client) message out (w .client .sent) (lastStart (w .books .starts)) z room i;
+      };
+  server = w .server;
+  books = clientStep w (outcomeOf plan Unsent) [] slots .books;
 }
 
 -- The plan of a transmit of n bytes, of a timer event, and of an arriving PDU.
@@ -103,7 +98,7 @@ module _ (w : World) (out : List ℕ) (room : length out ≡ 1472) where
   -- A transmit, of a message of n bytes;
   pub client-transmits : (message : List ℕ) (n : ℕ) → length message ≡ n
       → Uuids (clientTransmit (w .client .machine) n .client .activity) (clientTransmit (w .client .machine) n .client .call)
-      → Makes w (ClientTransmit message out) (numberOf (clientTransmit (w .client .machine) n .answer))
+      → Makes w (OfClient (ClientTransmit message out)) (numberOf (clientTransmit (w .client .machine) n .answer))
       (clientLeft w (clientTransmit (w .client .machine) n) message (w .client .slots))
   unfolding step answerTo happens transmitting sending outcomeOf
   client-transmits message n whole z = record {
@@ -116,7 +111,7 @@ module _ (w : World) (out : List ℕ) (room : length out ≡ 1472) where
   -- a timer event;
   pub client-times : (kind : TimerKind) (ticket : ℕ)
       → Uuids (clientTime (w .client .machine) kind ticket .client .activity) (clientTime (w .client .machine) kind ticket .client .call)
-      → Makes w (ClientTimer kind ticket out) (numberOf (clientTime (w .client .machine) kind ticket .answer))
+      → Makes w (OfClient (ClientTimer kind ticket out)) (numberOf (clientTime (w .client .machine) kind ticket .answer))
       (clientLeft w (clientTime (w .client .machine) kind ticket) [] (w .client .slots))
   unfolding step answerTo happens timing sending outcomeOf
   client-times kind ticket z = record {
@@ -129,7 +124,7 @@ module _ (w : World) (out : List ℕ) (room : length out ≡ 1472) where
   -- a PDU that arrives.
   pub client-arrives : {h : Header} {body : List ℕ} {o : ℕ} → Carried h body → length (w .client .slots) ≡ 44544
       → Uuids (clientArrival (w .client .machine) h body .client .activity) (clientArrival (w .client .machine) h body .client .call)
-      → Makes w (ClientArrive (pduOf o (datagram h body)) Own out) (numberOf (clientArrival (w .client .machine) h body .answer))
+      → Makes w (OfClient (ClientArrive (pduOf o (datagram h body)) Own out)) (numberOf (clientArrival (w .client .machine) h body .answer))
       (clientLeft w (clientArrival (w .client .machine) h body) []
       (storing (clientArrival (w .client .machine) h body .put) (h .fragment) body (w .client .slots)))
   unfolding step answerTo happens arriving acted sending outcomeOf bytesLent ownAfter
