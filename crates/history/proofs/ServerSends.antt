@@ -21,7 +21,7 @@ use Rattle.incoming.specs.Slots.{contiguous}
 use Rattle.outgoing.specs.Message.{fragments, fragmentOf, flagsOf}
 use Rattle.outgoing.specs.Sending.{nextSerial, afterSend, hasMessage}
 use Rattle.outgoing.proofs.OutgoingLaws.{fragment-most}
-use Rattle.outgoing.proofs.SendLaws.{message-count-range}
+use Rattle.outgoing.proofs.SendLaws.{message-count-told, message-count-range}
 use Rattle.pdu.specs.declared.Header.{Header}
 use Rattle.pdu.specs.Header.{datagram}
 use Rattle.writer.proofs.Returns.{Sized}
@@ -51,7 +51,7 @@ use Rattle.history.specs.World.{Started, Replied, SentPdu, World}
 use Rattle.history.specs.Steps.{sentAfter, dispatchesAfter, CallOf, dispatchOf}
 use Rattle.history.specs.Fairness.{OfLastReply, Typed}
 use Rattle.history.proofs.ListLaws.{all-grown}
-use Rattle.history.proofs.Holding.{PartOf, Single, flags-last}
+use Rattle.history.proofs.Holding.{Short, PartOf, Single, flags-last}
 use Rattle.history.proofs.Network.{Response, Known, pduOf, other-known, same-known, posted-sent, call-sized, call-fits}
 use Rattle.history.proofs.Invariant.{CalledStart, CurrentReply, ServerInv, IsResponse, Inv, serverStep}
 use Rattle.history.proofs.ServerSteps.{GoesOn}
@@ -92,7 +92,7 @@ module _ (before : List SentPdu) (P : ℕ → Header → List ℕ → Type 0) (o
     (activity : length (s .activity) ≡ 16) (object : length (h .object) ≡ 16) (interface : length (h .interface) ≡ 16)
     (known : (d : SentPdu) → In d before → Known IsResponse P d) where
   other-sent : (header : Header) (body : List ℕ) → (IsResponse (header .kind) → ⊥) → Sized header → header .kind ≤ 10 → header .authentication ≡ 0
-      → length body ≤ 1392 → (d : SentPdu)
+      → Short body → (d : SentPdu)
       → In d (sentAfter before (posting header body out .sent) (posting header body out .out) o) → Known IsResponse P d
   other-sent header body other sized small plain short =
       subst (λ (sent : List SentPdu). (d : SentPdu) → In d sent → Known IsResponse P d)
@@ -134,10 +134,7 @@ module _ (s : Server) (standing : ℕ) (starts : List Started) (replies : List R
 
   -- The record's count is that of the reply,
   count-is : s .outgoing .count ≡ fragments (length (now .reply .message))
-  unfolding hasMessage
-  count-is =
-      eqb-true (s .outgoing .count) (fragments (s .outgoing .length)) (both-true (leb (s .outgoing .length) 44544) _ (out-is .0) .1)
-      ∙ ap fragments (sym (now .size))
+  count-is = message-count-told (s .outgoing) (out-is .0) ∙ ap fragments (sym (now .size))
 
   -- so its next fragment is one of it,
   part-sent : PartOf (now .reply .message) (flagsOf (s .outgoing .count) (s .outgoing .sent)) (s .outgoing .sent) (fragmentOf message (s .outgoing .sent))
