@@ -51,7 +51,7 @@ use Rattle.history.proofs.Ordinals.{equal-start}
 use Rattle.history.proofs.More.{current-on}
 use Rattle.history.proofs.Invariant.{ClientHolds, nothing, fragments-of, ClientInv, Inv, clientStep}
 use Rattle.history.proofs.ClientSteps.{GoesOn, goes-on, failed-goes-on, fack-goes-on, working-goes-on, nocall-goes-on}
-use Rattle.history.proofs.ClientSends.{asks, others-sent, planned, none-told}
+use Rattle.history.proofs.ClientSends.{asks, others-known, planned, none-told}
 use Rattle.history.proofs.ListLaws.{tellsLast, completed-more}
 use Rattle.client.specs.HandUp.{handsUp}
 use Rattle.client.proofs.Growing.{hands-joined}
@@ -303,9 +303,8 @@ client-arrive-inv w p out inv done sent =
     (sym pass)
     (planned w (arrivalRow event c (r .header) n status) [] out
     (storing (arrivalRow event c (r .header) n status .put) (r .header .fragment) body (w .client .slots)) inv next
-    (completed-known w inv (arrivalRow event c (r .header) n status .client)
+    (still event c (r .header) n status begun) (buffers .1) (completed-known w inv (arrivalRow event c (r .header) n status .client)
     (storing (arrivalRow event c (r .header) n status .put) (r .header .fragment) body (w .client .slots)) next (arrivalRow event c (r .header) n status .notice)
     (row-tells event c (r .header) n status))
-    (others-sent (w .client .sent) (Request (w .books .starts)) (lastStart (w .books .starts)) (arrivalRow event c (r .header) n status .client) out (buffers .1) (next .activity)
-    (next .current (still event c (r .header) n status begun) .typed) (inv .requests) (arrivalRow event c (r .header) n status .send) []
-    (row-asks-none event c (r .header) n status)))
+    (others-known (Request (w .books .starts)) (lastStart (w .books .starts)) (arrivalRow event c (r .header) n status .send)
+    (arrivalRow event c (r .header) n status .client) [] (row-asks-none event c (r .header) n status)))

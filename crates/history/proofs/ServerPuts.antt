@@ -33,16 +33,17 @@ use Rattle.server_arrivals.specs.Rows.{callOf, begun, withIncoming, putState, p
 use Rattle.server_arrivals.proofs.ArrivalLaws.{put-sound as put-plan-sound}
 use Rattle.server.specs.HandUp.{handsUp}
 use Rattle.server.specs.Machine.{outcomeOf, sending}
+use Rattle.server_steps.specs.declared.Send.{Send}
 use Rattle.history.specs.Lists.{In, andThen}
 use Rattle.history.specs.World.{bears, Started, Dispatched, Replied, World}
 use Rattle.history.specs.Steps.{dispatchesAfter, CallOf, dispatchOf}
 use Rattle.history.specs.Claim.{times}
 use Rattle.history.proofs.ListLaws.{within-grown, in-added, all-grown, last-dispatched, times-same, times-other, times-none}
 use Rattle.history.proofs.Holding.{Buffer, Short, CanPut, cleared-empty, PartOf, Holding, Single, empty-holding, put-holding, put-sound, put-slotted, holding-whole}
-use Rattle.history.proofs.Network.{Request, Response}
+use Rattle.history.proofs.Network.{Request, Response, Known}
 use Rattle.history.proofs.More.{more-dispatches, called-on}
-use Rattle.history.proofs.Invariant.{Collecting, unanswered, NewTo, new-on, ServerInv, CallInv, Inv, serverStep}
-use Rattle.history.proofs.ServerSends.{answers, ofCall, others-sent}
+use Rattle.history.proofs.Invariant.{Collecting, unanswered, NewTo, new-on, ServerInv, CallInv, IsResponse, Inv, serverStep}
+use Rattle.history.proofs.ServerSends.{answers, ofCall, pdu-uuids, sends-known, others-known}
 
 -- A record that has begun keeps its rules.
 begun-sound : (s : Server) (h : Header) → sound (begun s h) ≡ true
@@ -307,11 +308,15 @@ put-inv w inv s o server state h body request short can out room =
       requests = inv .requests;
       completed = inv .completed;
       responses =
-          others-sent (w .server .sent) (Response (w .books .replies)) o (putServer-of (complete m)) h out room (known .0 .activity) (request .sized .object)
-          (request .sized .interface) (inv .responses) (fackFor (wantsFack (h .flags1)) (h .serial)) [] (fack-sends (wantsFack (h .flags1)) (h .serial) .0)
-          (λ e. absurd (false≢true (sym (fack-sends (wantsFack (h .flags1)) (h .serial) .1) ∙ e)));
+          sends-known (Known IsResponse (Response (w .books .replies))) send (putServer-of (complete m)) h [] out (w .server .sent) o
+          (pdu-uuids send (putServer-of (complete m)) h (known .0 .activity) (request .sized)
+          (λ e. absurd (false≢true (sym (fack-sends (wantsFack (h .flags1)) (h .serial) .1) ∙ e)))) room (inv .responses)
+          (others-known (Response (w .books .replies)) o send (putServer-of (complete m)) h [] (fack-sends (wantsFack (h .flags1)) (h .serial) .0));
     })
   where
+    send : Send
+    send = fackFor (wantsFack (h .flags1)) (h .serial)
+
     m : Incoming
     m = stored (s .incoming) (h .fragment) (length body) (isLast (h .flags1))
 

@@ -30,29 +30,10 @@ use Rattle.history.specs.World.{SentPdu, World}
 use Rattle.history.specs.Events.{Own, ClientTransmit, ClientArrive, ClientTimer, OfClient, OfServer}
 use Rattle.history.specs.Steps.{lastStart, sentAfter, bytesLent, ownAfter, happens, step, answerTo}
 use Rattle.client.specs.HandUp.{handsUp}
-use Rattle.history.proofs.Network.{pduOf}
+use Rattle.history.proofs.Network.{pduOf, Uuids}
+use Rattle.history.proofs.ClientSends.{clientPdus, client-sent}
 use Rattle.history.proofs.Invariant.{clientStep}
-use Rattle.runs.proofs.Stories.{Makes, Uuids, posted, Carried}
-
--- What the client sends, as it stands in the world: nothing, or one PDU.
-abbrev pub clientPdus : ℕ → Send → Client → List ℕ → List SentPdu
-clientPdus o Nothing c message = []
-clientPdus o (Request f) c message = pduOf o (datagram (pduHeader 0 (flagsOf (c .outgoing .count) f) f c) (fragmentOf message f)) ∷ []
-clientPdus o Ping c message = pduOf o (datagram (pduHeader 1 0 0 c) []) ∷ []
-clientPdus o Ack c message = pduOf o (datagram (pduHeader 7 0 0 c) []) ∷ []
-clientPdus o (Fack serial) c message =
-    pduOf o (datagram (pduHeader 9 0 (lastContiguous (contiguous (c .incoming))) c) (fackBytes (fackFields serial (maskOf (c .incoming))))) ∷ []
-
-client-sent : (send : Send) (c : Client) (message out : List ℕ) (before : List SentPdu) (o : ℕ) → Uuids (c .activity) (c .call) → length out ≡ 1472
-    → sentAfter before (sentOut send c message out .sent) (sentOut send c message out .out) o ≡ before ++ clientPdus o send c message
-unfolding sentOut requestSent emptySent fackSent pduHeader sentAfter fackBytes
-client-sent Nothing c message out before o z room = sym (append-nil before)
-client-sent (Request f) c message out before o z room =
-    posted 0 _ _ _ _ _ _ _ (fragmentOf message f) out before o (omega arith) (fragment-most message f) z room
-client-sent Ping c message out before o z room = posted 1 _ _ _ _ _ _ _ [] out before o (omega arith) (omega arith) z room
-client-sent Ack c message out before o z room = posted 7 _ _ _ _ _ _ _ [] out before o (omega arith) (omega arith) z room
-client-sent (Fack serial) c message out before o z room =
-    posted 9 _ _ _ _ _ _ _ (fackBytes (fackFields serial (maskOf (c .incoming)))) out before o (omega arith) (omega arith) z room
+use Rattle.runs.proofs.Stories.{Makes, Carried}
 
 -- The world after a plan of the client.
 abbrev pub clientLeft : World → Plan → List ℕ → List ℕ → World

@@ -30,33 +30,10 @@ use Rattle.calls.specs.declared.Sent.the-variants.{Nothing as Unsent}
 use Rattle.history.specs.World.{SentPdu, World}
 use Rattle.history.specs.Events.{Own, ServerTransmit, ServerArrive, ServerTimer, OfClient, OfServer}
 use Rattle.history.specs.Steps.{standingAfter, sentAfter, CallOf, ofRecord, bytesLent, ownAfter, happens, step, answerTo}
-use Rattle.history.proofs.Network.{pduOf}
+use Rattle.history.proofs.Network.{pduOf, Uuids}
+use Rattle.history.proofs.ServerSends.{serverPdus, server-sent}
 use Rattle.history.proofs.Invariant.{serverStep}
-use Rattle.runs.proofs.Stories.{Makes, Uuids, posted, Carried}
-
--- What the server sends, as it stands in the world: nothing, or one PDU; h is the header of the PDU answered.
-abbrev pub serverPdus : ℕ → Send → Server → Header → List ℕ → List SentPdu
-serverPdus o Nothing s h message = []
-serverPdus o (Response f) s h message = pduOf o (datagram (replyHeader 2 (flagsOf (s .outgoing .count) f) f s) (fragmentOf message f)) ∷ []
-serverPdus o (Fault status) s h message = pduOf o (datagram (replyHeader 3 0 0 s) (statusBytes status)) ∷ []
-serverPdus o Working s h message = pduOf o (datagram (echoHeader 4 0 s h) []) ∷ []
-serverPdus o Nocall s h message = pduOf o (datagram (echoHeader 5 0 s h) []) ∷ []
-serverPdus o (Fack serial) s h message =
-    pduOf o (datagram (echoHeader 9 (lastContiguous (contiguous (s .incoming))) s h) (fackBytes (fackFields serial (maskOf (s .incoming))))) ∷ []
-
-server-sent : (send : Send) (s : Server) (h : Header) (message out : List ℕ) (before : List SentPdu) (o : ℕ) → Uuids (s .activity) (s .call)
-    → Uuids (s .activity) (echoed h) → length out ≡ 1472
-    → sentAfter before (sentOut send s h message out .sent) (sentOut send s h message out .out) o ≡ before ++ serverPdus o send s h message
-unfolding sentOut responseSent faultSent emptySent fackSent replyHeader echoHeader sentAfter fackBytes
-server-sent Nothing s h message out before o z y room = sym (append-nil before)
-server-sent (Response f) s h message out before o z y room =
-    posted 2 _ _ _ _ _ _ _ (fragmentOf message f) out before o (omega arith) (fragment-most message f) z room
-server-sent (Fault status) s h message out before o z y room =
-    posted 3 _ _ _ _ _ _ _ (statusBytes status) out before o (omega arith) (omega arith) z room
-server-sent Working s h message out before o z y room = posted 4 _ _ _ _ _ _ _ [] out before o (omega arith) (omega arith) y room
-server-sent Nocall s h message out before o z y room = posted 5 _ _ _ _ _ _ _ [] out before o (omega arith) (omega arith) y room
-server-sent (Fack serial) s h message out before o z y room =
-    posted 9 _ _ _ _ _ _ _ (fackBytes (fackFields serial (maskOf (s .incoming)))) out before o (omega arith) (omega arith) y room
+use Rattle.runs.proofs.Stories.{Makes, Carried}
 
 -- The world after a plan of the server.
 abbrev pub serverLeft : World → Plan → Header → List ℕ → List ℕ → CallOf → World
@@ -84,7 +61,7 @@ server-left w plan h message out slots of z y room = λ i. record {
       record {
         machine = plan .server;
         slots = slots;
-        sent = server-sent (plan .send) (plan .server) h message out (w .server .sent) (of .ordinal) z y room i;
+        sent = server-sent (plan .send) (plan .server) h message out (w .server .sent) (of .ordinal) (λ e. z, y) room i;
       };
   books = serverStep w (outcomeOf plan Unsent) [] slots of .books;
 }
