@@ -14,7 +14,6 @@ use Rattle.answers.specs.declared.Ground.the-variants.{Pass}
 use Rattle.calls.specs.declared.Notice.the-variants.{Nothing as Untold}
 use Rattle.calls.specs.declared.Sent.the-variants.{Nothing as Unsent}
 use Rattle.outgoing.specs.Sending.{sendsLast, replied, messageOf}
-use Rattle.pdu.specs.declared.Header.{Header}
 use Rattle.pdu.specs.Header.{blank}
 use Rattle.server_record.specs.declared.Idle.the-variants.{Spent}
 use Rattle.server_record.specs.declared.Reply.{Reply}
@@ -37,13 +36,13 @@ use Rattle.server.proofs.Accepting.{reply-accepted, transmit-accepted, fault-ac
 use Rattle.history.specs.Lists.{In, andThen}
 use Rattle.history.specs.Claim.{DispatchOf}
 use Rattle.history.specs.World.{Replied, World}
-use Rattle.history.specs.Steps.{lastStart, lastDispatched, sentAfter, dispatchesAfter, ofRecord}
+use Rattle.history.specs.Steps.{lastDispatched, sentAfter, dispatchesAfter, ofRecord}
 use Rattle.history.specs.Fairness.{OfLastReply}
 use Rattle.history.proofs.ListLaws.{Within, within-grown, in-added, in-grown, all-grown, last-added}
 use Rattle.history.proofs.Holding.{Single}
 use Rattle.history.proofs.Network.{Response, more-known}
 use Rattle.history.proofs.More.{response-more, whole-reply-more, more-replies, called-on}
-use Rattle.history.proofs.Invariant.{ClientHolds, nothing, fragments-of, ClientInv, unanswered, hasData, NewTo, new-on, ServerInv, IsResponse, Inv, serverStep, replyStep}
+use Rattle.history.proofs.Invariant.{ClientInv, unanswered, hasData, NewTo, new-on, ServerInv, IsResponse, Inv, serverStep, replyStep}
 use Rattle.history.proofs.ServerSteps.{goes-on, settled-goes-on, transmitted-goes-on, resend-goes-on}
 use Rattle.history.proofs.ServerSends.{answers, record-uuids, others-known, all-single, response-sent, transmitted-counts, planned}
 
@@ -238,6 +237,7 @@ module _ (w : World) (inv : Inv w) (n : ℕ) (message : List ℕ) (can : CanRepl
           alike = alike;
         };
     requests = inv .requests;
+    acks = inv .acks;
     responses =
         λ d m.
         more-known IsResponse (Response (w .books .replies)) (Response replies) (response-more (w .books .replies) replies grown) d (inv .responses d m);

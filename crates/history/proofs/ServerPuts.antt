@@ -1,5 +1,5 @@
 -- A request that the server puts keeps what is known of the world: only fragments of its call, dispatched whole.
-use Prim.Native.Nat.{ℕ, _≤_, _<_}
+use Prim.Native.Nat.{ℕ, _≤_}
 use mathlib.Core.Bool.{Bool, true, false, false≢true}
 use mathlib.Core.List.{List, []}
 use mathlib.Core.Logic.{_⊎_, inl, inr}
@@ -10,7 +10,6 @@ use lib.ListN.{length}
 use borrow.Author.Tests.{eqb-true, eqb-false}
 use Rattle.words.specs.Choice.{choose, both}
 use Rattle.flags.specs.Flags.{idempotent, hasFlag}
-use Rattle.fragments.specs.Judgement.{contradicts}
 use Rattle.fragments.specs.Slots.{filled}
 use Rattle.fragments.specs.Joined.{parts}
 use Rattle.fragments.proofs.PartLaws.{parts-joined}
@@ -306,6 +305,7 @@ put-inv w inv s o server state h body request short can out room =
       server = known .0;
       calls = known .1;
       requests = inv .requests;
+      acks = inv .acks;
       completed = inv .completed;
       responses =
           sends-known (Known IsResponse (Response (w .books .replies))) send (putServer-of (complete m)) h [] out (w .server .sent) o

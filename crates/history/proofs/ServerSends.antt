@@ -1,11 +1,11 @@
 -- What is known of the datagrams that the server has sent, after each of its steps.
-use Prim.Native.Nat.{ℕ, _+_, _≤_, _<_}
+use Prim.Native.Nat.{ℕ, _+_, _<_}
 use mathlib.Core.Bool.{Bool, true, false, false≢true}
 use mathlib.Core.List.{List, [], _∷_, _++_, append-nil}
 use mathlib.Core.Logic.{_⊎_, inl, inr}
 use mathlib.Core.Path.{_≡_, refl, sym, ap, subst, _∙_}
 use native.Mathlib.Omega.{arith}
-use lib.Dec.{leb, eqb}
+use lib.Dec.{eqb}
 use lib.ListN.{length}
 use borrow.Author.Tests.{eqb-true}
 use Rattle.words.specs.Choice.{choose}
@@ -14,7 +14,7 @@ use Rattle.bodies.specs.Fack.{fackBytes, fackSent as fackFields}
 use Rattle.bodies.specs.Status.{statusBytes}
 use Rattle.calls.specs.declared.Notice.{Notice}
 use Rattle.calls.specs.declared.Notice.the-variants.{Nothing as Untold}
-use Rattle.calls.specs.Sent.{sentHeader, posting}
+use Rattle.calls.specs.Sent.{sentHeader}
 use Rattle.flags.specs.Flags.{idempotent, withFlag}
 use Rattle.facks.specs.Mask.{lastContiguous, maskOf}
 use Rattle.incoming.specs.Slots.{contiguous}
@@ -44,14 +44,13 @@ use Rattle.server_steps.specs.declared.Plan.{Plan}
 use Rattle.server_steps.specs.Plan.{withOutgoing}
 use Rattle.server_steps.specs.Rows.{settled, transmitted}
 use Rattle.server.specs.Sending.{replyHeader, echoed, echoHeader, responseSent, faultSent, emptySent, fackSent, sentOut}
-use Rattle.server.specs.HandUp.{handsUp}
 use Rattle.server.specs.Machine.{outcomeOf, sending}
 use Rattle.history.specs.Lists.{In}
 use Rattle.history.specs.World.{Started, Replied, SentPdu, World}
 use Rattle.history.specs.Steps.{sentAfter, dispatchesAfter, CallOf, dispatchOf}
 use Rattle.history.specs.Fairness.{OfLastReply, Typed}
 use Rattle.history.proofs.ListLaws.{All, all-appended}
-use Rattle.history.proofs.Holding.{Short, PartOf, Single, flags-last}
+use Rattle.history.proofs.Holding.{PartOf, Single, flags-last}
 use Rattle.history.proofs.Network.{Response, Known, pduOf, other-known, same-known, Uuids, typed-uuids, posted, call-fits}
 use Rattle.history.proofs.Invariant.{CalledStart, CurrentReply, ServerInv, IsResponse, Inv, serverStep}
 use Rattle.history.proofs.ServerSteps.{GoesOn}
@@ -201,10 +200,9 @@ module _ (s : Server) (standing : ℕ) (starts : List Started) (replies : List R
   unfolding replyHeader sentHeader
   response-sent t g count fits h =
       let header : responseHeader (t .outgoing .serial) ≡ replyHeader 2 (flagsOf (t .outgoing .count) (s .outgoing .sent)) (s .outgoing .sent) t =
-      rw (g .activity, g .boot, g .number, g .call, count) in
-      (
+      rw (g .activity, g .boot, g .number, g .call, count) in (
         subst (λ (x : Header). Known IsResponse (Response replies) (pduOf standing (datagram x (fragmentOf message (s .outgoing .sent))))) header
-        (response-known (t .outgoing .serial) fits),
+            (response-known (t .outgoing .serial) fits),
         tt,
       )
 
@@ -237,6 +235,7 @@ planned w plan h message out slots of inv quiet server uuids room responses =
       server = rw same server;
       calls = rw same (inv .calls);
       requests = inv .requests;
+      acks = inv .acks;
       responses =
           sends-known (Known IsResponse (Response (w .books .replies))) (plan .send) (plan .server) h message out (w .server .sent) (of .ordinal) uuids room
           (inv .responses) responses;

@@ -1,35 +1,25 @@
 -- What each event of the client makes of a world in which every PDU is one that the writer wrote: after these laws only records
 -- are left to compute.
 use Prim.Native.Nat.{ℕ}
-use mathlib.Core.List.{List, [], _∷_, _++_, append-nil}
-use mathlib.Core.Path.{_≡_, sym, _∙_}
-use native.Mathlib.Omega.{arith}
+use mathlib.Core.List.{List, [], _++_}
+use mathlib.Core.Path.{_≡_, _∙_}
 use lib.ListN.{length}
 use Rattle.answers.specs.Number.{numberOf}
 use Rattle.pdu.specs.declared.Header.{Header}
 use Rattle.pdu.specs.Header.{datagram}
 use Rattle.writer.proofs.RoundTrip.{accepted, read-written, body-written}
-use Rattle.bodies.specs.Fack.{fackBytes, fackSent as fackFields}
-use Rattle.incoming.specs.Slots.{contiguous}
-use Rattle.facks.specs.Mask.{lastContiguous, maskOf}
-use Rattle.outgoing.specs.Message.{fragmentOf, flagsOf}
-use Rattle.outgoing.proofs.OutgoingLaws.{fragment-most}
 use Rattle.fragments.specs.Slots.{storing}
 use Rattle.grounds.specs.Entry.{lentGround}
 use Rattle.client_record.specs.declared.Client.{Client}
 use Rattle.client_record.specs.declared.TimerKind.{TimerKind}
 use Rattle.client_table.specs.Local.{transmitGround, timerGround}
-use Rattle.client_steps.specs.declared.Send.{Send}
-use Rattle.client_steps.specs.declared.Send.the-variants.{Nothing, Request, Ping, Ack, Fack}
 use Rattle.client_steps.specs.declared.Plan.{Plan}
 use Rattle.client_steps.specs.Rows.{transmitPlan, timerPlan}
-use Rattle.client.specs.Sending.{pduHeader, requestSent, emptySent, fackSent, sentOut}
 use Rattle.client.specs.Machine.{outcomeOf, sending, transmitting, timing, planOf, acted, arriving}
 use Rattle.calls.specs.declared.Sent.the-variants.{Nothing as Unsent}
-use Rattle.history.specs.World.{SentPdu, World}
-use Rattle.history.specs.Events.{Own, ClientTransmit, ClientArrive, ClientTimer, OfClient, OfServer}
-use Rattle.history.specs.Steps.{lastStart, sentAfter, bytesLent, ownAfter, happens, step, answerTo}
-use Rattle.client.specs.HandUp.{handsUp}
+use Rattle.history.specs.World.{World}
+use Rattle.history.specs.Events.{Own, ClientTransmit, ClientArrive, ClientTimer, OfClient}
+use Rattle.history.specs.Steps.{lastStart, bytesLent, ownAfter, happens, step, answerTo}
 use Rattle.history.proofs.Network.{pduOf, Uuids}
 use Rattle.history.proofs.ClientSends.{clientPdus, client-sent}
 use Rattle.history.proofs.Invariant.{clientStep}

@@ -1,35 +1,25 @@
 -- The same of the server.
 use Prim.Native.Nat.{ℕ}
-use mathlib.Core.List.{List, [], _∷_, _++_, append-nil}
-use mathlib.Core.Path.{_≡_, refl, sym, _∙_}
-use native.Mathlib.Omega.{arith}
+use mathlib.Core.List.{List, [], _++_}
+use mathlib.Core.Path.{_≡_, refl, _∙_}
 use lib.ListN.{length}
 use Rattle.answers.specs.declared.Answer.{Answer}
 use Rattle.answers.specs.Number.{numberOf}
 use Rattle.pdu.specs.declared.Header.{Header}
 use Rattle.pdu.specs.Header.{datagram, blank}
 use Rattle.writer.proofs.RoundTrip.{accepted, read-written, body-written}
-use Rattle.bodies.specs.Fack.{fackBytes, fackSent as fackFields}
-use Rattle.bodies.specs.Status.{statusBytes}
-use Rattle.incoming.specs.Slots.{contiguous}
-use Rattle.facks.specs.Mask.{lastContiguous, maskOf}
-use Rattle.outgoing.specs.Message.{fragmentOf, flagsOf}
-use Rattle.outgoing.proofs.OutgoingLaws.{fragment-most}
 use Rattle.grounds.specs.Entry.{lentGround}
 use Rattle.server_record.specs.declared.Server.{Server}
 use Rattle.server_table.specs.Local.{transmitGround, timerGround}
-use Rattle.server_steps.specs.declared.Send.{Send}
-use Rattle.server_steps.specs.declared.Send.the-variants.{Nothing, Response, Fault, Working, Nocall, Fack}
 use Rattle.server_steps.specs.declared.Plan.{Plan}
 use Rattle.server_steps.specs.Rows.{transmitPlan, timerPlan}
-use Rattle.server.specs.Sending.{replyHeader, echoed, echoHeader, responseSent, faultSent, emptySent, fackSent, sentOut}
+use Rattle.server.specs.Sending.{echoed}
 use Rattle.server.specs.Machine.{outcomeOf, sending, transmitting, timing, planOf, acted, arriving}
-use Rattle.server.specs.HandUp.{handsUp}
 use Rattle.fragments.specs.Slots.{storing}
 use Rattle.calls.specs.declared.Sent.the-variants.{Nothing as Unsent}
-use Rattle.history.specs.World.{SentPdu, World}
-use Rattle.history.specs.Events.{Own, ServerTransmit, ServerArrive, ServerTimer, OfClient, OfServer}
-use Rattle.history.specs.Steps.{standingAfter, sentAfter, CallOf, ofRecord, bytesLent, ownAfter, happens, step, answerTo}
+use Rattle.history.specs.World.{World}
+use Rattle.history.specs.Events.{Own, ServerTransmit, ServerArrive, ServerTimer, OfServer}
+use Rattle.history.specs.Steps.{standingAfter, CallOf, ofRecord, bytesLent, ownAfter, happens, step, answerTo}
 use Rattle.history.proofs.Network.{pduOf, Uuids}
 use Rattle.history.proofs.ServerSends.{serverPdus, server-sent}
 use Rattle.history.proofs.Invariant.{serverStep}

@@ -11,14 +11,13 @@ use borrow.Author.Tests.{ltb-true, eqb-false}
 use Rattle.answers.specs.declared.Answer.the-variants.{Done}
 use Rattle.answers.specs.Number.{numberOf}
 use Rattle.pdu.specs.declared.Header.{Header}
-use Rattle.pdu.specs.Header.{datagram}
 use Rattle.writer.proofs.RoundTrip.{Fits}
 use Rattle.calls.specs.declared.Call.{Call}
-use Rattle.calls.specs.Sent.{sentHeader, posting}
-use Rattle.history.specs.Lists.{In, andThen}
+use Rattle.calls.specs.Sent.{sentHeader}
+use Rattle.history.specs.Lists.{In}
 use Rattle.history.specs.World.{SentPdu, World}
-use Rattle.history.specs.Events.{Own, Event, OfClient, OfServer}
-use Rattle.history.specs.Steps.{sentAfter, step, answerTo, run}
+use Rattle.history.specs.Events.{Own, Event}
+use Rattle.history.specs.Steps.{step, answerTo, run}
 use Rattle.history.specs.Fairness.{Typed, FairArrival, Premise, Fair}
 use Rattle.runs.specs.Runs.{Story, eventsOf, numbersOf, answersTo}
 use Rattle.history.proofs.Network.{pduOf, call-fits}
