@@ -19,7 +19,7 @@ fn acknowledged(c: Client, g: u16) -> Client
     ensures { λ r. ⌜ r ≡ acknowledgedRecord c g ⌝ }
 {
     let o = c.outgoing;
-    let count = (grounds::acknowledged_by(g) % 256) as u8;
+    let count = grounds::acknowledged_by(g);
     client_steps::with_outgoing(c, outgoing::acknowledge(o, count))
 }
 

@@ -139,7 +139,10 @@ pub fn body_length(length: usize) -> u16
 pub fn acknowledged_by(g: u16) -> u16
     ensures { λ r. ⌜ r ≡ acknowledgedBy g ⌝ }
 {
-    std::num::wrapping_add_u16(g, 1)
+    if g == 65535 {
+        return 0;
+    }
+    g + 1
 }
 
 // 17, of a fack for a message of `count` fragments.

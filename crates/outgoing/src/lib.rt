@@ -111,10 +111,10 @@ fn larger(a: u8, b: u8) -> u8
 }
 
 // After a fack for the first `count` fragments.
-pub fn acknowledge(o: Outgoing, count: u8) -> Outgoing
+pub fn acknowledge(o: Outgoing, count: u16) -> Outgoing
     ensures { λ r. ⌜ r ≡ acknowledgedTo o count ⌝ }
 {
-    let acknowledged = larger(o.acknowledged, count);
+    let acknowledged = larger(o.acknowledged, counted(count as u32));
     let mut next = o;
     next.acknowledged = acknowledged;
     next

@@ -1,5 +1,5 @@
 -- The rows of arriving PDUs keep the record rules, and only a request that is put changes what is held.
-use Prim.Native.Nat.{ℕ, _≤_, _%_}
+use Prim.Native.Nat.{ℕ, _≤_}
 use mathlib.Core.Bool.{Bool, true, false}
 use mathlib.Core.Path.{_≡_, refl, subst}
 use native.Mathlib.Omega.{arith}
@@ -72,8 +72,7 @@ module _ (s : Server) (kept : sound s ≡ true) where
       (record {
         count = r .count;
         outgoing =
-            out-holds (acknowledgedTo (s .outgoing) (acknowledgedBy g % 256)) (s .state)
-            (acknowledged-bounded (s .outgoing) (acknowledgedBy g % 256) (told .0) (omega arith)) (told .1);
+            out-holds _ (s .state) (acknowledged-bounded (s .outgoing) _ (told .0) (omega arith) most) (told .1);
         incoming = r .incoming;
         timer = r .timer;
       })

@@ -1,5 +1,5 @@
 -- The server's rows of arriving PDUs.
-use Prim.Native.Nat.{ℕ, _%_}
+use Prim.Native.Nat.{ℕ}
 use mathlib.Core.Bool.{Bool, true}
 use Rattle.words.specs.Choice.{choose}
 use Rattle.answers.specs.declared.Answer.the-variants.{Done}
@@ -66,11 +66,11 @@ withIncoming s m = record {
 
 -- All to the last held: to RUNNING; else COLLECT.
 unfoldable pub putState : Bool → State
-putState complete = choose complete Running Collect
+putState all = choose all Running Collect
 
 -- All to the last held: notice "dispatch"; else none.
 unfoldable pub putNotice : Bool → Notice
-putNotice complete = choose complete Dispatch Untold
+putNotice all = choose all Dispatch Untold
 
 -- A fack for the serial of what was put, where one is wanted.
 unfoldable pub fackFor : Bool → ℕ → Send
@@ -101,9 +101,9 @@ workingPlan s = accepted s Working
 unfoldable pub nocallPlan : Server → Plan
 nocallPlan s = accepted s Nocall
 
--- Fack: acknowledged becomes the larger of itself and g + 1, which 17 keeps within a byte.
+-- Fack: acknowledged becomes the larger of itself and g + 1.
 unfoldable pub fackPlan : Server → ℕ → Plan
-fackPlan s g = accepted (withOutgoing s (acknowledgedTo (s .outgoing) (acknowledgedBy g % 256))) Nothing
+fackPlan s g = accepted (withOutgoing s (acknowledgedTo (s .outgoing) (acknowledgedBy g))) Nothing
 
 -- Ack: to IDLE spent.
 unfoldable pub ackPlan : Server → Plan

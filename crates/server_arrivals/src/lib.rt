@@ -127,8 +127,8 @@ fn fack(s: Server, g: u16) -> Plan
     ensures { λ r. ⌜ r ≡ fackPlan s g ⌝ }
 {
     let o = s.outgoing;
-    let number = (grounds::acknowledged_by(g) % 256) as u8;
-    let next = server_steps::with_outgoing(s, outgoing::acknowledge(o, number));
+    let count = grounds::acknowledged_by(g);
+    let next = server_steps::with_outgoing(s, outgoing::acknowledge(o, count));
     server_steps::accepted(next, Send::Nothing)
 }
 

@@ -6,4 +6,4 @@ use Rattle.client_arrivals.proofs.acknowledged.Tie as tie
 
 pub acknowledged-spec : {M : Type 1} → statement M
 unfolding acknowledged
-acknowledged-spec = tie.close (tie.spec (λ c κs. search needs) (λ c. search needs) (λ c κs. search needs) (λ c κs. search needs) (λ c. rw (c .with-outgoing .ensures, c .before .acknowledge .ensures, c .before .before .acknowledged-by .ensures)))
+acknowledged-spec = tie.close (tie.spec (λ c κs. search needs) (λ c κs. search needs) (λ c κs. search needs) (λ c. rw (c .with-outgoing .ensures, c .before .acknowledge .ensures, c .before .before .acknowledged-by .ensures)))

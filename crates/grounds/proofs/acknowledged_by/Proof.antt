@@ -7,4 +7,4 @@ use Rattle.grounds.proofs.acknowledged_by.Tie as tie
 
 pub acknowledged-by-spec : {M : Type 1} → statement M
 unfolding acknowledgedBy
-acknowledged-by-spec = tie.close (tie.spec (λ c κs. search needs) (λ c. search tests))
+acknowledged-by-spec = tie.close (tie.spec (λ c. search tests) (λ c. search needs) (λ c. search tests))
