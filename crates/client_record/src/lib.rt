@@ -85,7 +85,7 @@ pub fn is_sending(state: State) -> bool
     }
 }
 
-// Whether the call is one of the three active states.
+// Whether the state is one of the three active ones: SEND_FRAGS, DISPATCHED and RECEIVE_FRAGS.
 pub fn is_active(state: State) -> bool
     ensures { λ r. ⌜ r ≡ isActive state ⌝ }
 {

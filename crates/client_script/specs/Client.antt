@@ -16,13 +16,13 @@ use Rattle.client_record.specs.Record.{fresh}
 
 -- The state that a number stands for.
 unfoldable pub stateOf : ℕ → State
-stateOf number =
-    choose (eqb number 0) Queued
-    (choose (eqb number 1) SendFrags
-    (choose (eqb number 2) Dispatched
-    (choose (eqb number 3) ReceiveFrags
-    (choose (eqb number 4) AckPending
-    (choose (eqb number 5) Complete
+stateOf n =
+    choose (eqb n 0) Queued
+    (choose (eqb n 1) SendFrags
+    (choose (eqb n 2) Dispatched
+    (choose (eqb n 3) ReceiveFrags
+    (choose (eqb n 4) AckPending
+    (choose (eqb n 5) Complete
     Fault)))))
 
 -- The fresh record of an activity and a ticket counter.

@@ -44,4 +44,4 @@ timerIn s = timerWith (getD s 0 0) (number 8 true s 1)
 
 -- The known last; 255 is unknown.
 unfoldable pub lastIn : ℕ → Last
-lastIn number = choose (eqb number 255) Unknown (At number)
+lastIn byte = choose (eqb byte 255) Unknown (At byte)

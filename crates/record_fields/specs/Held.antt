@@ -25,7 +25,7 @@ slotsIn s = slotsBelow s 32
 
 -- The message received: its slots and its known last.
 unfoldable pub incomingIn : ℕ → List ℕ → Incoming
-incomingIn number s = record { slots = slotsIn s; last = lastIn number }
+incomingIn byte s = record { slots = slotsIn s; last = lastIn byte }
 
 -- The marks of the first n slots are 0 or 1.
 unfoldable pub marksBelow : List ℕ → ℕ → Bool

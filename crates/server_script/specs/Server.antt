@@ -18,14 +18,14 @@ use Rattle.server_record.specs.Record.{fresh}
 
 -- The state that a number stands for; the status is that of HELD with fault.
 unfoldable pub stateOf : ℕ → ℕ → State
-stateOf number status =
-    choose (eqb number 0) (IdleState Fresh)
-    (choose (eqb number 1) (IdleState Spent)
-    (choose (eqb number 2) (IdleState Repeatable)
-    (choose (eqb number 3) Collect
-    (choose (eqb number 4) Running
-    (choose (eqb number 5) Replying
-    (choose (eqb number 6) (Held Data)
+stateOf n status =
+    choose (eqb n 0) (IdleState Fresh)
+    (choose (eqb n 1) (IdleState Spent)
+    (choose (eqb n 2) (IdleState Repeatable)
+    (choose (eqb n 3) Collect
+    (choose (eqb n 4) Running
+    (choose (eqb n 5) Replying
+    (choose (eqb n 6) (Held Data)
     (Held (Fault status))))))))
 
 -- The fresh record of an activity, a boot number and a ticket counter.

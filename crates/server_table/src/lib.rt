@@ -1,5 +1,5 @@
 // The server's judgement of each event: the ground of document 01's refusals in their order, the
-// lowest position deciding, and the row that an arriving PDU has. Nothing is written here.
+// lowest position deciding. Nothing is written here; the row that an arriving PDU has is told by server_rows.
 use answers::Answer;
 use answers::Ground;
 use calls::Call;
