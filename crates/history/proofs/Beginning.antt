@@ -121,6 +121,7 @@ calls-fresh starts dispatches replies s d r = record {
   numbered = λ a m. absurd (subst (In a) s m);
   once = λ a m. absurd (subst (In a) s m);
   whole = λ a m. absurd (subst (In a) d m);
+  called = λ a m. absurd (subst (In a) d m);
   replied = λ a m. absurd (subst (In a) r m);
   alike = λ a b m. absurd (subst (In a) r m);
 }
@@ -128,12 +129,12 @@ calls-fresh starts dispatches replies s d r = record {
 -- So a fresh world is.
 pub fresh-inv : (w : World) → Fresh w → Inv w
 fresh-inv w f = record {
-  client = client-fresh (w .client) (w .clientSlots) (w .starts) (w .replies) (f .client) (f .starts);
-  server = server-fresh (w .server) (w .standing) (w .serverSlots) (w .starts) (w .dispatches) (w .replies) (f .server) (f .dispatches) (f .replies);
-  calls = calls-fresh (w .starts) (w .dispatches) (w .replies) (f .starts) (f .dispatches) (f .replies);
-  requests = λ d m. absurd (subst (In d) (f .clientSent) m);
-  responses = λ d m. absurd (subst (In d) (f .serverSent) m);
-  completed = λ c m. absurd (subst (In c) (f .completions) m);
+  client = client-fresh (w .client .machine) (w .client .slots) (w .books .starts) (w .books .replies) (f .client) (f .books .starts);
+  server = server-fresh (w .server .machine) (w .books .standing) (w .server .slots) (w .books .starts) (w .books .dispatches) (w .books .replies) (f .server) (f .books .dispatches) (f .books .replies);
+  calls = calls-fresh (w .books .starts) (w .books .dispatches) (w .books .replies) (f .books .starts) (f .books .dispatches) (f .books .replies);
+  requests = λ d m. absurd (subst (In d) (f .client-unsent) m);
+  responses = λ d m. absurd (subst (In d) (f .server-unsent) m);
+  completed = λ c m. absurd (subst (In c) (f .books .completions) m);
 }
 
 -- The records that the library's own functions make are fresh, whatever the activity, the boot value and the ticket counter.

@@ -45,8 +45,8 @@ use Rattle.client.proofs.Judging.{CanArrive, arrival-passes}
 use Rattle.client.proofs.Accepting.{arrive-accepted}
 use Rattle.client.proofs.Keeping.{row-sound}
 use Rattle.history.specs.Lists.{In}
-use Rattle.history.specs.World.{Started, Completed, Replied, Posted, World}
-use Rattle.history.specs.Steps.{lastStart, completionsAfter}
+use Rattle.history.specs.World.{Started, Completed, Replied, SentPdu, World}
+use Rattle.history.specs.Steps.{lastStart, completionsAfter, completionOf}
 use Rattle.history.specs.Claim.{WholeReply, hasReply}
 use Rattle.history.proofs.Holding.{PartOf, unheld-none, holding-whole, Holding, Single, empty-holding, put-holding, other-empty}
 use Rattle.history.proofs.Network.{Request, Response}
@@ -94,10 +94,10 @@ unheld-unfinished m none = by-last (m .last)
 
 -- Where all is held, what is handed up is the whole of one reply,
 pub whole-handed : (c : Client) (slots : List ℕ) (starts : List Started) (replies : List Replied) → ClientInv c slots starts replies → complete (c .incoming) ≡ true
-    → WholeReply replies (record { ordinal = lastStart starts; bytes = handsUp c slots })
+    → WholeReply replies (completionOf starts c slots)
 whole-handed c slots starts replies inv all = by-state (isQueued (c .state)) refl
   where
-    by-holds : ClientHolds (lastStart starts) (c .incoming) slots replies → WholeReply replies (record { ordinal = lastStart starts; bytes = handsUp c slots })
+    by-holds : ClientHolds (lastStart starts) (c .incoming) slots replies → WholeReply replies (completionOf starts c slots)
     by-holds (nothing e) = absurd (false≢true (sym (unheld-unfinished (c .incoming) (e .none)) ∙ all))
     by-holds (fragments-of r m n whole h) =
         record {
@@ -109,22 +109,22 @@ whole-handed c slots starts replies inv all = by-state (isQueued (c .state)) ref
               ∙ holding-whole (c .incoming) slots (r .message) h (rules-told c (inv .kept) .incoming) whole all;
         }
 
-    by-state : (queued : Bool) → isQueued (c .state) ≡ queued → WholeReply replies (record { ordinal = lastStart starts; bytes = handsUp c slots })
+    by-state : (queued : Bool) → isQueued (c .state) ≡ queued → WholeReply replies (completionOf starts c slots)
     by-state true e = absurd (false≢true (sym (unheld-unfinished (c .incoming) (inv .unasked e)) ∙ all))
     by-state false e = by-holds (inv .holds e)
 
 -- so it is where "last" is told of such a record.
-completed-known : (w : World) → Inv w → (c : Client) (slots : List ℕ) → ClientInv c slots (w .starts) (w .replies) → (notice : Notice)
+completed-known : (w : World) → Inv w → (c : Client) (slots : List ℕ) → ClientInv c slots (w .books .starts) (w .books .replies) → (notice : Notice)
     → (tellsLast notice ≡ true → complete (c .incoming) ≡ true) → (x : Completed)
-    → In x (completionsAfter (w .completions) notice (lastStart (w .starts)) (handsUp c slots)) → WholeReply (w .replies) x
+    → In x (completionsAfter (w .books .completions) notice (completionOf (w .books .starts) c slots)) → WholeReply (w .books .replies) x
 completed-known w inv c slots next notice all = by-notice (tellsLast notice) refl
   where
-    by-notice : (t : Bool) → tellsLast notice ≡ t → (x : Completed) → In x (completionsAfter (w .completions) notice (lastStart (w .starts)) (handsUp c slots))
-        → WholeReply (w .replies) x
+    by-notice : (t : Bool) → tellsLast notice ≡ t → (x : Completed) → In x (completionsAfter (w .books .completions) notice (completionOf (w .books .starts) c slots))
+        → WholeReply (w .books .replies) x
     by-notice true e =
-        completed-more (WholeReply (w .replies)) (w .completions) notice (lastStart (w .starts)) (handsUp c slots) (inv .completed)
-        (whole-handed c slots (w .starts) (w .replies) next (all e))
-    by-notice false e = none-told w inv notice (lastStart (w .starts)) (handsUp c slots) e
+        completed-more (WholeReply (w .books .replies)) (w .books .completions) notice (completionOf (w .books .starts) c slots) (inv .completed)
+        (whole-handed c slots (w .books .starts) (w .books .replies) next (all e))
+    by-notice false e = none-told w inv notice (completionOf (w .books .starts) c slots) e
 
 -- A response tells "last" where all is held.
 notice-told : (all : Bool) (count : ℕ) → tellsLast (putNotice all count) ≡ true → all ≡ true
@@ -159,10 +159,10 @@ put-same true false c m = record { activity = refl; number = refl; call = refl; 
 put-same false idempotent c m = record { activity = refl; number = refl; call = refl; size = refl }
 
 -- The row of an arriving PDU that passed: what is known of the client stays known.
-module _ (w : World) (inv : Inv w) (o : ℕ) (h : Header) (body : List ℕ) (status : ℕ) (kept : sound (w .client) ≡ true) (whole : length (w .clientSlots) ≡ 44544)
-    (short : length body ≤ 1392) (known : eventOf (h .kind) ≡ ResponseEvent → Response (w .replies) o h body) where
+module _ (w : World) (inv : Inv w) (o : ℕ) (h : Header) (body : List ℕ) (status : ℕ) (kept : sound (w .client .machine) ≡ true) (whole : length (w .client .slots) ≡ 44544)
+    (short : length body ≤ 1392) (known : eventOf (h .kind) ≡ ResponseEvent → Response (w .books .replies) o h body) where
   -- A response that has the client's number is of its last start.
-  mine : (from : Response (w .replies) o h body) → isQueued (w .client .state) ≡ false → w .client .number ≡ h .number → from .reply .ordinal ≡ lastStart (w .starts)
+  mine : (from : Response (w .books .replies) o h body) → isQueued (w .client .machine .state) ≡ false → w .client .machine .number ≡ h .number → from .reply .ordinal ≡ lastStart (w .books .starts)
   mine from begun e =
       let run = inv .calls .replied (from .reply) (from .given) in
       let of = inv .calls .whole (run .dispatch) (run .dispatched) in
@@ -170,15 +170,15 @@ module _ (w : World) (inv : Inv w) (o : ℕ) (h : Header) (body : List ℕ) (sta
       let same : of .0 .ordinal ≡ o = of .1 .1 .0 ∙ run .same ∙ from .is in
       let number = inv .client .current begun .number in
       from .is
-      ∙ sym (equal-start o (lastStart (w .starts)) (lastStart (w .starts)) (omega arith) (omega arith) (sym number ∙ e ∙ from .number))
+      ∙ sym (equal-start o (lastStart (w .books .starts)) (lastStart (w .books .starts)) (omega arith) (omega arith) (sym number ∙ e ∙ from .number))
 
   -- A response is put,
-  response-inv : CanArrive ResponseEvent (w .client) h (bodyLength body) → eventOf (h .kind) ≡ ResponseEvent
-      → ClientInv (responsePlan (w .client) (h .flags1) (h .serial) (h .fragment) (bodyLength body) .client) (filled (h .fragment) body (w .clientSlots)) (w .starts)
-      (w .replies)
+  response-inv : CanArrive ResponseEvent (w .client .machine) h (bodyLength body) → eventOf (h .kind) ≡ ResponseEvent
+      → ClientInv (responsePlan (w .client .machine) (h .flags1) (h .serial) (h .fragment) (bodyLength body) .client) (filled (h .fragment) body (w .client .slots)) (w .books .starts)
+      (w .books .replies)
   unfolding responsePlan putPlan byEvent hasRow withIncoming arrivalRow
   response-inv j e =
-      let c = w .client in
+      let c = w .client .machine in
       let m = stored (c .incoming) (h .fragment) (bodyLength body) (isLast (h .flags1)) in
       let begun = active-state (c .state) (j .row) in
       let same = put-same (complete m) (c .call .idempotent) c m in
@@ -209,33 +209,33 @@ module _ (w : World) (inv : Inv w) (o : ℕ) (h : Header) (body : List ℕ) (sta
         holds =
             λ q.
             rw (body-length body short)
-            (put-holds (lastStart (w .starts)) (c .incoming) (w .clientSlots) (w .replies) (h .flags1) (h .fragment) body (rules-told c kept .incoming)
+            (put-holds (lastStart (w .books .starts)) (c .incoming) (w .client .slots) (w .books .replies) (h .flags1) (h .fragment) body (rules-told c kept .incoming)
             (inv .client .slotted) whole (inv .calls .alike) (from .reply) (from .given) (mine from begun (j .mine)) (from .part) (omega arith) (new .0) (new .1)
             (inv .client .holds begun));
       }
 
-  other : (event : Event) → CanArrive event (w .client) h (bodyLength body) → isQueued (w .client .state) ≡ false
-      → GoesOn (w .client) (arrivalRow event (w .client) h (bodyLength body) status .client)
-      → ClientInv (arrivalRow event (w .client) h (bodyLength body) status .client) (w .clientSlots) (w .starts) (w .replies)
+  other : (event : Event) → CanArrive event (w .client .machine) h (bodyLength body) → isQueued (w .client .machine .state) ≡ false
+      → GoesOn (w .client .machine) (arrivalRow event (w .client .machine) h (bodyLength body) status .client)
+      → ClientInv (arrivalRow event (w .client .machine) h (bodyLength body) status .client) (w .client .slots) (w .books .starts) (w .books .replies)
   other event j begun g =
-      goes-on (w .client) (arrivalRow event (w .client) h (bodyLength body) status .client) (w .clientSlots) (w .starts) (w .replies) (inv .client) begun
-      (row-sound (w .client) h (bodyLength body) status kept (omega arith) event j) g
+      goes-on (w .client .machine) (arrivalRow event (w .client .machine) h (bodyLength body) status .client) (w .client .slots) (w .books .starts) (w .books .replies) (inv .client) begun
+      (row-sound (w .client .machine) h (bodyLength body) status kept (omega arith) event j) g
 
   -- and every other row goes on with the call.
-  row-inv : (event : Event) → CanArrive event (w .client) h (bodyLength body) → eventOf (h .kind) ≡ event
-      → ClientInv (arrivalRow event (w .client) h (bodyLength body) status .client)
-      (storing (arrivalRow event (w .client) h (bodyLength body) status .put) (h .fragment) body (w .clientSlots)) (w .starts) (w .replies)
+  row-inv : (event : Event) → CanArrive event (w .client .machine) h (bodyLength body) → eventOf (h .kind) ≡ event
+      → ClientInv (arrivalRow event (w .client .machine) h (bodyLength body) status .client)
+      (storing (arrivalRow event (w .client .machine) h (bodyLength body) status .put) (h .fragment) body (w .client .slots)) (w .books .starts) (w .books .replies)
   unfolding arrivalRow failed accepted fackPlan workingPlan responsePlan putPlan storing choose hasRow isQueued
   row-inv ResponseEvent j e = response-inv j e
-  row-inv Fault j e = other Fault j (active-state (w .client .state) (j .row)) (failed-goes-on (w .client) (FaultNotice status))
-  row-inv Reject j e = other Reject j (active-state (w .client .state) (j .row)) (failed-goes-on (w .client) (RejectNotice status))
-  row-inv Working j e = other Working j (ap isQueued (dispatched-state (w .client .state) (j .row))) (working-goes-on (w .client))
+  row-inv Fault j e = other Fault j (active-state (w .client .machine .state) (j .row)) (failed-goes-on (w .client .machine) (FaultNotice status))
+  row-inv Reject j e = other Reject j (active-state (w .client .machine .state) (j .row)) (failed-goes-on (w .client .machine) (RejectNotice status))
+  row-inv Working j e = other Working j (ap isQueued (dispatched-state (w .client .machine .state) (j .row))) (working-goes-on (w .client .machine))
   row-inv Nocall j e =
       subst
-      (λ (put : Bool). ClientInv (nocallPlan (w .client) .client) (storing put (h .fragment) body (w .clientSlots)) (w .starts) (w .replies))
-      (sym (nocall-puts-none (w .client)))
-      (other Nocall j (ap isQueued (dispatched-state (w .client .state) (j .row))) (nocall-goes-on (w .client)))
-  row-inv FackEvent j e = other FackEvent j (active-state (w .client .state) (j .row)) (fack-goes-on (w .client) (h .fragment) (active-state (w .client .state) (j .row)))
+      (λ (put : Bool). ClientInv (nocallPlan (w .client .machine) .client) (storing put (h .fragment) body (w .client .slots)) (w .books .starts) (w .books .replies))
+      (sym (nocall-puts-none (w .client .machine)))
+      (other Nocall j (ap isQueued (dispatched-state (w .client .machine .state) (j .row))) (nocall-goes-on (w .client .machine)))
+  row-inv FackEvent j e = other FackEvent j (active-state (w .client .machine .state) (j .row)) (fack-goes-on (w .client .machine) (h .fragment) (active-state (w .client .machine .state) (j .row)))
   row-inv Foreign j e = absurd (false≢true (j .row))
 
 -- No row of an arriving PDU sends a request.
@@ -299,22 +299,22 @@ still FackEvent c h n status e = fack-goes-on c (h .fragment) e .started
 still Foreign c h n status e = e
 
 -- An arriving datagram keeps what is known of the world, where the server sent it and the buffer lent is the client's own.
-pub client-arrive-inv : (w : World) (p : Posted) (out : List ℕ) → Inv w → arriving (w .client) (p .bytes) (w .clientSlots) out .outcome .answer ≡ Done
-    → In p (w .serverSent)
+pub client-arrive-inv : (w : World) (p : SentPdu) (out : List ℕ) → Inv w → arriving (w .client .machine) (p .bytes) (w .client .slots) out .outcome .answer ≡ Done
+    → In p (w .server .sent)
     → Inv
-    (clientStep w (arriving (w .client) (p .bytes) (w .clientSlots) out .outcome) (arriving (w .client) (p .bytes) (w .clientSlots) out .out)
-    (arriving (w .client) (p .bytes) (w .clientSlots) out .slots))
+    (clientStep w (arriving (w .client .machine) (p .bytes) (w .client .slots) out .outcome) (arriving (w .client .machine) (p .bytes) (w .client .slots) out .out)
+    (arriving (w .client .machine) (p .bytes) (w .client .slots) out .slots))
 unfolding arriving acted planOf arrivalPlan
 client-arrive-inv w p out inv done sent =
-    let c = w .client in
-    let lent = lentGround (length (w .clientSlots)) (length out) in
+    let c = w .client .machine in
+    let lent = lentGround (length (w .client .slots)) (length out) in
     let r = reading (p .bytes) in
     let body = bodyOf (p .bytes) in
     let status = statusReading (r .little) body .status in
     let n = bodyLength body in
-    let pass = arrive-accepted c (p .bytes) (w .clientSlots) out done in
+    let pass = arrive-accepted c (p .bytes) (w .client .slots) out done in
     let j = arrival-passes c lent r body pass in
-    let buffers = lent-passes (length (w .clientSlots)) (length out) (j .0 .buffers) in
+    let buffers = lent-passes (length (w .client .slots)) (length out) (j .0 .buffers) in
     let event = eventOf (r .header .kind) in
     let next = row-inv w inv (p .ordinal) (r .header) body status (j .0 .kept) (buffers .0) (body-short (p .bytes) (j .0 .done))
     (inv .responses p sent .told (j .0 .done)) event (j .1) refl in
@@ -323,13 +323,13 @@ client-arrive-inv w p out inv done sent =
     (λ (x : Ground).
     Inv
     (clientStep w (sending (arrivalPlan x c (r .header) n status) [] out .outcome) (sending (arrivalPlan x c (r .header) n status) [] out .out)
-    (storing (arrivalPlan x c (r .header) n status .put) (r .header .fragment) body (w .clientSlots))))
+    (storing (arrivalPlan x c (r .header) n status .put) (r .header .fragment) body (w .client .slots))))
     (sym pass)
     (planned w (arrivalRow event c (r .header) n status) [] out
-    (storing (arrivalRow event c (r .header) n status .put) (r .header .fragment) body (w .clientSlots)) inv next
+    (storing (arrivalRow event c (r .header) n status .put) (r .header .fragment) body (w .client .slots)) inv next
     (completed-known w inv (arrivalRow event c (r .header) n status .client)
-    (storing (arrivalRow event c (r .header) n status .put) (r .header .fragment) body (w .clientSlots)) next (arrivalRow event c (r .header) n status .notice)
+    (storing (arrivalRow event c (r .header) n status .put) (r .header .fragment) body (w .client .slots)) next (arrivalRow event c (r .header) n status .notice)
     (row-tells event c (r .header) n status))
-    (others-sent (w .clientSent) (Request (w .starts)) (lastStart (w .starts)) (arrivalRow event c (r .header) n status .client) out (buffers .1) (next .activity)
+    (others-sent (w .client .sent) (Request (w .books .starts)) (lastStart (w .books .starts)) (arrivalRow event c (r .header) n status .client) out (buffers .1) (next .activity)
     (next .current (still event c (r .header) n status begun) .typed) (inv .requests) (arrivalRow event c (r .header) n status .send) []
     (row-asks-none event c (r .header) n status)))

@@ -16,7 +16,7 @@ use Rattle.client.specs.Machine.{starting}
 use Rattle.client.proofs.Growing.{transmit-grows, timer-grows, arrive-grows}
 use Rattle.history.specs.Lists.{andThen}
 use Rattle.history.specs.World.{Started, World}
-use Rattle.history.specs.Events.{Lent, Event, Start, ClientTransmit, ClientArrive, ClientTimer, ServerArrive, ServerTransmit, ServerTimer, Reply, Fault}
+use Rattle.history.specs.Events.{Lent, ClientEvent, Event, Start, ClientTransmit, ClientArrive, ClientTimer, ServerArrive, ServerTransmit, ServerTimer, Reply, Fault, OfClient, OfServer}
 use Rattle.history.specs.Steps.{isDone, bytesLent, ownAfter, happens, answerTo, step, run}
 use Rattle.history.specs.Fairness.{Premise, Fair}
 use Rattle.history.specs.Claim.{replyHandedUp}
@@ -31,19 +31,19 @@ use Rattle.history.proofs.ServerArrivals.{server-arrive-inv}
 -- An event that is answered 0 and keeps its premise,
 accepted-inv : (w : World) (e : Event) → Inv w → answerTo w e ≡ Done → Premise w e → Inv (step w e)
 unfolding step answerTo happens bytesLent ownAfter
-accepted-inv w (Start call n message) inv done fair = started-inv w call n message inv done fair
-accepted-inv w (ClientTransmit message out) inv done fair = client-transmit-inv w message out inv done fair
-accepted-inv w (ClientArrive p lent out) inv done fair =
-    subst (λ (l : Lent). answerTo w (ClientArrive p l out) ≡ Done → Inv (step w (ClientArrive p l out))) (sym (fair .own))
+accepted-inv w (OfClient (Start call n message)) inv done fair = started-inv w call n message inv done fair
+accepted-inv w (OfClient (ClientTransmit message out)) inv done fair = client-transmit-inv w message out inv done fair
+accepted-inv w (OfClient (ClientArrive p lent out)) inv done fair =
+    subst (λ (l : Lent). answerTo w (OfClient (ClientArrive p l out)) ≡ Done → Inv (step w (OfClient (ClientArrive p l out)))) (sym (fair .own))
     (λ d. client-arrive-inv w p out inv d (fair .earlier)) done
-accepted-inv w (ClientTimer kind ticket out) inv done fair = client-timer-inv w kind ticket out inv done
-accepted-inv w (ServerArrive p lent out) inv done fair =
-    subst (λ (l : Lent). answerTo w (ServerArrive p l out) ≡ Done → Inv (step w (ServerArrive p l out))) (sym (fair .own))
+accepted-inv w (OfClient (ClientTimer kind ticket out)) inv done fair = client-timer-inv w kind ticket out inv done
+accepted-inv w (OfServer (ServerArrive p lent out)) inv done fair =
+    subst (λ (l : Lent). answerTo w (OfServer (ServerArrive p l out)) ≡ Done → Inv (step w (OfServer (ServerArrive p l out)))) (sym (fair .own))
     (λ d. server-arrive-inv w p out inv d (fair .earlier)) done
-accepted-inv w (ServerTransmit message out) inv done fair = server-transmit-inv w message out inv done fair
-accepted-inv w (ServerTimer ticket out) inv done fair = server-timer-inv w ticket out inv done
-accepted-inv w (Reply n message) inv done fair = replied-inv w n message inv done fair
-accepted-inv w (Fault status out) inv done fair = server-fault-inv w status out inv done
+accepted-inv w (OfServer (ServerTransmit message out)) inv done fair = server-transmit-inv w message out inv done fair
+accepted-inv w (OfServer (ServerTimer ticket out)) inv done fair = server-timer-inv w ticket out inv done
+accepted-inv w (OfServer (Reply n message)) inv done fair = replied-inv w n message inv done fair
+accepted-inv w (OfServer (Fault status out)) inv done fair = server-fault-inv w status out inv done
 
 -- and so every event, keeps what is known.
 pub step-inv : (w : World) (e : Event) → Inv w → (answerTo w e ≡ Done → Premise w e) → Inv (step w e)
@@ -76,83 +76,82 @@ pub record OneMore (before after : List Started) : Type 0 where
   pub is : after ≡ andThen before start
 
 -- A start that is answered 0 is on record then,
-start-more : (w : World) (call : Call) (n : ℕ) (message : List ℕ) → starting (w .client) call n .answer ≡ Done
-    → OneMore (w .starts) (startStep w (starting (w .client) call n) (call .idempotent) message .starts)
+start-more : (w : World) (call : Call) (n : ℕ) (message : List ℕ) → starting (w .client .machine) call n .answer ≡ Done
+    → OneMore (w .books .starts) (startStep w (starting (w .client .machine) call n) (call .idempotent) message .books .starts)
 start-more w call n message done =
-    let new : Started = record { ordinal = length (w .starts); number = starting (w .client) call n .client .number; idempotent = call .idempotent; message = message } in
-    record { start = new; is = choose-true (isDone (starting (w .client) call n .answer)) (andThen (w .starts) new) (w .starts) (ap isDone done) }
+    let new : Started = record { ordinal = length (w .books .starts); number = starting (w .client .machine) call n .client .number; idempotent = call .idempotent; message = message } in
+    record { start = new; is = choose-true (isDone (starting (w .client .machine) call n .answer)) (andThen (w .books .starts) new) (w .books .starts) (ap isDone done) }
 
 -- and no other event changes the starts.
-step-starts : (w : World) (e : Event) → (step w e .starts ≡ w .starts) ⊎ OneMore (w .starts) (step w e .starts)
+turn-starts : (w : World) (e : ClientEvent)
+    → (step w (OfClient e) .books .starts ≡ w .books .starts) ⊎ OneMore (w .books .starts) (step w (OfClient e) .books .starts)
 unfolding step answerTo happens
-step-starts w (Start call n message) = by-answer (done-or-not (starting (w .client) call n .answer))
+turn-starts w (Start call n message) = by-answer (done-or-not (starting (w .client .machine) call n .answer))
   where
-    by-answer : Dec (starting (w .client) call n .answer ≡ Done)
-        → (step w (Start call n message) .starts ≡ w .starts) ⊎ OneMore (w .starts) (step w (Start call n message) .starts)
+    by-answer : Dec (starting (w .client .machine) call n .answer ≡ Done)
+        → (step w (OfClient (Start call n message)) .books .starts ≡ w .books .starts)
+        ⊎ OneMore (w .books .starts) (step w (OfClient (Start call n message)) .books .starts)
     by-answer (yes done) = unfold step happens in inr (start-more w call n message done)
-    by-answer (no other) = unfold answerTo happens in inl (ap (λ (v : World). v .starts) (refused-same w (Start call n message) other))
-step-starts w (ClientTransmit message out) = inl refl
-step-starts w (ClientArrive p lent out) = inl refl
-step-starts w (ClientTimer kind ticket out) = inl refl
-step-starts w (ServerArrive p lent out) = inl refl
-step-starts w (ServerTransmit message out) = inl refl
-step-starts w (ServerTimer ticket out) = inl refl
-step-starts w (Reply n message) = inl refl
-step-starts w (Fault status out) = inl refl
+    by-answer (no other) =
+        unfold answerTo happens in inl (ap (λ (v : World). v .books .starts) (refused-same w (OfClient (Start call n message)) other))
+turn-starts w (ClientTransmit message out) = inl refl
+turn-starts w (ClientArrive p lent out) = inl refl
+turn-starts w (ClientTimer kind ticket out) = inl refl
+
+step-starts : (w : World) (e : Event) → (step w e .books .starts ≡ w .books .starts) ⊎ OneMore (w .books .starts) (step w e .books .starts)
+unfolding step happens
+step-starts w (OfClient e) = turn-starts w e
+step-starts w (OfServer e) = inl refl
 
 more-length : (before after : List Started) → OneMore before after → length after ≡ length before + 1
 more-length before after m = rw (m .is, length-append) refl
 
 -- So there are never fewer.
-run-starts : (w : World) (events : List Event) → length (w .starts) ≤ length (run w events .starts)
+run-starts : (w : World) (events : List Event) → length (w .books .starts) ≤ length (run w events .books .starts)
 unfolding run
-run-starts w [] = le-refl (length (w .starts))
+run-starts w [] = le-refl (length (w .books .starts))
 run-starts w (e ∷ es) = by-step (step-starts w e) (run-starts (step w e) es)
   where
-    by-step : (step w e .starts ≡ w .starts) ⊎ OneMore (w .starts) (step w e .starts) → length (step w e .starts) ≤ length (run (step w e) es .starts)
-        → length (w .starts) ≤ length (run (step w e) es .starts)
-    by-step (inl same) h = let as-long : length (step w e .starts) ≡ length (w .starts) = ap length same in omega arith
-    by-step (inr more) h = let longer = more-length (w .starts) (step w e .starts) more in omega arith
+    by-step : (step w e .books .starts ≡ w .books .starts) ⊎ OneMore (w .books .starts) (step w e .books .starts) → length (step w e .books .starts) ≤ length (run (step w e) es .books .starts)
+        → length (w .books .starts) ≤ length (run (step w e) es .books .starts)
+    by-step (inl same) h = let as-long : length (step w e .books .starts) ≡ length (w .books .starts) = ap length same in omega arith
+    by-step (inr more) h = let longer = more-length (w .books .starts) (step w e .books .starts) more in omega arith
 
 -- What the client hands up before an event that starts no call leads what it hands up after it.
-accepted-grows : (w : World) (e : Event) → answerTo w e ≡ Done → Premise w e → OneMore (w .starts) (step w e .starts) ⊎ Leads (replyHandedUp w) (replyHandedUp (step w e))
+accepted-grows : (w : World) (e : Event) → answerTo w e ≡ Done → Premise w e → OneMore (w .books .starts) (step w e .books .starts) ⊎ Leads (replyHandedUp w) (replyHandedUp (step w e))
 unfolding step answerTo happens bytesLent ownAfter
-accepted-grows w (Start call n message) done fair = inl (start-more w call n message done)
-accepted-grows w (ClientTransmit message out) done fair = inr (transmit-grows (w .client) message out (w .clientSlots))
-accepted-grows w (ClientArrive p lent out) done fair =
+accepted-grows w (OfClient (Start call n message)) done fair = inl (start-more w call n message done)
+accepted-grows w (OfClient (ClientTransmit message out)) done fair = inr (transmit-grows (w .client .machine) message out (w .client .slots))
+accepted-grows w (OfClient (ClientArrive p lent out)) done fair =
     inr
-    (subst (λ (l : Lent). Leads (replyHandedUp w) (replyHandedUp (step w (ClientArrive p l out)))) (sym (fair .own))
-    (arrive-grows (w .client) (p .bytes) (w .clientSlots) out))
-accepted-grows w (ClientTimer kind ticket out) done fair = inr (timer-grows (w .client) kind ticket out (w .clientSlots))
-accepted-grows w (ServerArrive p lent out) done fair = inr (leads-refl (replyHandedUp w))
-accepted-grows w (ServerTransmit message out) done fair = inr (leads-refl (replyHandedUp w))
-accepted-grows w (ServerTimer ticket out) done fair = inr (leads-refl (replyHandedUp w))
-accepted-grows w (Reply n message) done fair = inr (leads-refl (replyHandedUp w))
-accepted-grows w (Fault status out) done fair = inr (leads-refl (replyHandedUp w))
+    (subst (λ (l : Lent). Leads (replyHandedUp w) (replyHandedUp (step w (OfClient (ClientArrive p l out))))) (sym (fair .own))
+    (arrive-grows (w .client .machine) (p .bytes) (w .client .slots) out))
+accepted-grows w (OfClient (ClientTimer kind ticket out)) done fair = inr (timer-grows (w .client .machine) kind ticket out (w .client .slots))
+accepted-grows w (OfServer e) done fair = inr (leads-refl (replyHandedUp w))
 
-step-grows : (w : World) (e : Event) → (answerTo w e ≡ Done → Premise w e) → OneMore (w .starts) (step w e .starts) ⊎ Leads (replyHandedUp w) (replyHandedUp (step w e))
+step-grows : (w : World) (e : Event) → (answerTo w e ≡ Done → Premise w e) → OneMore (w .books .starts) (step w e .books .starts) ⊎ Leads (replyHandedUp w) (replyHandedUp (step w e))
 step-grows w e fair = by-answer (done-or-not (answerTo w e))
   where
-    by-answer : Dec (answerTo w e ≡ Done) → OneMore (w .starts) (step w e .starts) ⊎ Leads (replyHandedUp w) (replyHandedUp (step w e))
+    by-answer : Dec (answerTo w e ≡ Done) → OneMore (w .books .starts) (step w e .books .starts) ⊎ Leads (replyHandedUp w) (replyHandedUp (step w e))
     by-answer (yes done) = accepted-grows w e done (fair done)
     by-answer (no other) = inr (subst (λ (v : World). Leads (replyHandedUp w) (replyHandedUp v)) (sym (refused-same w e other)) (leads-refl (replyHandedUp w)))
 
 -- While no start goes on record it only grows.
-pub run-grows : (w : World) (events : List Event) → Fair w events → run w events .starts ≡ w .starts → Leads (replyHandedUp w) (replyHandedUp (run w events))
+pub run-grows : (w : World) (events : List Event) → Fair w events → run w events .books .starts ≡ w .books .starts → Leads (replyHandedUp w) (replyHandedUp (run w events))
 unfolding run
 run-grows w [] fair same = leads-refl (replyHandedUp w)
 run-grows w (e ∷ es) fair same = by-starts (step-starts w e) (step-grows w e (fair .0)) (run-grows (step w e) es (fair .1))
   where
-    none-more : OneMore (w .starts) (step w e .starts) → ⊥
+    none-more : OneMore (w .books .starts) (step w e .books .starts) → ⊥
     none-more more =
-        let longer = more-length (w .starts) (step w e .starts) more in
+        let longer = more-length (w .books .starts) (step w e .books .starts) more in
         let least = run-starts (step w e) es in
-        let as-long : length (run (step w e) es .starts) ≡ length (w .starts) = ap length same in
+        let as-long : length (run (step w e) es .books .starts) ≡ length (w .books .starts) = ap length same in
         omega arith
 
-    by-starts : (step w e .starts ≡ w .starts) ⊎ OneMore (w .starts) (step w e .starts)
-        → OneMore (w .starts) (step w e .starts) ⊎ Leads (replyHandedUp w) (replyHandedUp (step w e))
-        → (run (step w e) es .starts ≡ step w e .starts → Leads (replyHandedUp (step w e)) (replyHandedUp (run (step w e) es)))
+    by-starts : (step w e .books .starts ≡ w .books .starts) ⊎ OneMore (w .books .starts) (step w e .books .starts)
+        → OneMore (w .books .starts) (step w e .books .starts) ⊎ Leads (replyHandedUp w) (replyHandedUp (step w e))
+        → (run (step w e) es .books .starts ≡ step w e .books .starts → Leads (replyHandedUp (step w e)) (replyHandedUp (run (step w e) es)))
         → Leads (replyHandedUp w) (replyHandedUp (run (step w e) es))
     by-starts (inr more) grows rest = absurd (none-more more)
     by-starts (inl stay) (inl more) rest = absurd (none-more more)

@@ -25,8 +25,8 @@ use Rattle.server_rows.specs.Events.{eventOf as serverEventOf}
 use Rattle.client.specs.declared.Outcome.{Outcome as ClientOutcome}
 use Rattle.server.specs.declared.Outcome.{Outcome as ServerOutcome}
 use Rattle.history.specs.Lists.{In}
-use Rattle.history.specs.World.{bears, Started, Dispatched, Replied, Completed, Posted, World}
-use Rattle.history.specs.Steps.{lastStart, lastDispatched, clientWorld, serverWorld, clientStarted, serverReplied}
+use Rattle.history.specs.World.{bears, Started, Dispatched, Replied, Completed, SentPdu, World}
+use Rattle.history.specs.Steps.{lastStart, lastDispatched, clientTurnOf, serverTurnOf, startedAfter, repliedAfter, CallOf, ofRecord, clientWorld, serverWorld}
 use Rattle.history.specs.Fairness.{OfLastStart, OfLastReply, Typed}
 use Rattle.history.specs.Claim.{times, DispatchOf, WholeReply, hasReply}
 use Rattle.history.proofs.Holding.{Holding, Empty, Single}
@@ -146,6 +146,7 @@ pub record CallInv (starts : List Started) (dispatches : List Dispatched) (repli
   pub numbered : (s : Started) → In s starts → s .number ≡ bears (s .ordinal)
   pub once : (s : Started) → In s starts → s .idempotent ≡ false → times (s .ordinal) dispatches ≤ 1
   pub whole : (d : Dispatched) → In d dispatches → (s : Started) × (In s starts × ((s .ordinal ≡ d .ordinal) × (d .bytes ≡ s .message)))
+  pub called : (d : Dispatched) → In d dispatches → d .number ≡ bears (d .ordinal)
   pub replied : (r : Replied) → In r replies → DispatchOf dispatches (r .ordinal)
   pub alike : (r t : Replied) → In r replies → In t replies → r .ordinal ≡ t .ordinal → (r ≡ t) ⊎ (Single (r .message) ⊎ Single (t .message))
 
@@ -158,23 +159,27 @@ IsResponse kind = clientEventOf kind ≡ ResponseEvent
 
 -- All of it.
 pub record Inv (w : World) : Type 0 where
-  pub client : ClientInv (w .client) (w .clientSlots) (w .starts) (w .replies)
-  pub server : ServerInv (w .server) (w .standing) (w .serverSlots) (w .starts) (w .dispatches) (w .replies)
-  pub calls : CallInv (w .starts) (w .dispatches) (w .replies)
-  pub requests : (d : Posted) → In d (w .clientSent) → Known IsRequest (Request (w .starts)) d
-  pub responses : (d : Posted) → In d (w .serverSent) → Known IsResponse (Response (w .replies)) d
-  pub completed : (c : Completed) → In c (w .completions) → WholeReply (w .replies) c
+  pub client : ClientInv (w .client .machine) (w .client .slots) (w .books .starts) (w .books .replies)
+  pub server : ServerInv (w .server .machine) (w .books .standing) (w .server .slots) (w .books .starts) (w .books .dispatches) (w .books .replies)
+  pub calls : CallInv (w .books .starts) (w .books .dispatches) (w .books .replies)
+  pub requests : (d : SentPdu) → In d (w .client .sent) → Known IsRequest (Request (w .books .starts)) d
+  pub responses : (d : SentPdu) → In d (w .server .sent) → Known IsResponse (Response (w .books .replies)) d
+  pub completed : (c : Completed) → In c (w .books .completions) → WholeReply (w .books .replies) c
 
 -- The world after a step of the client that is no start, after a start, after a step of the server that is no reply, and after a
 -- reply.
 abbrev pub clientStep : World → ClientOutcome → List ℕ → List ℕ → World
-clientStep w r out slots = clientWorld w r out slots (w .starts)
+clientStep w r out slots = clientWorld w (clientTurnOf r out slots) (w .books .starts)
 
 abbrev pub startStep : World → ClientOutcome → Bool → List ℕ → World
-startStep w r idempotent message = clientStarted w r idempotent message .world
+startStep w r idempotent message =
+    let t = clientTurnOf r [] (w .client .slots) in
+    clientWorld w t (startedAfter (w .books .starts) t idempotent message)
 
-abbrev pub serverStep : World → ServerOutcome → List ℕ → List ℕ → ℕ → ℕ → World
-serverStep w r out slots ordinal standing = serverWorld w r out slots ordinal standing (w .replies)
+abbrev pub serverStep : World → ServerOutcome → List ℕ → List ℕ → CallOf → World
+serverStep w r out slots of = serverWorld w (serverTurnOf r out slots) of (w .books .replies)
 
 abbrev pub replyStep : World → ServerOutcome → List ℕ → World
-replyStep w r message = serverReplied w r message .world
+replyStep w r message =
+    let t = serverTurnOf r [] (w .server .slots) in
+    serverWorld w t (ofRecord w) (repliedAfter (w .books .replies) t (lastDispatched (w .books .dispatches)) message)

@@ -1,4 +1,4 @@
--- The theorem over every list of events, and two runs that show that it is not empty.
+-- The theorem over every list of events.
 pub mod ListLaws
 pub mod Holding
 pub mod Ordinals
@@ -19,12 +19,3 @@ pub mod ServerArrivals
 pub mod Histories
 pub mod Tickets
 pub mod Theorem
-pub mod ComputedOpen
-pub mod ComputedLaws
-pub mod ComputedParts
-pub mod ComputedClient
-pub mod ComputedServer
-pub mod ComputedSides
-pub mod ComputedLossy
-pub mod ComputedTwice
-pub mod Computed

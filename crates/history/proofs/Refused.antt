@@ -21,24 +21,19 @@ use Rattle.grounds.specs.Order.{refuseIf, groundOf}
 use Rattle.grounds.proofs.PassLaws.{answer-passes}
 use Rattle.client_record.specs.declared.TimerKind.the-variants.{Wait, Ack}
 use Rattle.client_table.specs.Local.{namedTimer}
-use Rattle.client.specs.declared.Outcome.{Outcome as ClientOutcome}
-use Rattle.client.specs.Machine.{starting, transmitting as clientTransmitting, timing as clientTiming, arriving as clientArriving}
 use Rattle.client.proofs.Judging.{timer-passes as client-timer-passes}
 use Rattle.client.proofs.Accepting.{timer-accepted as client-timer-accepted}
 use Rattle.client.proofs.Refusals.{start-refused, transmit-refused as client-transmit-refused, timer-refused as client-timer-refused, arrive-refused as client-arrive-refused}
-use Rattle.server.specs.declared.Outcome.{Outcome as ServerOutcome}
-use Rattle.client.specs.HandUp.{handsUp as clientHandsUp}
-use Rattle.server.specs.HandUp.{handsUp}
-use Rattle.server.specs.Machine.{replying, transmitting as serverTransmitting, timing as serverTiming, faulting, arriving as serverArriving}
+use Rattle.client_record.specs.declared.Client.{Client}
+use Rattle.server_record.specs.declared.Server.{Server}
 use Rattle.server.proofs.Judging.{timer-passes as server-timer-passes}
 use Rattle.server.proofs.Accepting.{timer-accepted as server-timer-accepted}
 use Rattle.server.proofs.Refusals.{reply-refused, transmit-refused as server-transmit-refused, fault-refused, timer-refused as server-timer-refused, arrive-refused as server-arrive-refused}
-use Rattle.history.specs.World.{Started, Replied, World}
-use Rattle.history.specs.Events.{Lent, Own, Other, Event, Start, ClientTransmit, ClientArrive, ClientTimer, ServerArrive, ServerTransmit, ServerTimer, Reply, Fault}
-use Rattle.history.specs.Steps.{isDone, bytesLent, ownAfter, sentAfter, lastStart, dispatchesAfter, completionsAfter, lastDispatched, happens, answerTo, noticeOf, leftIn, step}
-use Rattle.history.proofs.Invariant.{clientStep, startStep, serverStep, replyStep}
+use Rattle.history.specs.World.{Started, Side, Books, World}
+use Rattle.history.specs.Events.{Lent, Own, Other, ClientEvent, ServerEvent, Event, Start, ClientTransmit, ClientArrive, ClientTimer, ServerArrive, ServerTransmit, ServerTimer, Reply, Fault, OfClient, OfServer}
+use Rattle.history.specs.Steps.{isDone, bytesLent, ownAfter, sentAfter, lastStart, dispatchesAfter, completionsAfter, lastDispatched, Turn, clientTurn, serverTurn, sideAfter, startsAfter, repliesAfter, callOf, completionOf, dispatchOf, happens, answerTo, noticeOf, leftIn, step}
 use Rattle.history.specs.Lists.{andThen}
-use Rattle.history.specs.Claim.{TimerOf, OfClient, OfServer, timerIn, timerEvent, ChangesNothing}
+use Rattle.history.specs.Claim.{TimerOf, OnClient, OnServer, timerIn, timerEvent, ChangesNothing}
 
 -- An answer that is not Done is not 0.
 not-zero : (a : Answer) → (a ≡ Done → ⊥) → isDone a ≡ false
@@ -55,118 +50,147 @@ unfolding bytesLent ownAfter
 same-own Own own left e = e
 same-own (Other bytes) own left e = refl
 
--- A client that stays, sends nothing and leaves its buffer changes nothing,
-client-same : (w : World) (r : ClientOutcome) (out slots : List ℕ) → r .client ≡ w .client → r .sent ≡ Nothing → r .notice ≡ Untold
-    → slots ≡ w .clientSlots → clientStep w r out slots ≡ w
-unfolding sentAfter completionsAfter
-client-same w r out slots p q u e = λ i. record {
-  client = p i;
-  server = w .server;
-  clientSlots = e i;
-  serverSlots = w .serverSlots;
-  clientSent = sentAfter (w .clientSent) (q i) out (lastStart (w .starts));
-  serverSent = w .serverSent;
-  standing = w .standing;
-  starts = w .starts;
-  dispatches = w .dispatches;
-  replies = w .replies;
-  completions = completionsAfter (w .completions) (u i) (lastStart (w .starts)) (clientHandsUp (r .client) slots);
+-- The PDU buffer that an event is lent; start and reply are lent none.
+abbrev clientBuffer : ClientEvent → List ℕ
+clientBuffer (Start call n message) = []
+clientBuffer (ClientTransmit message out) = out
+clientBuffer (ClientArrive p lent out) = out
+clientBuffer (ClientTimer kind ticket out) = out
+
+abbrev serverBuffer : ServerEvent → List ℕ
+serverBuffer (ServerArrive p lent out) = out
+serverBuffer (ServerTransmit message out) = out
+serverBuffer (ServerTimer ticket out) = out
+serverBuffer (Reply n message) = []
+serverBuffer (Fault status out) = out
+
+-- A turn that leaves its side and the PDU buffer as they were, sends nothing and tells nothing.
+pub record Untouched {Machine : Type 0} (side : Side Machine) (out : List ℕ) (t : Turn Machine) : Type 0 where
+  pub machine : t .machine ≡ side .machine
+  pub slots : t .slots ≡ side .slots
+  pub sent : t .sent ≡ Nothing
+  pub notice : t .notice ≡ Untold
+  pub buffer : t .out ≡ out
+
+-- Every event that is not answered 0 is such: the client's,
+pub client-refused : (c : Side Client) (e : ClientEvent) → (clientTurn c e .answer ≡ Done → ⊥) → Untouched c (clientBuffer e) (clientTurn c e)
+client-refused c (Start call n message) other =
+    let same = start-refused (c .machine) call n other in
+    record { machine = same .client; slots = refl; sent = same .sent; notice = same .notice; buffer = refl }
+client-refused c (ClientTransmit message out) other =
+    let same = client-transmit-refused (c .machine) message out other in
+    record { machine = same .outcome .client; slots = refl; sent = same .outcome .sent; notice = same .outcome .notice; buffer = same .buffer }
+client-refused c (ClientArrive p lent out) other =
+    let same = client-arrive-refused (c .machine) (p .bytes) (bytesLent lent (c .slots)) out other in
+    record {
+      machine = same .outcome .client;
+      slots = same-own lent (c .slots) _ (same .stored);
+      sent = same .outcome .sent;
+      notice = same .outcome .notice;
+      buffer = same .buffer;
+    }
+client-refused c (ClientTimer kind ticket out) other =
+    let same = client-timer-refused (c .machine) kind ticket out other in
+    record { machine = same .outcome .client; slots = refl; sent = same .outcome .sent; notice = same .outcome .notice; buffer = same .buffer }
+
+-- and the server's.
+pub server-refused : (s : Side Server) (e : ServerEvent) → (serverTurn s e .answer ≡ Done → ⊥) → Untouched s (serverBuffer e) (serverTurn s e)
+server-refused s (ServerArrive p lent out) other =
+    let same = server-arrive-refused (s .machine) (p .bytes) (bytesLent lent (s .slots)) out other in
+    record {
+      machine = same .outcome .server;
+      slots = same-own lent (s .slots) _ (same .stored);
+      sent = same .outcome .sent;
+      notice = same .outcome .notice;
+      buffer = same .buffer;
+    }
+server-refused s (ServerTransmit message out) other =
+    let same = server-transmit-refused (s .machine) message out other in
+    record { machine = same .outcome .server; slots = refl; sent = same .outcome .sent; notice = same .outcome .notice; buffer = same .buffer }
+server-refused s (ServerTimer ticket out) other =
+    let same = server-timer-refused (s .machine) ticket out other in
+    record { machine = same .outcome .server; slots = refl; sent = same .outcome .sent; notice = same .outcome .notice; buffer = same .buffer }
+server-refused s (Reply n message) other =
+    let same = reply-refused (s .machine) n other in
+    record { machine = same .server; slots = refl; sent = same .sent; notice = same .notice; buffer = refl }
+server-refused s (Fault status out) other =
+    let same = fault-refused (s .machine) status out other in
+    record { machine = same .outcome .server; slots = refl; sent = same .outcome .sent; notice = same .outcome .notice; buffer = same .buffer }
+
+-- Such a turn leaves its side,
+side-same : {Machine : Type 0} (side : Side Machine) (out : List ℕ) (t : Turn Machine) (ordinal : ℕ) → Untouched side out t → sideAfter side t ordinal ≡ side
+unfolding sentAfter
+side-same side out t ordinal u = λ i. record {
+  machine = u .machine i;
+  slots = u .slots i;
+  sent = sentAfter (side .sent) (u .sent i) (t .out) ordinal;
 }
 
--- nor does such a server that tells nothing,
-server-same : (w : World) (r : ServerOutcome) (out slots : List ℕ) (ordinal standing : ℕ) → r .server ≡ w .server → r .sent ≡ Nothing → r .notice ≡ Untold
-    → slots ≡ w .serverSlots → standing ≡ w .standing → serverStep w r out slots ordinal standing ≡ w
-unfolding sentAfter dispatchesAfter
-server-same w r out slots ordinal standing p q u e at = λ i. record {
-  client = w .client;
-  server = p i;
-  clientSlots = w .clientSlots;
-  serverSlots = e i;
-  clientSent = w .clientSent;
-  serverSent = sentAfter (w .serverSent) (q i) out ordinal;
-  standing = at i;
-  starts = w .starts;
-  dispatches = dispatchesAfter (w .dispatches) (u i) ordinal (handsUp (r .server) slots);
-  replies = w .replies;
-  completions = w .completions;
-}
+-- a start that is refused is not on the books,
+starts-same : (before : List Started) (e : ClientEvent) (t : Turn Client) → (t .answer ≡ Done → ⊥) → startsAfter before e t ≡ before
+starts-same before (Start call n message) t other =
+    choose-false (isDone (t .answer))
+    (andThen before (record { ordinal = length before; number = t .machine .number; idempotent = call .idempotent; message = message })) before
+    (not-zero (t .answer) other)
+starts-same before (ClientTransmit message out) t other = refl
+starts-same before (ClientArrive p lent out) t other = refl
+starts-same before (ClientTimer kind ticket out) t other = refl
 
--- a start that is not on record
-start-same : (w : World) (r : ClientOutcome) (idempotent : Bool) (message : List ℕ) → (r .answer ≡ Done → ⊥) → r .client ≡ w .client
-    → r .sent ≡ Nothing → r .notice ≡ Untold → startStep w r idempotent message ≡ w
-unfolding sentAfter completionsAfter
-start-same w r idempotent message other p q u =
-    let new : Started = record { ordinal = length (w .starts); number = r .client .number; idempotent = idempotent; message = message } in
-    let none = choose-false (isDone (r .answer)) (andThen (w .starts) new) (w .starts) (not-zero (r .answer) other) in
-    λ i. record {
-      client = p i;
-      server = w .server;
-      clientSlots = w .clientSlots;
-      serverSlots = w .serverSlots;
-      clientSent = sentAfter (w .clientSent) (q i) [] (lastStart (choose (isDone (r .answer)) (andThen (w .starts) new) (w .starts)));
-      serverSent = w .serverSent;
-      standing = w .standing;
-      starts = none i;
-      dispatches = w .dispatches;
-      replies = w .replies;
-      completions = completionsAfter (w .completions) (u i) (lastStart (choose (isDone (r .answer)) (andThen (w .starts) new) (w .starts))) (clientHandsUp (r .client) (w .clientSlots));
-    }
+-- nor is a reply,
+replies-same : (b : Books) (e : ServerEvent) (t : Turn Server) → (t .answer ≡ Done → ⊥) → repliesAfter b e t ≡ b .replies
+replies-same b (ServerArrive p lent out) t other = refl
+replies-same b (ServerTransmit message out) t other = refl
+replies-same b (ServerTimer ticket out) t other = refl
+replies-same b (Reply n message) t other =
+    choose-false (isDone (t .answer)) (andThen (b .replies) (record { ordinal = lastDispatched (b .dispatches); message = message })) (b .replies)
+    (not-zero (t .answer) other)
+replies-same b (Fault status out) t other = refl
 
--- or a reply that is not.
-reply-same : (w : World) (r : ServerOutcome) (message : List ℕ) → (r .answer ≡ Done → ⊥) → r .server ≡ w .server → r .sent ≡ Nothing
-    → r .notice ≡ Untold → replyStep w r message ≡ w
-unfolding sentAfter dispatchesAfter
-reply-same w r message other p q u =
-    let new : Replied = record { ordinal = lastDispatched (w .dispatches); message = message } in
-    let none = choose-false (isDone (r .answer)) (andThen (w .replies) new) (w .replies) (not-zero (r .answer) other) in
-    λ i. record {
-      client = w .client;
-      server = p i;
-      clientSlots = w .clientSlots;
-      serverSlots = w .serverSlots;
-      clientSent = w .clientSent;
-      serverSent = sentAfter (w .serverSent) (q i) [] (w .standing);
-      standing = w .standing;
-      starts = w .starts;
-      dispatches = dispatchesAfter (w .dispatches) (u i) (w .standing) (handsUp (r .server) (w .serverSlots));
-      replies = none i;
-      completions = w .completions;
-    }
+-- and the server's record stands where it stood.
+standing-same : (w : World) (e : ServerEvent) (answer : Answer) → (answer ≡ Done → ⊥) → callOf w e answer .standing ≡ w .books .standing
+standing-same w (ServerArrive p lent out) answer other =
+    choose-false (isDone answer) (choose (eqb (reading (p .bytes) .header .kind) 0) (p .ordinal) (w .books .standing)) (w .books .standing)
+    (not-zero answer other)
+standing-same w (ServerTransmit message out) answer other = refl
+standing-same w (ServerTimer ticket out) answer other = refl
+standing-same w (Reply n message) answer other = refl
+standing-same w (Fault status out) answer other = refl
 
 -- So an event that is not answered 0 leaves the whole world as it was.
 pub refused-same : (w : World) (e : Event) → (answerTo w e ≡ Done → ⊥) → step w e ≡ w
-unfolding step answerTo happens
-refused-same w (Start call n message) other =
-    let same = start-refused (w .client) call n other in
-    start-same w (starting (w .client) call n) (call .idempotent) message other (same .client) (same .sent) (same .notice)
-refused-same w (ClientTransmit message out) other =
-    let same = client-transmit-refused (w .client) message out other .outcome in
-    client-same w (clientTransmitting (w .client) message out .outcome) _ (w .clientSlots) (same .client) (same .sent) (same .notice) refl
-refused-same w (ClientArrive p lent out) other =
-    let same = client-arrive-refused (w .client) (p .bytes) (bytesLent lent (w .clientSlots)) out other in
-    client-same w (clientArriving (w .client) (p .bytes) (bytesLent lent (w .clientSlots)) out .outcome) _ _ (same .outcome .client) (same .outcome .sent)
-    (same .outcome .notice) (same-own lent (w .clientSlots) _ (same .stored))
-refused-same w (ClientTimer kind ticket out) other =
-    let same = client-timer-refused (w .client) kind ticket out other .outcome in
-    client-same w (clientTiming (w .client) kind ticket out .outcome) _ (w .clientSlots) (same .client) (same .sent) (same .notice) refl
-refused-same w (ServerArrive p lent out) other =
-    let same = server-arrive-refused (w .server) (p .bytes) (bytesLent lent (w .serverSlots)) out other in
-    server-same w (serverArriving (w .server) (p .bytes) (bytesLent lent (w .serverSlots)) out .outcome) _ _ _ _ (same .outcome .server) (same .outcome .sent)
-    (same .outcome .notice) (same-own lent (w .serverSlots) _ (same .stored))
-    (choose-false (isDone (serverArriving (w .server) (p .bytes) (bytesLent lent (w .serverSlots)) out .outcome .answer))
-    (choose (eqb (reading (p .bytes) .header .kind) 0) (p .ordinal) (w .standing)) (w .standing) (not-zero _ other))
-refused-same w (ServerTransmit message out) other =
-    let same = server-transmit-refused (w .server) message out other .outcome in
-    server-same w (serverTransmitting (w .server) message out .outcome) _ (w .serverSlots) _ _ (same .server) (same .sent) (same .notice) refl refl
-refused-same w (ServerTimer ticket out) other =
-    let same = server-timer-refused (w .server) ticket out other .outcome in
-    server-same w (serverTiming (w .server) ticket out .outcome) _ (w .serverSlots) _ _ (same .server) (same .sent) (same .notice) refl refl
-refused-same w (Reply n message) other =
-    let same = reply-refused (w .server) n other in
-    reply-same w (replying (w .server) n) message other (same .server) (same .sent) (same .notice)
-refused-same w (Fault status out) other =
-    let same = fault-refused (w .server) status out other .outcome in
-    server-same w (faulting (w .server) status out .outcome) _ (w .serverSlots) _ _ (same .server) (same .sent) (same .notice) refl refl
+unfolding step answerTo happens completionsAfter dispatchesAfter
+refused-same w (OfClient e) other =
+    let t = clientTurn (w .client) e in
+    let u = client-refused (w .client) e other in
+    let starts = startsAfter (w .books .starts) e t in
+    λ i. record {
+      client = side-same (w .client) (clientBuffer e) t (lastStart starts) u i;
+      server = w .server;
+      books =
+          record {
+            starts = starts-same (w .books .starts) e t other i;
+            dispatches = w .books .dispatches;
+            replies = w .books .replies;
+            completions = completionsAfter (w .books .completions) (u .notice i) (completionOf starts (t .machine) (t .slots));
+            standing = w .books .standing;
+          };
+    }
+refused-same w (OfServer e) other =
+    let t = serverTurn (w .server) e in
+    let u = server-refused (w .server) e other in
+    let of = callOf w e (t .answer) in
+    λ i. record {
+      client = w .client;
+      server = side-same (w .server) (serverBuffer e) t (of .ordinal) u i;
+      books =
+          record {
+            starts = w .books .starts;
+            dispatches = dispatchesAfter (w .books .dispatches) (u .notice i) (dispatchOf of (t .machine) (t .slots));
+            replies = replies-same (w .books) e t other i;
+            completions = w .books .completions;
+            standing = standing-same w e (t .answer) other i;
+          };
+    }
 
 -- A timer that is armed with a ticket has it.
 armed-is : (timer : Timer) (ticket : ℕ) → armedWith timer ticket ≡ true → timer ≡ Armed ticket
@@ -178,26 +202,26 @@ armed-is (Armed held) ticket e = ap Armed (eqb-true held ticket e)
 pub acted-armed : (w : World) (timer : TimerOf) (ticket : ℕ) (out : List ℕ) → answerTo w (timerEvent timer ticket out) ≡ Done
     → timerIn w timer ≡ Armed ticket
 unfolding answerTo happens timerEvent timerIn namedTimer
-acted-armed w (OfClient Wait) ticket out done =
-    armed-is (w .client .wait) ticket (client-timer-passes (w .client) Wait ticket _ (client-timer-accepted (w .client) Wait ticket out done) .armed)
-acted-armed w (OfClient Ack) ticket out done =
-    armed-is (w .client .ack) ticket (client-timer-passes (w .client) Ack ticket _ (client-timer-accepted (w .client) Ack ticket out done) .armed)
-acted-armed w OfServer ticket out done =
-    armed-is (w .server .resend) ticket (server-timer-passes (w .server) ticket _ (server-timer-accepted (w .server) ticket out done) .armed)
+acted-armed w (OnClient Wait) ticket out done =
+    armed-is (w .client .machine .wait) ticket (client-timer-passes (w .client .machine) Wait ticket _ (client-timer-accepted (w .client .machine) Wait ticket out done) .armed)
+acted-armed w (OnClient Ack) ticket out done =
+    armed-is (w .client .machine .ack) ticket (client-timer-passes (w .client .machine) Ack ticket _ (client-timer-accepted (w .client .machine) Ack ticket out done) .armed)
+acted-armed w OnServer ticket out done =
+    armed-is (w .server .machine .resend) ticket (server-timer-passes (w .server .machine) ticket _ (server-timer-accepted (w .server .machine) ticket out done) .armed)
 
--- and a refused one tells nothing,
+-- and a refused one tells nothing
 timer-untold : (w : World) (timer : TimerOf) (ticket : ℕ) (out : List ℕ) → (answerTo w (timerEvent timer ticket out) ≡ Done → ⊥)
     → noticeOf w (timerEvent timer ticket out) ≡ Untold
 unfolding answerTo noticeOf happens timerEvent
-timer-untold w (OfClient kind) ticket out other = client-timer-refused (w .client) kind ticket out other .outcome .notice
-timer-untold w OfServer ticket out other = server-timer-refused (w .server) ticket out other .outcome .notice
+timer-untold w (OnClient kind) ticket out other = client-refused (w .client) (ClientTimer kind ticket out) other .notice
+timer-untold w OnServer ticket out other = server-refused (w .server) (ServerTimer ticket out) other .notice
 
 -- and leaves its PDU buffer,
 timer-left : (w : World) (timer : TimerOf) (ticket : ℕ) (out : List ℕ) → (answerTo w (timerEvent timer ticket out) ≡ Done → ⊥)
     → leftIn w (timerEvent timer ticket out) ≡ out
 unfolding answerTo leftIn happens timerEvent
-timer-left w (OfClient kind) ticket out other = client-timer-refused (w .client) kind ticket out other .buffer
-timer-left w OfServer ticket out other = server-timer-refused (w .server) ticket out other .buffer
+timer-left w (OnClient kind) ticket out other = client-refused (w .client) (ClientTimer kind ticket out) other .buffer
+timer-left w OnServer ticket out other = server-refused (w .server) (ServerTimer ticket out) other .buffer
 
 -- so a late one changes nothing.
 pub late-nothing : (w : World) (timer : TimerOf) (ticket : ℕ) (out : List ℕ) → (timerIn w timer ≡ Armed ticket → ⊥)

@@ -55,8 +55,8 @@ use Rattle.server.specs.Machine.{sending, planOf, acted, arriving}
 use Rattle.server.proofs.Judging.{CanArrive, begin-fits, put-fits, fack-fits, arrival-passes}
 use Rattle.server.proofs.Accepting.{arrive-accepted}
 use Rattle.history.specs.Lists.{In}
-use Rattle.history.specs.World.{bears, Posted, World}
-use Rattle.history.specs.Steps.{isDone, lastStart, standingAfter}
+use Rattle.history.specs.World.{bears, SentPdu, World}
+use Rattle.history.specs.Steps.{isDone, lastStart, standingAfter, CallOf, ofArrival}
 use Rattle.history.specs.Fairness.{Typed}
 use Rattle.history.proofs.Network.{Request, Response, read-sized}
 use Rattle.history.proofs.Invariant.{unanswered, hasData, NewTo, ServerInv, Inv, serverStep}
@@ -100,24 +100,24 @@ request-kind kind e = by-zero (eqb kind 0) refl (leb kind 1) (eqb kind 7) (eqb k
     by-zero false z false false false q = absurd (false≢true (ap isRequest q))
 
 -- The row of an arriving PDU that passed.
-module _ (w : World) (inv : Inv w) (o : ℕ) (h : Header) (body : List ℕ) (j : CanArrive (w .server) h) (whole : length (w .serverSlots) ≡ 44544)
-    (short : length body ≤ 1392) (sized : Sized h) (known : eventOf (h .kind) ≡ RequestEvent → Request (w .starts) o h body)
+module _ (w : World) (inv : Inv w) (o : ℕ) (h : Header) (body : List ℕ) (j : CanArrive (w .server .machine) h) (whole : length (w .server .slots) ≡ 44544)
+    (short : length body ≤ 1392) (sized : Sized h) (known : eventOf (h .kind) ≡ RequestEvent → Request (w .books .starts) o h body)
     (out : List ℕ) (room : length out ≡ 1472) where
   -- Where the record then stands: at a request's start.
   abbrev stands : ℕ
-  stands = choose (eqb (h .kind) 0) o (w .standing)
+  stands = choose (eqb (h .kind) 0) o (w .books .standing)
 
   stands-at : eventOf (h .kind) ≡ RequestEvent → stands ≡ o
-  stands-at e = choose-true (eqb (h .kind) 0) o (w .standing) (request-kind (h .kind) e)
+  stands-at e = choose-true (eqb (h .kind) 0) o (w .books .standing) (request-kind (h .kind) e)
 
   -- A request is of a start up to the client's last one, and so is the record's call.
-  sent-most : Request (w .starts) o h body → o ≤ lastStart (w .starts)
+  sent-most : Request (w .books .starts) o h body → o ≤ lastStart (w .books .starts)
   sent-most request =
       let below = inv .calls .below (request .start) (request .started) in
       let is = request .is in
       omega arith
 
-  stood-most : isFresh (w .server .state) ≡ false → w .standing ≤ lastStart (w .starts)
+  stood-most : isFresh (w .server .machine .state) ≡ false → w .books .standing ≤ lastStart (w .books .starts)
   stood-most called =
       let k = inv .server .called called in
       let below = inv .calls .below (k .start) (k .started) in
@@ -125,117 +125,120 @@ module _ (w : World) (inv : Inv w) (o : ℕ) (h : Header) (body : List ℕ) (j :
       omega arith
 
   -- A newer request is of a later start,
-  newer-ordinal : Request (w .starts) o h body → orderFor (w .server) h ≡ Newer → NewTo (w .server) (w .standing) o
+  newer-ordinal : Request (w .books .starts) o h body → orderFor (w .server .machine) h ≡ Newer → NewTo (w .server .machine) (w .books .standing) o
   unfolding orderFor
-  newer-ordinal request e = by-fresh (isFresh (w .server .state)) refl (newer-told (isFresh (w .server .state)) (w .server .number) (h .number) e)
+  newer-ordinal request e = by-fresh (isFresh (w .server .machine .state)) refl (newer-told (isFresh (w .server .machine .state)) (w .server .machine .number) (h .number) e)
     where
-      by-fresh : (t : Bool) → isFresh (w .server .state) ≡ t → (isFresh (w .server .state) ≡ true) ⊎ (w .server .number < h .number)
-          → NewTo (w .server) (w .standing) o
+      by-fresh : (t : Bool) → isFresh (w .server .machine .state) ≡ t → (isFresh (w .server .machine .state) ≡ true) ⊎ (w .server .machine .number < h .number)
+          → NewTo (w .server .machine) (w .books .standing) o
       by-fresh true f told = inl f
       by-fresh false f (inl fresh) = inl fresh
       by-fresh false f (inr above) =
           inr
-          (newer-start o (w .standing) (lastStart (w .starts)) (sent-most request) (stood-most f)
-          (subst (λ (n : ℕ). n < bears o) (inv .server .called f .number) (subst (λ (n : ℕ). w .server .number < n) (request .number) above)))
+          (newer-start o (w .books .standing) (lastStart (w .books .starts)) (sent-most request) (stood-most f)
+          (subst (λ (n : ℕ). n < bears o) (inv .server .called f .number) (subst (λ (n : ℕ). w .server .machine .number < n) (request .number) above)))
 
   -- and an equal one of the start that the record stands at.
-  equal-ordinal : Request (w .starts) o h body → orderFor (w .server) h ≡ Equal → w .standing ≡ o
+  equal-ordinal : Request (w .books .starts) o h body → orderFor (w .server .machine) h ≡ Equal → w .books .standing ≡ o
   unfolding orderFor
   equal-ordinal request e =
-      let told = equal-told (isFresh (w .server .state)) (w .server .number) (h .number) e in
-      equal-start o (w .standing) (lastStart (w .starts)) (sent-most request) (stood-most (told .0))
+      let told = equal-told (isFresh (w .server .machine .state)) (w .server .machine .number) (h .number) e in
+      equal-start o (w .books .standing) (lastStart (w .books .starts)) (sent-most request) (stood-most (told .0))
       (sym (inv .server .called (told .0) .number) ∙ told .1 ∙ request .number)
 
   -- So where no other request than an equal one is taken, the record stands where it stood.
-  settles : (eventOf (h .kind) ≡ RequestEvent → orderFor (w .server) h ≡ Equal) → w .standing ≡ stands
+  settles : (eventOf (h .kind) ≡ RequestEvent → orderFor (w .server .machine) h ≡ Equal) → w .books .standing ≡ stands
   unfolding choose
   settles equal = by-kind (eqb (h .kind) 0) refl
     where
-      by-kind : (t : Bool) → eqb (h .kind) 0 ≡ t → w .standing ≡ choose t o (w .standing)
+      by-kind : (t : Bool) → eqb (h .kind) 0 ≡ t → w .books .standing ≡ choose t o (w .books .standing)
       by-kind true e = let is = kind-request (h .kind) e in equal-ordinal (known is) (equal is)
       by-kind false e = refl
 
-  -- The world after a plan for it.
+  -- The world after a plan for it, by where the record then stands.
+  abbrev AfterAt : Plan → ℕ → World
+  AfterAt plan standing =
+      serverStep w (sending plan h [] out .outcome) (sending plan h [] out .out) (storing (plan .put) (h .fragment) body (w .server .slots))
+      (record { ordinal = o; number = h .number; standing = standing })
+
   abbrev After : Plan → World
-  After plan = serverStep w (sending plan h [] out .outcome) (sending plan h [] out .out) (storing (plan .put) (h .fragment) body (w .serverSlots)) o stands
+  After plan = AfterAt plan stands
+
+  abbrev of : CallOf
+  of = record { ordinal = o; number = h .number; standing = stands }
 
   -- A plan that puts nothing, tells nothing and sends no response.
   quiet-inv : (plan : Plan) → plan .put ≡ false → plan .notice ≡ Untold → answers (plan .send) ≡ false → (ofCall (plan .send) ≡ true → Typed (plan .server .call))
-      → ServerInv (plan .server) (w .standing) (w .serverSlots) (w .starts) (w .dispatches) (w .replies)
-      → (eventOf (h .kind) ≡ RequestEvent → orderFor (w .server) h ≡ Equal) → Inv (After plan)
+      → ServerInv (plan .server) (w .books .standing) (w .server .slots) (w .books .starts) (w .books .dispatches) (w .books .replies)
+      → (eventOf (h .kind) ≡ RequestEvent → orderFor (w .server .machine) h ≡ Equal) → Inv (After plan)
   unfolding storing choose
   quiet-inv plan unput untold none typed server equal =
       subst
       (λ (put : Bool).
-      Inv (serverStep w (sending plan h [] out .outcome) (sending plan h [] out .out) (storing put (h .fragment) body (w .serverSlots)) o stands))
+      Inv (serverStep w (sending plan h [] out .outcome) (sending plan h [] out .out) (storing put (h .fragment) body (w .server .slots)) of))
       (sym unput)
-      (planned w plan h [] out (w .serverSlots) o stands inv untold
-      (subst (λ (n : ℕ). ServerInv (plan .server) n (w .serverSlots) (w .starts) (w .dispatches) (w .replies)) (settles equal) server)
-      (others-sent (w .serverSent) (Response (w .replies)) o (plan .server) h out room (server .activity) (sized .object) (sized .interface) (inv .responses)
+      (planned w plan h [] out (w .server .slots) of inv untold
+      (subst (λ (n : ℕ). ServerInv (plan .server) n (w .server .slots) (w .books .starts) (w .books .dispatches) (w .books .replies)) (settles equal) server)
+      (others-sent (w .server .sent) (Response (w .books .replies)) o (plan .server) h out room (server .activity) (sized .object) (sized .interface) (inv .responses)
       (plan .send) [] none typed))
 
   -- Begin: the request is newer, or repeats an idempotent call.
-  begins : rowFor (w .server) h ≡ Begin → (eventOf (h .kind) ≡ RequestEvent) × Begins (w .server) (w .standing) o h
+  begins : rowFor (w .server .machine) h ≡ Begin → (eventOf (h .kind) ≡ RequestEvent) × Begins (w .server .machine) (w .books .standing) o h
   unfolding rowFor
   begins e =
-      let told = begin-told (eventOf (h .kind)) (orderFor (w .server) h) (w .server .state) (hasFlag idempotent (h .flags1)) (w .server .call .idempotent) e in
+      let told = begin-told (eventOf (h .kind)) (orderFor (w .server .machine) h) (w .server .machine .state) (hasFlag idempotent (h .flags1)) (w .server .machine .call .idempotent) e in
       (told .0, by-order (known (told .0)) (told .1))
     where
-      by-order : Request (w .starts) o h body → ((orderFor (w .server) h ≡ Newer) × (isRunning (w .server .state) ≡ false))
-          ⊎ ((orderFor (w .server) h ≡ Equal) × (w .server .state ≡ IdleState Repeatable) × (hasFlag idempotent (h .flags1) ≡ true))
-          → Begins (w .server) (w .standing) o h
+      by-order : Request (w .books .starts) o h body → ((orderFor (w .server .machine) h ≡ Newer) × (isRunning (w .server .machine .state) ≡ false))
+          ⊎ ((orderFor (w .server .machine) h ≡ Equal) × (w .server .machine .state ≡ IdleState Repeatable) × (hasFlag idempotent (h .flags1) ≡ true))
+          → Begins (w .server .machine) (w .books .standing) o h
       by-order request (inl newer) = inl (newer-ordinal request (newer .0))
       by-order request (inr equal) = inr (equal-ordinal request (equal .0), (equal .1, equal .2))
 
-  -- The world after a plan that leaves the record at the PDU's start.
-  abbrev AfterAt : Plan → ℕ → World
-  AfterAt plan standing =
-      serverStep w (sending plan h [] out .outcome) (sending plan h [] out .out) (storing (plan .put) (h .fragment) body (w .serverSlots)) o standing
-
-  begin-inv : rowFor (w .server) h ≡ Begin → Inv (After (beginPlan (w .server) h (bodyLength body)))
+  begin-inv : rowFor (w .server .machine) h ≡ Begin → Inv (After (beginPlan (w .server .machine) h (bodyLength body)))
   unfolding beginPlan requestPlan putPlan storing choose begun
   begin-inv e =
       let b = begins e in
-      let fits = begin-fits (w .server) h j e in
+      let fits = begin-fits (w .server .machine) h j e in
       let request = known (b .0) in
-      subst (λ (n : ℕ). Inv (AfterAt (beginPlan (w .server) h (bodyLength body)) n)) (sym (stands-at (b .0)))
-      (put-inv w inv (begun (w .server) h) o
-      (begun-inv (w .server) (w .standing) (w .serverSlots) (w .starts) (w .dispatches) (w .replies) (inv .server) o h body request (b .1)) refl h body request whole short
+      subst (λ (n : ℕ). Inv (AfterAt (beginPlan (w .server .machine) h (bodyLength body)) n)) (sym (stands-at (b .0)))
+      (put-inv w inv (begun (w .server .machine) h) o
+      (begun-inv (w .server .machine) (w .books .standing) (w .server .slots) (w .books .starts) (w .books .dispatches) (w .books .replies) (inv .server) o h body request (b .1)) refl h body request whole short
       (omega (arith, fits .0)) (fits .1) out room)
 
   -- Put: the request is of the call that is collected.
-  put-row-inv : rowFor (w .server) h ≡ Put
-      → Inv (After (requestPlan (w .server) (h .flags1) (h .serial) (h .fragment) (bodyLength body)))
+  put-row-inv : rowFor (w .server .machine) h ≡ Put
+      → Inv (After (requestPlan (w .server .machine) (h .flags1) (h .serial) (h .fragment) (bodyLength body)))
   unfolding requestPlan putPlan storing choose rowFor
   put-row-inv e =
-      let told = put-told (eventOf (h .kind)) (orderFor (w .server) h) (w .server .state) (hasFlag idempotent (h .flags1)) (w .server .call .idempotent) e in
-      let fits = put-fits (w .server) h j e in
+      let told = put-told (eventOf (h .kind)) (orderFor (w .server .machine) h) (w .server .machine .state) (hasFlag idempotent (h .flags1)) (w .server .machine .call .idempotent) e in
+      let fits = put-fits (w .server .machine) h j e in
       let request = known (told .0) in
-      subst (λ (n : ℕ). Inv (AfterAt (requestPlan (w .server) (h .flags1) (h .serial) (h .fragment) (bodyLength body)) n)) (sym (stands-at (told .0)))
-      (put-inv w inv (w .server) o
-      (subst (λ (n : ℕ). ServerInv (w .server) n (w .serverSlots) (w .starts) (w .dispatches) (w .replies)) (equal-ordinal request (told .1)) (inv .server))
+      subst (λ (n : ℕ). Inv (AfterAt (requestPlan (w .server .machine) (h .flags1) (h .serial) (h .fragment) (bodyLength body)) n)) (sym (stands-at (told .0)))
+      (put-inv w inv (w .server .machine) o
+      (subst (λ (n : ℕ). ServerInv (w .server .machine) n (w .server .slots) (w .books .starts) (w .books .dispatches) (w .books .replies)) (equal-ordinal request (told .1)) (inv .server))
       (told .2) h body request whole short (omega (arith, fits .0)) (fits .2) out room)
 
   -- Replay: data is sent again by transmit, a fault at once.
-  replay-inv : (reply : Reply) → w .server .state ≡ Held reply → sound (replayHeld (w .server) reply .server) ≡ true
-      → orderFor (w .server) h ≡ Equal → Inv (After (replayHeld (w .server) reply))
+  replay-inv : (reply : Reply) → w .server .machine .state ≡ Held reply → sound (replayHeld (w .server .machine) reply .server) ≡ true
+      → orderFor (w .server .machine) h ≡ Equal → Inv (After (replayHeld (w .server .machine) reply))
   unfolding replayHeld accepted isFresh
   replay-inv Data e kept equal =
-      quiet-inv (replayHeld (w .server) Data) refl refl refl (λ x. absurd (false≢true x))
-      (goes-on (w .server) (rewinding (w .server)) (w .standing) (w .serverSlots) (w .starts) (w .dispatches) (w .replies) (inv .server) (ap isFresh e) kept
-      (rewinding-goes-on (w .server) (w .server) (w .standing) (w .replies) refl refl refl refl refl refl (inv .server .replying (ap hasData e)))) (λ x. equal)
+      quiet-inv (replayHeld (w .server .machine) Data) refl refl refl (λ x. absurd (false≢true x))
+      (goes-on (w .server .machine) (rewinding (w .server .machine)) (w .books .standing) (w .server .slots) (w .books .starts) (w .books .dispatches) (w .books .replies) (inv .server) (ap isFresh e) kept
+      (rewinding-goes-on (w .server .machine) (w .server .machine) (w .books .standing) (w .books .replies) refl refl refl refl refl refl (inv .server .replying (ap hasData e)))) (λ x. equal)
   replay-inv (Fault status) e kept equal =
-      quiet-inv (replayHeld (w .server) (Fault status)) refl refl refl (λ x. inv .server .called (ap isFresh e) .typed) (inv .server) (λ x. equal)
+      quiet-inv (replayHeld (w .server .machine) (Fault status)) refl refl refl (λ x. inv .server .called (ap isFresh e) .typed) (inv .server) (λ x. equal)
 
-  replay-row-inv : rowFor (w .server) h ≡ Replay → Inv (After (replayPlan (w .server .state) (w .server)))
+  replay-row-inv : rowFor (w .server .machine) h ≡ Replay → Inv (After (replayPlan (w .server .machine .state) (w .server .machine)))
   unfolding replayPlan rowFor
   replay-row-inv e =
-      let told = replay-told (eventOf (h .kind)) (orderFor (w .server) h) (w .server .state) (hasFlag idempotent (h .flags1)) (w .server .call .idempotent) e in
-      let held = held-state (w .server .state) (told .1) in
-      let kept = replay-sound (w .server) (inv .server .kept) in
-      subst (λ (x : State). Inv (After (replayPlan x (w .server)))) (sym (held .is))
+      let told = replay-told (eventOf (h .kind)) (orderFor (w .server .machine) h) (w .server .machine .state) (hasFlag idempotent (h .flags1)) (w .server .machine .call .idempotent) e in
+      let held = held-state (w .server .machine .state) (told .1) in
+      let kept = replay-sound (w .server .machine) (inv .server .kept) in
+      subst (λ (x : State). Inv (After (replayPlan x (w .server .machine)))) (sym (held .is))
       (replay-inv (held .reply) (held .is)
-      (subst (λ (x : State). sound (replayPlan x (w .server) .server) ≡ true) (held .is) kept) (told .0))
+      (subst (λ (x : State). sound (replayPlan x (w .server .machine) .server) ≡ true) (held .is) kept) (told .0))
 
   -- REPLYING and HELD come past RUNNING.
   replied-past : (x : State) → (x ≡ Replying) ⊎ (isHeld x ≡ true) → (past x ≡ true) × (unanswered x ≡ false)
@@ -243,28 +246,28 @@ module _ (w : World) (inv : Inv w) (o : ℕ) (h : Header) (body : List ℕ) (j :
   replied-past x (inr e) = let held = held-state x e in (ap past (held .is), ap unanswered (held .is))
 
   -- Fack: only what is acknowledged moves.
-  fack-inv : rowFor (w .server) h ≡ Acknowledge → Inv (After (fackPlan (w .server) (h .fragment)))
+  fack-inv : rowFor (w .server .machine) h ≡ Acknowledge → Inv (After (fackPlan (w .server .machine) (h .fragment)))
   unfolding fackPlan accepted withOutgoing acknowledgedTo rowFor
   fack-inv e =
-      let told = acknowledge-told (eventOf (h .kind)) (orderFor (w .server) h) (w .server .state) (hasFlag idempotent (h .flags1)) (w .server .call .idempotent) e in
-      let later = replied-past (w .server .state) (told .2) in
-      quiet-inv (fackPlan (w .server) (h .fragment)) refl refl refl (λ x. absurd (false≢true x))
-      (goes-on (w .server) (fackPlan (w .server) (h .fragment) .server) (w .standing) (w .serverSlots) (w .starts) (w .dispatches) (w .replies) (inv .server)
-      (past-called (w .server .state) (later .0)) (fack-sound (w .server) (inv .server .kept) (h .fragment) (fack-fits (w .server) h j e))
-      (stays-goes-on (w .server) (fackPlan (w .server) (h .fragment) .server) (w .standing) (w .replies) refl refl refl refl refl refl refl (later .0)
+      let told = acknowledge-told (eventOf (h .kind)) (orderFor (w .server .machine) h) (w .server .machine .state) (hasFlag idempotent (h .flags1)) (w .server .machine .call .idempotent) e in
+      let later = replied-past (w .server .machine .state) (told .2) in
+      quiet-inv (fackPlan (w .server .machine) (h .fragment)) refl refl refl (λ x. absurd (false≢true x))
+      (goes-on (w .server .machine) (fackPlan (w .server .machine) (h .fragment) .server) (w .books .standing) (w .server .slots) (w .books .starts) (w .books .dispatches) (w .books .replies) (inv .server)
+      (past-called (w .server .machine .state) (later .0)) (fack-sound (w .server .machine) (inv .server .kept) (h .fragment) (fack-fits (w .server .machine) h j e))
+      (stays-goes-on (w .server .machine) (fackPlan (w .server .machine) (h .fragment) .server) (w .books .standing) (w .books .replies) refl refl refl refl refl refl refl (later .0)
       (λ u. absurd (false≢true (sym (later .1) ∙ u))) (inv .server .replying))) (λ x. told .1)
 
   -- Ack: the call is spent.
-  ack-inv : rowFor (w .server) h ≡ Finish → Inv (After (ackPlan (w .server)))
+  ack-inv : rowFor (w .server .machine) h ≡ Finish → Inv (After (ackPlan (w .server .machine)))
   unfolding ackPlan accepted rowFor
   ack-inv e =
-      let told = finish-told (eventOf (h .kind)) (orderFor (w .server) h) (w .server .state) (hasFlag idempotent (h .flags1)) (w .server .call .idempotent) e in
-      let later = replied-past (w .server .state) (told .2) in
-      quiet-inv (ackPlan (w .server)) refl refl refl (λ x. absurd (false≢true x))
-      (goes-on (w .server) (ackPlan (w .server) .server) (w .standing) (w .serverSlots) (w .starts) (w .dispatches) (w .replies) (inv .server)
-      (past-called (w .server .state) (later .0)) (ack-sound (w .server) (inv .server .kept)) (spent-goes-on (w .server) (w .standing) (w .replies))) (λ x. told .0)
+      let told = finish-told (eventOf (h .kind)) (orderFor (w .server .machine) h) (w .server .machine .state) (hasFlag idempotent (h .flags1)) (w .server .machine .call .idempotent) e in
+      let later = replied-past (w .server .machine .state) (told .2) in
+      quiet-inv (ackPlan (w .server .machine)) refl refl refl (λ x. absurd (false≢true x))
+      (goes-on (w .server .machine) (ackPlan (w .server .machine) .server) (w .books .standing) (w .server .slots) (w .books .starts) (w .books .dispatches) (w .books .replies) (inv .server)
+      (past-called (w .server .machine .state) (later .0)) (ack-sound (w .server .machine) (inv .server .kept)) (spent-goes-on (w .server .machine) (w .books .standing) (w .books .replies))) (λ x. told .0)
 
-  by-row : (row : Row) → rowFor (w .server) h ≡ row → Inv (After (arrivalRow row (w .server) h (bodyLength body)))
+  by-row : (row : Row) → rowFor (w .server .machine) h ≡ row → Inv (After (arrivalRow row (w .server .machine) h (bodyLength body)))
   unfolding arrivalRow workingPlan nocallPlan accepted oldGround rowGround rowFor
   by-row Old e = absurd (refusal-stops OldCall (subst (λ (x : Row). oldGround x ≡ Pass) e (j .old)))
   by-row Missing e = absurd (refusal-stops NoRow (subst (λ (x : Row). rowGround x ≡ Pass) e (j .row)))
@@ -272,49 +275,50 @@ module _ (w : World) (inv : Inv w) (o : ℕ) (h : Header) (body : List ℕ) (j :
   by-row Begin e = begin-inv e
   by-row Put e = put-row-inv e
   by-row Working e =
-      quiet-inv (workingPlan (w .server)) refl refl refl (λ x. absurd (false≢true x)) (inv .server)
-      (λ x. working-told (eventOf (h .kind)) (orderFor (w .server) h) (w .server .state) (hasFlag idempotent (h .flags1)) (w .server .call .idempotent) e)
+      quiet-inv (workingPlan (w .server .machine)) refl refl refl (λ x. absurd (false≢true x)) (inv .server)
+      (λ x. working-told (eventOf (h .kind)) (orderFor (w .server .machine) h) (w .server .machine .state) (hasFlag idempotent (h .flags1)) (w .server .machine .call .idempotent) e)
   by-row Nocall e =
-      quiet-inv (nocallPlan (w .server)) refl refl refl (λ x. absurd (false≢true x)) (inv .server)
+      quiet-inv (nocallPlan (w .server .machine)) refl refl refl (λ x. absurd (false≢true x)) (inv .server)
       (λ x.
       absurd
       (no-ping
-      (sym (nocall-told (eventOf (h .kind)) (orderFor (w .server) h) (w .server .state) (hasFlag idempotent (h .flags1)) (w .server .call .idempotent) e) ∙ x)))
+      (sym (nocall-told (eventOf (h .kind)) (orderFor (w .server .machine) h) (w .server .machine .state) (hasFlag idempotent (h .flags1)) (w .server .machine .call .idempotent) e) ∙ x)))
   by-row Replay e = replay-row-inv e
   by-row Acknowledge e = fack-inv e
   by-row Finish e = ack-inv e
 
 -- An arriving datagram keeps what is known of the world, where the client sent it and the buffer lent is the server's own.
-pub server-arrive-inv : (w : World) (p : Posted) (out : List ℕ) → Inv w → arriving (w .server) (p .bytes) (w .serverSlots) out .outcome .answer ≡ Done
-    → In p (w .clientSent)
+pub server-arrive-inv : (w : World) (p : SentPdu) (out : List ℕ) → Inv w → arriving (w .server .machine) (p .bytes) (w .server .slots) out .outcome .answer ≡ Done
+    → In p (w .client .sent)
     → Inv
-    (serverStep w (arriving (w .server) (p .bytes) (w .serverSlots) out .outcome) (arriving (w .server) (p .bytes) (w .serverSlots) out .out)
-    (arriving (w .server) (p .bytes) (w .serverSlots) out .slots) (p .ordinal)
-    (standingAfter (w .standing) (arriving (w .server) (p .bytes) (w .serverSlots) out .outcome .answer) (reading (p .bytes) .header .kind) (p .ordinal)))
+    (serverStep w (arriving (w .server .machine) (p .bytes) (w .server .slots) out .outcome) (arriving (w .server .machine) (p .bytes) (w .server .slots) out .out)
+    (arriving (w .server .machine) (p .bytes) (w .server .slots) out .slots)
+    (ofArrival w p (arriving (w .server .machine) (p .bytes) (w .server .slots) out .outcome .answer)))
 unfolding arriving acted planOf arrivalPlan
 server-arrive-inv w p out inv done sent =
-    let s = w .server in
-    let lent = lentGround (length (w .serverSlots)) (length out) in
+    let s = w .server .machine in
+    let lent = lentGround (length (w .server .slots)) (length out) in
     let r = reading (p .bytes) in
     let body = bodyOf (p .bytes) in
-    let pass = arrive-accepted s (p .bytes) (w .serverSlots) out done in
+    let pass = arrive-accepted s (p .bytes) (w .server .slots) out done in
     let j = arrival-passes s lent r body pass in
-    let buffers = lent-passes (length (w .serverSlots)) (length out) (j .0 .buffers) in
-    let stands = choose (eqb (r .header .kind) 0) (p .ordinal) (w .standing) in
-    let standing : standingAfter (w .standing) (arriving s (p .bytes) (w .serverSlots) out .outcome .answer) (r .header .kind) (p .ordinal) ≡ stands =
-    choose-true (isDone (arriving s (p .bytes) (w .serverSlots) out .outcome .answer)) stands (w .standing) (ap isDone done) in
+    let buffers = lent-passes (length (w .server .slots)) (length out) (j .0 .buffers) in
+    let stands = choose (eqb (r .header .kind) 0) (p .ordinal) (w .books .standing) in
+    let standing : standingAfter (w .books .standing) (arriving s (p .bytes) (w .server .slots) out .outcome .answer) (r .header .kind) (p .ordinal) ≡ stands =
+    choose-true (isDone (arriving s (p .bytes) (w .server .slots) out .outcome .answer)) stands (w .books .standing) (ap isDone done) in
     subst
     (λ (n : ℕ).
     Inv
-    (serverStep w (arriving s (p .bytes) (w .serverSlots) out .outcome) (arriving s (p .bytes) (w .serverSlots) out .out)
-    (arriving s (p .bytes) (w .serverSlots) out .slots) (p .ordinal) n))
+    (serverStep w (arriving s (p .bytes) (w .server .slots) out .outcome) (arriving s (p .bytes) (w .server .slots) out .out)
+    (arriving s (p .bytes) (w .server .slots) out .slots) (record { ordinal = p .ordinal; number = r .header .number; standing = n })))
     (sym standing)
     (subst
     (λ (x : Ground).
     Inv
     (serverStep w (sending (arrivalPlan x s (r .header) (bodyLength body)) (r .header) [] out .outcome)
     (sending (arrivalPlan x s (r .header) (bodyLength body)) (r .header) [] out .out)
-    (storing (arrivalPlan x s (r .header) (bodyLength body) .put) (r .header .fragment) body (w .serverSlots)) (p .ordinal) stands))
+    (storing (arrivalPlan x s (r .header) (bodyLength body) .put) (r .header .fragment) body (w .server .slots))
+    (record { ordinal = p .ordinal; number = r .header .number; standing = stands })))
     (sym pass)
     (by-row w inv (p .ordinal) (r .header) body (j .1) (buffers .0) (body-short (p .bytes) (j .0 .done)) (read-sized (p .bytes) (j .0 .done))
     (inv .requests p sent .told (j .0 .done)) out (buffers .1) (rowFor s (r .header)) refl))

@@ -37,9 +37,9 @@ use Rattle.server.proofs.Accepting.{reply-accepted, transmit-accepted, fault-ac
 use Rattle.history.specs.Lists.{In, andThen}
 use Rattle.history.specs.Claim.{DispatchOf}
 use Rattle.history.specs.World.{Replied, World}
-use Rattle.history.specs.Steps.{lastStart, lastDispatched, sentAfter, dispatchesAfter}
+use Rattle.history.specs.Steps.{lastStart, lastDispatched, sentAfter, dispatchesAfter, ofRecord}
 use Rattle.history.specs.Fairness.{OfLastReply}
-use Rattle.history.proofs.ListLaws.{in-before, in-added, in-grown, all-grown, last-replied}
+use Rattle.history.proofs.ListLaws.{in-before, in-added, in-grown, all-grown, last-added}
 use Rattle.history.proofs.Holding.{Single}
 use Rattle.history.proofs.Network.{Response, more-known}
 use Rattle.history.proofs.Invariant.{ClientHolds, nothing, fragments-of, ClientInv, unanswered, hasData, NewTo, new-on, ServerInv, IsResponse, Inv, serverStep, replyStep}
@@ -47,12 +47,12 @@ use Rattle.history.proofs.ServerSteps.{goes-on, settled-goes-on, transm
 use Rattle.history.proofs.ServerSends.{answers, others-sent, all-single, response-sent, transmitted-counts, planned}
 
 -- Transmit.
-pub server-transmit-inv : (w : World) (message out : List ℕ) → Inv w → transmitting (w .server) message out .outcome .answer ≡ Done
-    → OfLastReply (w .replies) message
-    → Inv (serverStep w (transmitting (w .server) message out .outcome) (transmitting (w .server) message out .out) (w .serverSlots) (w .standing) (w .standing))
+pub server-transmit-inv : (w : World) (message out : List ℕ) → Inv w → transmitting (w .server .machine) message out .outcome .answer ≡ Done
+    → OfLastReply (w .books .replies) message
+    → Inv (serverStep w (transmitting (w .server .machine) message out .outcome) (transmitting (w .server .machine) message out .out) (w .server .slots) (ofRecord w))
 unfolding transmitting transmitPlan accepted sentOut isFresh
 server-transmit-inv w message out inv done lent =
-    let s = w .server in
+    let s = w .server .machine in
     let pass = transmit-accepted s message out done in
     let j = transmit-passes s (length message) (length out) pass in
     let state = replying-state (s .state) (j .row) in
@@ -60,39 +60,39 @@ server-transmit-inv w message out inv done lent =
     let now = inv .server .replying (ap hasData state) in
     let k = inv .server .called called in
     let last = sendsLast (s .outgoing) in
-    let single = all-single s (w .standing) (w .starts) (w .replies) message k now (inv .server .activity) (inv .server .boot) (j .kept) (j .row) lent in
-    let g = transmitted-goes-on last s (w .standing) (w .replies) state now single in
+    let single = all-single s (w .books .standing) (w .books .starts) (w .books .replies) message k now (inv .server .activity) (inv .server .boot) (j .kept) (j .row) lent in
+    let g = transmitted-goes-on last s (w .books .standing) (w .books .replies) state now single in
     subst
     (λ (x : Ground).
-    Inv (serverStep w (sending (transmitPlan x s) blank message out .outcome) (sending (transmitPlan x s) blank message out .out) (w .serverSlots) (w .standing) (w .standing)))
+    Inv (serverStep w (sending (transmitPlan x s) blank message out .outcome) (sending (transmitPlan x s) blank message out .out) (w .server .slots) (ofRecord w)))
     (sym pass)
-    (planned w (transmitPlan Pass s) blank message out (w .serverSlots) (w .standing) (w .standing) inv refl
-    (goes-on s (transmitted last s) (w .standing) (w .serverSlots) (w .starts) (w .dispatches) (w .replies) (inv .server) called
+    (planned w (transmitPlan Pass s) blank message out (w .server .slots) (ofRecord w) inv refl
+    (goes-on s (transmitted last s) (w .books .standing) (w .server .slots) (w .books .starts) (w .books .dispatches) (w .books .replies) (inv .server) called
     (transmitted-sound s (j .kept) (j .row) (j .free)) g)
-    (response-sent s (w .standing) (w .starts) (w .replies) message k now (inv .server .activity) (inv .server .boot) (j .kept) (j .row) lent (transmitted last s) g
-    (transmitted-counts last s .0) (transmitted-counts last s .1) (w .serverSent) out (j .buffer) (inv .responses)))
+    (response-sent s (w .books .standing) (w .books .starts) (w .books .replies) message k now (inv .server .activity) (inv .server .boot) (j .kept) (j .row) lent (transmitted last s) g
+    (transmitted-counts last s .0) (transmitted-counts last s .1) (w .server .sent) out (j .buffer) (inv .responses)))
 
 -- Fault.
-pub server-fault-inv : (w : World) (status : ℕ) (out : List ℕ) → Inv w → faulting (w .server) status out .outcome .answer ≡ Done
-    → Inv (serverStep w (faulting (w .server) status out .outcome) (faulting (w .server) status out .out) (w .serverSlots) (w .standing) (w .standing))
+pub server-fault-inv : (w : World) (status : ℕ) (out : List ℕ) → Inv w → faulting (w .server .machine) status out .outcome .answer ≡ Done
+    → Inv (serverStep w (faulting (w .server .machine) status out .outcome) (faulting (w .server .machine) status out .out) (w .server .slots) (ofRecord w))
 unfolding faulting faultPlan accepted isFresh blank
 server-fault-inv w status out inv done =
-    let s = w .server in
+    let s = w .server .machine in
     let pass = fault-accepted s status out done in
     let j = fault-passes s (length out) pass in
     let state = running-state (s .state) (j .row) in
     let called : isFresh (s .state) ≡ false = ap isFresh state in
     let t = settled (s .call .idempotent) s (Fault status) in
     let g =
-    settled-goes-on (s .call .idempotent) s s (Fault status) (w .standing) (w .replies) refl refl refl refl refl refl (λ e. inv .server .single (ap unanswered state))
+    settled-goes-on (s .call .idempotent) s s (Fault status) (w .books .standing) (w .books .replies) refl refl refl refl refl refl (λ e. inv .server .single (ap unanswered state))
     (λ e. absurd (false≢true e)) in
-    let next = goes-on s t (w .standing) (w .serverSlots) (w .starts) (w .dispatches) (w .replies) (inv .server) called (fault-sound s (j .kept) status (j .row) (j .free)) g in
+    let next = goes-on s t (w .books .standing) (w .server .slots) (w .books .starts) (w .books .dispatches) (w .books .replies) (inv .server) called (fault-sound s (j .kept) status (j .row) (j .free)) g in
     subst
     (λ (x : Ground).
-    Inv (serverStep w (sending (faultPlan x s status) blank [] out .outcome) (sending (faultPlan x s status) blank [] out .out) (w .serverSlots) (w .standing) (w .standing)))
+    Inv (serverStep w (sending (faultPlan x s status) blank [] out .outcome) (sending (faultPlan x s status) blank [] out .out) (w .server .slots) (ofRecord w)))
     (sym pass)
-    (planned w (faultPlan Pass s status) blank [] out (w .serverSlots) (w .standing) (w .standing) inv refl next
-    (others-sent (w .serverSent) (Response (w .replies)) (w .standing) t blank out (j .buffer) (next .activity) refl refl (inv .responses) (SendFault status) [] refl
+    (planned w (faultPlan Pass s status) blank [] out (w .server .slots) (ofRecord w) inv refl next
+    (others-sent (w .server .sent) (Response (w .books .replies)) (w .books .standing) t blank out (j .buffer) (next .activity) refl refl (inv .responses) (SendFault status) [] refl
     (λ e. rw (g .call) (inv .server .called called .typed))))
 
 -- RESEND sends no response, and tells nothing.
@@ -108,73 +108,73 @@ timer-quiet s reply = by-count (ltb (s .resends) 5) reply
     by-count false r = unfold accepted choose in (refl, refl)
 
 -- The RESEND timer.
-pub server-timer-inv : (w : World) (ticket : ℕ) (out : List ℕ) → Inv w → timing (w .server) ticket out .outcome .answer ≡ Done
-    → Inv (serverStep w (timing (w .server) ticket out .outcome) (timing (w .server) ticket out .out) (w .serverSlots) (w .standing) (w .standing))
+pub server-timer-inv : (w : World) (ticket : ℕ) (out : List ℕ) → Inv w → timing (w .server .machine) ticket out .outcome .answer ≡ Done
+    → Inv (serverStep w (timing (w .server .machine) ticket out .outcome) (timing (w .server .machine) ticket out .out) (w .server .slots) (ofRecord w))
 unfolding timing timerPlan timerRow isFresh blank
 server-timer-inv w ticket out inv done =
-    let s = w .server in
+    let s = w .server .machine in
     let pass = timer-accepted s ticket out done in
     let j = timer-passes s ticket (length out) pass in
     let held = held-state (s .state) (j .row) in
     let called : isFresh (s .state) ≡ false = ap isFresh (held .is) in
     let plan = resendRow s (held .reply) in
-    let g = resend-goes-on s (held .reply) (w .standing) (w .replies) (λ e. inv .server .replying (ap hasData (held .is) ∙ e)) in
+    let g = resend-goes-on s (held .reply) (w .books .standing) (w .books .replies) (λ e. inv .server .replying (ap hasData (held .is) ∙ e)) in
     let kept : sound (plan .server) ≡ true =
     subst (λ (x : State). sound (timerRow x s .server) ≡ true) (held .is) (timer-sound s (j .kept) (j .free)) in
-    let next = goes-on s (plan .server) (w .standing) (w .serverSlots) (w .starts) (w .dispatches) (w .replies) (inv .server) called kept g in
+    let next = goes-on s (plan .server) (w .books .standing) (w .server .slots) (w .books .starts) (w .books .dispatches) (w .books .replies) (inv .server) called kept g in
     let quiet = timer-quiet s (held .reply) in
     subst
     (λ (x : Ground).
-    Inv (serverStep w (sending (timerPlan x s) blank [] out .outcome) (sending (timerPlan x s) blank [] out .out) (w .serverSlots) (w .standing) (w .standing)))
+    Inv (serverStep w (sending (timerPlan x s) blank [] out .outcome) (sending (timerPlan x s) blank [] out .out) (w .server .slots) (ofRecord w)))
     (sym pass)
     (subst
-    (λ (x : State). Inv (serverStep w (sending (timerRow x s) blank [] out .outcome) (sending (timerRow x s) blank [] out .out) (w .serverSlots) (w .standing) (w .standing)))
+    (λ (x : State). Inv (serverStep w (sending (timerRow x s) blank [] out .outcome) (sending (timerRow x s) blank [] out .out) (w .server .slots) (ofRecord w)))
     (sym (held .is))
-    (planned w plan blank [] out (w .serverSlots) (w .standing) (w .standing) inv (quiet .1) next
-    (others-sent (w .serverSent) (Response (w .replies)) (w .standing) (plan .server) blank out (j .buffer) (next .activity) refl refl (inv .responses) (plan .send) []
+    (planned w plan blank [] out (w .server .slots) (ofRecord w) inv (quiet .1) next
+    (others-sent (w .server .sent) (Response (w .books .replies)) (w .books .standing) (plan .server) blank out (j .buffer) (next .activity) refl refl (inv .responses) (plan .send) []
     (quiet .0) (λ e. rw (g .call) (inv .server .called called .typed)))))
 
 -- A reply that goes on record.
-module _ (w : World) (inv : Inv w) (n : ℕ) (message : List ℕ) (can : CanReply (w .server) n) (whole : length message ≡ n) where
+module _ (w : World) (inv : Inv w) (n : ℕ) (message : List ℕ) (can : CanReply (w .server .machine) n) (whole : length message ≡ n) where
   abbrev reply : Replied
-  reply = record { ordinal = lastDispatched (w .dispatches); message = message }
+  reply = record { ordinal = lastDispatched (w .books .dispatches); message = message }
 
   abbrev replies : List Replied
-  replies = andThen (w .replies) reply
+  replies = andThen (w .books .replies) reply
 
-  running : w .server .state ≡ Running
-  running = running-state (w .server .state) (can .row)
+  running : w .server .machine .state ≡ Running
+  running = running-state (w .server .machine .state) (can .row)
 
   -- It is given to the start that the server stands at,
-  to-start : lastDispatched (w .dispatches) ≡ w .standing
+  to-start : lastDispatched (w .books .dispatches) ≡ w .books .standing
   to-start = inv .server .running running .last
 
   -- to which every earlier reply was a single fragment.
-  earlier : (r : Replied) → In r (w .replies) → r .ordinal ≡ w .standing → Single (r .message)
+  earlier : (r : Replied) → In r (w .books .replies) → r .ordinal ≡ w .books .standing → Single (r .message)
   earlier = inv .server .single (ap unanswered running)
 
-  above-other : (k : ℕ) → NewTo (answered (w .server) n) (w .standing) k → lastDispatched (w .dispatches) ≡ k → ⊥
+  above-other : (k : ℕ) → NewTo (answered (w .server .machine) n) (w .books .standing) k → lastDispatched (w .books .dispatches) ≡ k → ⊥
   unfolding answered withOutgoing unarmed isFresh
   above-other k (inl fresh) e = false≢true fresh
   above-other k (inr above) e = omega (arith, to-start)
 
-  server-replied : ServerInv (answered (w .server) n) (w .standing) (w .serverSlots) (w .starts) (w .dispatches) replies
+  server-replied : ServerInv (answered (w .server .machine) n) (w .books .standing) (w .server .slots) (w .books .starts) (w .books .dispatches) replies
   unfolding answered withOutgoing unarmed replied messageOf isFresh
   server-replied =
       let old = inv .server in
-      let called : isFresh (w .server .state) ≡ false = ap isFresh running in
+      let called : isFresh (w .server .machine .state) ≡ false = ap isFresh running in
       let k = old .called called in
       record {
-        kept = replied-sound (w .server) (can .kept) n (can .short);
+        kept = replied-sound (w .server .machine) (can .kept) n (can .short);
         activity = old .activity;
         boot = old .boot;
         slotted = old .slotted;
         takes =
             λ k new.
-            let before = old .takes k (new-on (w .server) (answered (w .server) n) (w .standing) refl k new) in
+            let before = old .takes k (new-on (w .server .machine) (answered (w .server .machine) n) (w .books .standing) refl k new) in
             record {
               first = before .first;
-              single = all-grown (λ (r : Replied). r .ordinal ≡ k → Single (r .message)) (w .replies) reply (before .single) (λ e. absurd (above-other k new e));
+              single = all-grown (λ (r : Replied). r .ordinal ≡ k → Single (r .message)) (w .books .replies) reply (before .single) (λ e. absurd (above-other k new e));
             };
         called =
             λ e.
@@ -186,23 +186,23 @@ module _ (w : World) (inv : Inv w) (n : ℕ) (message : List ℕ) (can : CanRepl
             λ e.
             record {
               reply = reply;
-              given = in-added (w .replies) reply;
+              given = in-added (w .books .replies) reply;
               is = to-start;
-              message = last-replied (w .replies) reply;
+              message = λ m. last-added (λ (r : Replied). m ≡ r .message) (w .books .replies) reply;
               size = whole;
               others = others;
             };
       }
     where
-      others : (r : Replied) → In r replies → r .ordinal ≡ w .standing → (r ≡ reply) ⊎ Single (r .message)
-      others r m e = by-place (in-grown (w .replies) r reply m)
+      others : (r : Replied) → In r replies → r .ordinal ≡ w .books .standing → (r ≡ reply) ⊎ Single (r .message)
+      others r m e = by-place (in-grown (w .books .replies) r reply m)
         where
-          by-place : In r (w .replies) ⊎ (r ≡ reply) → (r ≡ reply) ⊎ Single (r .message)
+          by-place : In r (w .books .replies) ⊎ (r ≡ reply) → (r ≡ reply) ⊎ Single (r .message)
           by-place (inl old) = inr (earlier r old e)
           by-place (inr new) = inl new
 
   -- The client holds what it held,
-  client-replied : ClientInv (w .client) (w .clientSlots) (w .starts) replies
+  client-replied : ClientInv (w .client .machine) (w .client .slots) (w .books .starts) replies
   client-replied =
       let old = inv .client in
       record {
@@ -216,26 +216,26 @@ module _ (w : World) (inv : Inv w) (n : ℕ) (message : List ℕ) (can : CanRepl
         holds = λ e. more (old .holds e);
       }
     where
-      more : ClientHolds (lastStart (w .starts)) (w .client .incoming) (w .clientSlots) (w .replies)
-          → ClientHolds (lastStart (w .starts)) (w .client .incoming) (w .clientSlots) replies
+      more : ClientHolds (lastStart (w .books .starts)) (w .client .machine .incoming) (w .client .slots) (w .books .replies)
+          → ClientHolds (lastStart (w .books .starts)) (w .client .machine .incoming) (w .client .slots) replies
       more (nothing e) = nothing e
-      more (fragments-of r m e z h) = fragments-of r (in-before (w .replies) r reply m) e z h
+      more (fragments-of r m e z h) = fragments-of r (in-before (w .books .replies) r reply m) e z h
 
   -- and of two replies to one number the earlier is a single fragment.
   alike : (r t : Replied) → In r replies → In t replies → r .ordinal ≡ t .ordinal → (r ≡ t) ⊎ (Single (r .message) ⊎ Single (t .message))
-  alike r t m k e = by-places (in-grown (w .replies) r reply m) (in-grown (w .replies) t reply k)
+  alike r t m k e = by-places (in-grown (w .books .replies) r reply m) (in-grown (w .books .replies) t reply k)
     where
-      by-places : In r (w .replies) ⊎ (r ≡ reply) → In t (w .replies) ⊎ (t ≡ reply) → (r ≡ t) ⊎ (Single (r .message) ⊎ Single (t .message))
+      by-places : In r (w .books .replies) ⊎ (r ≡ reply) → In t (w .books .replies) ⊎ (t ≡ reply) → (r ≡ t) ⊎ (Single (r .message) ⊎ Single (t .message))
       by-places (inl p) (inl q) = inv .calls .alike r t p q e
       by-places (inl p) (inr q) = inr (inl (earlier r p (e ∙ ap (λ (x : Replied). x .ordinal) q ∙ to-start)))
       by-places (inr p) (inl q) = inr (inr (earlier t q (sym e ∙ ap (λ (x : Replied). x .ordinal) p ∙ to-start)))
       by-places (inr p) (inr q) = inl (p ∙ sym q)
 
-  response-replied : (o : ℕ) (h : Header) (body : List ℕ) → Response (w .replies) o h body → Response replies o h body
+  response-replied : (o : ℕ) (h : Header) (body : List ℕ) → Response (w .books .replies) o h body → Response replies o h body
   response-replied o h body r =
-      record { reply = r .reply; given = in-before (w .replies) (r .reply) reply (r .given); is = r .is; number = r .number; part = r .part }
+      record { reply = r .reply; given = in-before (w .books .replies) (r .reply) reply (r .given); is = r .is; number = r .number; part = r .part }
 
-  reply-inv : Inv (replyStep w (outcomeOf (replyPlan Pass (w .server) n) Unsent) message)
+  reply-inv : Inv (replyStep w (outcomeOf (replyPlan Pass (w .server .machine) n) Unsent) message)
   unfolding outcomeOf replyPlan accepted choose sentAfter dispatchesAfter
   reply-inv = record {
     client = client-replied;
@@ -247,24 +247,25 @@ module _ (w : World) (inv : Inv w) (n : ℕ) (message : List ℕ) (can : CanRepl
           numbered = inv .calls .numbered;
           once = inv .calls .once;
           whole = inv .calls .whole;
+          called = inv .calls .called;
           replied =
-              all-grown (λ (r : Replied). DispatchOf (w .dispatches) (r .ordinal)) (w .replies) reply (inv .calls .replied)
-              (subst (DispatchOf (w .dispatches)) (sym to-start) (inv .server .running running .ran));
+              all-grown (λ (r : Replied). DispatchOf (w .books .dispatches) (r .ordinal)) (w .books .replies) reply (inv .calls .replied)
+              (subst (DispatchOf (w .books .dispatches)) (sym to-start) (inv .server .running running .ran));
           alike = alike;
         };
     requests = inv .requests;
-    responses = λ d m. more-known IsResponse (Response (w .replies)) (Response replies) response-replied d (inv .responses d m);
+    responses = λ d m. more-known IsResponse (Response (w .books .replies)) (Response replies) response-replied d (inv .responses d m);
     completed =
         λ c m.
         let old = inv .completed c m in
-        record { reply = old .reply; given = in-before (w .replies) (old .reply) reply (old .given); ordinal = old .ordinal; whole = old .whole };
+        record { reply = old .reply; given = in-before (w .books .replies) (old .reply) reply (old .given); ordinal = old .ordinal; whole = old .whole };
   }
 
 -- Reply.
-pub replied-inv : (w : World) (n : ℕ) (message : List ℕ) → Inv w → replying (w .server) n .answer ≡ Done → length message ≡ n
-    → Inv (replyStep w (replying (w .server) n) message)
+pub replied-inv : (w : World) (n : ℕ) (message : List ℕ) → Inv w → replying (w .server .machine) n .answer ≡ Done → length message ≡ n
+    → Inv (replyStep w (replying (w .server .machine) n) message)
 unfolding replying
 replied-inv w n message inv done whole =
-    let pass = reply-accepted (w .server) n done in
-    subst (λ (g : Ground). Inv (replyStep w (outcomeOf (replyPlan g (w .server) n) Unsent) message)) (sym pass)
-    (reply-inv w inv n message (reply-passes (w .server) n pass) whole)
+    let pass = reply-accepted (w .server .machine) n done in
+    subst (λ (g : Ground). Inv (replyStep w (outcomeOf (replyPlan g (w .server .machine) n) Unsent) message)) (sym pass)
+    (reply-inv w inv n message (reply-passes (w .server .machine) n pass) whole)

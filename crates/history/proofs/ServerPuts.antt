@@ -35,8 +35,8 @@ use Rattle.server_arrivals.proofs.ArrivalLaws.{put-sound}
 use Rattle.server.specs.HandUp.{handsUp}
 use Rattle.server.specs.Machine.{outcomeOf, sending}
 use Rattle.history.specs.Lists.{In, andThen}
-use Rattle.history.specs.World.{Started, Dispatched, Replied, World}
-use Rattle.history.specs.Steps.{dispatchesAfter}
+use Rattle.history.specs.World.{bears, Started, Dispatched, Replied, World}
+use Rattle.history.specs.Steps.{dispatchesAfter, CallOf, dispatchOf}
 use Rattle.history.specs.Claim.{times}
 use Rattle.history.proofs.ListLaws.{in-added, dispatch-before, all-grown, last-dispatched, times-same, times-other, times-none}
 use Rattle.history.proofs.Holding.{PartOf, Holding, Single, empty-holding, put-holding, holding-whole}
@@ -187,7 +187,7 @@ module _ (s : Server) (o : ℕ) (slots : List ℕ) (starts : List Started) (disp
 
   -- All is held: it is dispatched.
   abbrev dispatch : List ℕ → Dispatched
-  dispatch bytes = record { ordinal = o; bytes = bytes }
+  dispatch bytes = record { ordinal = o; number = h .number; bytes = bytes }
 
   -- What is newer to it is another start.
   above-other : (n : ℕ) → NewTo (putServer true) o n → o ≡ n → ⊥
@@ -262,6 +262,7 @@ module _ (s : Server) (o : ℕ) (slots : List ℕ) (starts : List Started) (disp
     whole =
         all-grown (λ (d : Dispatched). (t : Started) × (In t starts × ((t .ordinal ≡ d .ordinal) × (d .bytes ≡ t .message)))) dispatches (dispatch bytes)
         (calls .whole) (collecting .start, (collecting .started, (collecting .is, all)));
+    called = all-grown (λ (d : Dispatched). d .number ≡ bears (d .ordinal)) dispatches (dispatch bytes) (calls .called) (request .number);
     replied = λ r m. dispatch-before dispatches (dispatch bytes) (r .ordinal) (calls .replied r m);
     alike = calls .alike;
   }
@@ -269,8 +270,8 @@ module _ (s : Server) (o : ℕ) (slots : List ℕ) (starts : List Started) (disp
   -- Both ways the server and the calls are as they are known.
   put-known : (all : Bool) → complete after ≡ all → sound (putServer all) ≡ true
       → ServerInv (putServer all) o (filled (h .fragment) body slots) starts
-      (dispatchesAfter dispatches (putNotice all) o (handsUp (putServer all) (filled (h .fragment) body slots))) replies
-      × CallInv starts (dispatchesAfter dispatches (putNotice all) o (handsUp (putServer all) (filled (h .fragment) body slots))) replies
+      (dispatchesAfter dispatches (putNotice all) (dispatch (handsUp (putServer all) (filled (h .fragment) body slots)))) replies
+      × CallInv starts (dispatchesAfter dispatches (putNotice all) (dispatch (handsUp (putServer all) (filled (h .fragment) body slots)))) replies
   unfolding putNotice dispatchesAfter choose withIncoming
   put-known true e kept =
       let bytes = handsUp (putServer true) (filled (h .fragment) body slots) in
@@ -283,14 +284,18 @@ unfolding fackFor choose
 fack-sends true serial = (refl, refl)
 fack-sends false serial = (refl, refl)
 
+-- A request that is taken is of its start, and the record then stands there.
+abbrev pub ofRequest : ℕ → Header → CallOf
+ofRequest o h = record { ordinal = o; number = h .number; standing = o }
+
 -- A world whose server put a request.
-pub put-inv : (w : World) → Inv w → (s : Server) (o : ℕ) → ServerInv s o (w .serverSlots) (w .starts) (w .dispatches) (w .replies) → s .state ≡ Collect
-    → (h : Header) (body : List ℕ) → Request (w .starts) o h body → length (w .serverSlots) ≡ 44544 → length body ≤ 1392
+pub put-inv : (w : World) → Inv w → (s : Server) (o : ℕ) → ServerInv s o (w .server .slots) (w .books .starts) (w .books .dispatches) (w .books .replies) → s .state ≡ Collect
+    → (h : Header) (body : List ℕ) → Request (w .books .starts) o h body → length (w .server .slots) ≡ 44544 → length body ≤ 1392
     → h .fragment < 32 → contradicts (s .incoming) (h .fragment) (isLast (h .flags1)) ≡ false → (out : List ℕ) → length out ≡ 1472
     → Inv
     (serverStep w (sending (requestPlan s (h .flags1) (h .serial) (h .fragment) (bodyLength body)) h [] out .outcome)
     (sending (requestPlan s (h .flags1) (h .serial) (h .fragment) (bodyLength body)) h [] out .out)
-    (filled (h .fragment) body (w .serverSlots)) o o)
+    (filled (h .fragment) body (w .server .slots)) (ofRequest o h))
 unfolding requestPlan putPlan sending outcomeOf
 put-inv w inv s o server state h body request whole short small fits out room =
     subst
@@ -298,7 +303,7 @@ put-inv w inv s o server state h body request whole short small fits out room =
     Inv
     (serverStep w (sending (requestPlan s (h .flags1) (h .serial) (h .fragment) n) h [] out .outcome)
     (sending (requestPlan s (h .flags1) (h .serial) (h .fragment) n) h [] out .out)
-    (filled (h .fragment) body (w .serverSlots)) o o))
+    (filled (h .fragment) body (w .server .slots)) (ofRequest o h)))
     (sym (body-length body short))
     (record {
       client = inv .client;
@@ -307,7 +312,7 @@ put-inv w inv s o server state h body request whole short small fits out room =
       requests = inv .requests;
       completed = inv .completed;
       responses =
-          others-sent (w .serverSent) (Response (w .replies)) o (putServer-of (complete m)) h out room (known .0 .activity) (request .sized .object)
+          others-sent (w .server .sent) (Response (w .books .replies)) o (putServer-of (complete m)) h out room (known .0 .activity) (request .sized .object)
           (request .sized .interface) (inv .responses) (fackFor (wantsFack (h .flags1)) (h .serial)) [] (fack-sends (wantsFack (h .flags1)) (h .serial) .0)
           (λ e. absurd (false≢true (sym (fack-sends (wantsFack (h .flags1)) (h .serial) .1) ∙ e)));
     })
@@ -324,9 +329,12 @@ put-inv w inv s o server state h body request whole short small fits out room =
         put-sound s (server .kept) m (h .flags1) (h .serial) state
         (stored-sound (s .incoming) (h .fragment) (length body) (isLast (h .flags1)) (rules-told s (server .kept) .incoming) (omega arith) short fits)
 
-    known : ServerInv (putServer-of (complete m)) o (filled (h .fragment) body (w .serverSlots)) (w .starts)
-        (dispatchesAfter (w .dispatches) (putNotice (complete m)) o (handsUp (putServer-of (complete m)) (filled (h .fragment) body (w .serverSlots)))) (w .replies)
-        × CallInv (w .starts)
-        (dispatchesAfter (w .dispatches) (putNotice (complete m)) o (handsUp (putServer-of (complete m)) (filled (h .fragment) body (w .serverSlots)))) (w .replies)
+    dispatches : List Dispatched
+    dispatches =
+        dispatchesAfter (w .books .dispatches) (putNotice (complete m))
+        (dispatchOf (ofRequest o h) (putServer-of (complete m)) (filled (h .fragment) body (w .server .slots)))
+
+    known : ServerInv (putServer-of (complete m)) o (filled (h .fragment) body (w .server .slots)) (w .books .starts) dispatches (w .books .replies)
+        × CallInv (w .books .starts) dispatches (w .books .replies)
     known =
-        put-known s o (w .serverSlots) (w .starts) (w .dispatches) (w .replies) server (inv .calls) state h body request whole short small fits (complete m) refl kept
+        put-known s o (w .server .slots) (w .books .starts) (w .books .dispatches) (w .books .replies) server (inv .calls) state h body request whole short small fits (complete m) refl kept

@@ -47,12 +47,12 @@ use Rattle.server.specs.Sending.{replyHeader, echoed, echoHeader, responseSent,
 use Rattle.server.specs.HandUp.{handsUp}
 use Rattle.server.specs.Machine.{outcomeOf, sending}
 use Rattle.history.specs.Lists.{In}
-use Rattle.history.specs.World.{Started, Replied, Posted, World}
-use Rattle.history.specs.Steps.{sentAfter, dispatchesAfter}
+use Rattle.history.specs.World.{Started, Replied, SentPdu, World}
+use Rattle.history.specs.Steps.{sentAfter, dispatchesAfter, CallOf, dispatchOf}
 use Rattle.history.specs.Fairness.{OfLastReply, Typed}
 use Rattle.history.proofs.ListLaws.{all-grown}
 use Rattle.history.proofs.Holding.{PartOf, Single, flags-last}
-use Rattle.history.proofs.Network.{Response, Known, postedOf, other-known, same-known, posted-sent, call-sized, call-fits}
+use Rattle.history.proofs.Network.{Response, Known, pduOf, other-known, same-known, posted-sent, call-sized, call-fits}
 use Rattle.history.proofs.Invariant.{CalledStart, CurrentReply, ServerInv, IsResponse, Inv, serverStep}
 use Rattle.history.proofs.ServerSteps.{GoesOn}
 
@@ -88,23 +88,23 @@ not-response : (kind : ℕ) → isResponse (clientEventOf kind) ≡ false → Is
 not-response kind e k = false≢true (sym e ∙ ap isResponse k)
 
 -- What the server has sent besides responses is known not to be one.
-module _ (before : List Posted) (P : ℕ → Header → List ℕ → Type 0) (o : ℕ) (s : Server) (h : Header) (out : List ℕ) (room : length out ≡ 1472)
+module _ (before : List SentPdu) (P : ℕ → Header → List ℕ → Type 0) (o : ℕ) (s : Server) (h : Header) (out : List ℕ) (room : length out ≡ 1472)
     (activity : length (s .activity) ≡ 16) (object : length (h .object) ≡ 16) (interface : length (h .interface) ≡ 16)
-    (known : (d : Posted) → In d before → Known IsResponse P d) where
+    (known : (d : SentPdu) → In d before → Known IsResponse P d) where
   other-sent : (header : Header) (body : List ℕ) → (IsResponse (header .kind) → ⊥) → Sized header → header .kind ≤ 10 → header .authentication ≡ 0
-      → length body ≤ 1392 → (d : Posted)
+      → length body ≤ 1392 → (d : SentPdu)
       → In d (sentAfter before (posting header body out .sent) (posting header body out .out) o) → Known IsResponse P d
   other-sent header body other sized small plain short =
-      subst (λ (sent : List Posted). (d : Posted) → In d sent → Known IsResponse P d)
+      subst (λ (sent : List SentPdu). (d : SentPdu) → In d sent → Known IsResponse P d)
       (sym (posted-sent before o header body out sized room small plain short))
-      (all-grown (Known IsResponse P) before (postedOf o (datagram header body)) known (other-known IsResponse P o header body other))
+      (all-grown (Known IsResponse P) before (pduOf o (datagram header body)) known (other-known IsResponse P o header body other))
 
   echo-sized : (kind fragment : ℕ) → Sized (echoHeader kind fragment s h)
   unfolding echoHeader echoed
   echo-sized kind fragment = call-sized kind 0 (s .outgoing .serial) (s .activity) (s .boot) (h .number) (echoed h) fragment activity object interface
 
   -- Whatever is sent but a response: a fault is of a call that was read.
-  pub others-sent : (send : Send) (message : List ℕ) → answers send ≡ false → (ofCall send ≡ true → Typed (s .call)) → (d : Posted)
+  pub others-sent : (send : Send) (message : List ℕ) → answers send ≡ false → (ofCall send ≡ true → Typed (s .call)) → (d : SentPdu)
       → In d (sentAfter before (sentOut send s h message out .sent) (sentOut send s h message out .out) o) → Known IsResponse P d
   unfolding sentOut sentAfter faultSent emptySent fackSent replyHeader echoHeader sentHeader fackBytes clientEventOf serverEvent choose
   others-sent Nothing message e typed = known
@@ -167,7 +167,7 @@ module _ (s : Server) (standing : ℕ) (starts : List Started) (replies : List R
       sentHeader 2 (flagsOf (s .outgoing .count) (s .outgoing .sent)) serial (s .activity) (s .boot) (s .number) (s .call) (s .outgoing .sent)
 
   response-known : (serial : ℕ) → serial < 65536
-      → Known IsResponse (Response replies) (postedOf standing (datagram (responseHeader serial) (fragmentOf message (s .outgoing .sent))))
+      → Known IsResponse (Response replies) (pduOf standing (datagram (responseHeader serial) (fragmentOf message (s .outgoing .sent))))
   unfolding sentHeader
   response-known serial fits =
       same-known IsResponse (Response replies) standing (responseHeader serial) (fragmentOf message (s .outgoing .sent))
@@ -178,7 +178,7 @@ module _ (s : Server) (standing : ℕ) (starts : List Started) (replies : List R
 
   -- What the server has sent after a transmit: responses of the reply too.
   pub response-sent : (t : Server) → GoesOn s t standing replies → t .outgoing .count ≡ s .outgoing .count → t .outgoing .serial < 65536
-      → (before : List Posted) (out : List ℕ) → length out ≡ 1472 → ((x : Posted) → In x before → Known IsResponse (Response replies) x) → (x : Posted)
+      → (before : List SentPdu) (out : List ℕ) → length out ≡ 1472 → ((x : SentPdu) → In x before → Known IsResponse (Response replies) x) → (x : SentPdu)
       → In x (sentAfter before (responseSent (s .outgoing .sent) t message out .sent) (responseSent (s .outgoing .sent) t message out .out) standing)
       → Known IsResponse (Response replies) x
   unfolding responseSent replyHeader sentHeader
@@ -186,14 +186,14 @@ module _ (s : Server) (standing : ℕ) (starts : List Started) (replies : List R
       let body = fragmentOf message (s .outgoing .sent) in
       let header : replyHeader 2 (flagsOf (t .outgoing .count) (s .outgoing .sent)) (s .outgoing .sent) t ≡ responseHeader (t .outgoing .serial) =
       rw (g .activity, g .boot, g .number, g .call, count) in
-      subst (λ (sent : List Posted). (x : Posted) → In x sent → Known IsResponse (Response replies) x)
+      subst (λ (sent : List SentPdu). (x : SentPdu) → In x sent → Known IsResponse (Response replies) x)
       (sym
       (ap (λ (h : Header). sentAfter before (posting h body out .sent) (posting h body out .out) standing) header
       ∙ posted-sent before standing (responseHeader (t .outgoing .serial)) body out
       (call-sized 2 _ (t .outgoing .serial) (s .activity) (s .boot) (s .number) (s .call) (s .outgoing .sent) activity (called .typed .object)
       (called .typed .interface))
       room (omega arith) refl (fragment-most message (s .outgoing .sent))))
-      (all-grown (Known IsResponse (Response replies)) before (postedOf standing (datagram (responseHeader (t .outgoing .serial)) body)) known
+      (all-grown (Known IsResponse (Response replies)) before (pduOf standing (datagram (responseHeader (t .outgoing .serial)) body)) known
       (response-known (t .outgoing .serial) fits))
 
 -- After a transmit the count is the same, and the serial within its width.
@@ -212,16 +212,16 @@ unfolding afterSend nextSerial
 transmitted-counts last s = rw (transmitted-sent last s) (refl, omega arith)
 
 -- A world whose server made a step by a plan that tells nothing.
-pub planned : (w : World) (plan : Plan) (h : Header) (message out slots : List ℕ) (ordinal standing : ℕ) → Inv w → plan .notice ≡ Untold
-    → ServerInv (plan .server) standing slots (w .starts) (w .dispatches) (w .replies)
-    → ((d : Posted)
-    → In d (sentAfter (w .serverSent) (sentOut (plan .send) (plan .server) h message out .sent) (sentOut (plan .send) (plan .server) h message out .out) ordinal)
-    → Known IsResponse (Response (w .replies)) d)
-    → Inv (serverStep w (sending plan h message out .outcome) (sending plan h message out .out) slots ordinal standing)
+pub planned : (w : World) (plan : Plan) (h : Header) (message out slots : List ℕ) (of : CallOf) → Inv w → plan .notice ≡ Untold
+    → ServerInv (plan .server) (of .standing) slots (w .books .starts) (w .books .dispatches) (w .books .replies)
+    → ((d : SentPdu)
+    → In d (sentAfter (w .server .sent) (sentOut (plan .send) (plan .server) h message out .sent) (sentOut (plan .send) (plan .server) h message out .out) (of .ordinal))
+    → Known IsResponse (Response (w .books .replies)) d)
+    → Inv (serverStep w (sending plan h message out .outcome) (sending plan h message out .out) slots of)
 unfolding sending outcomeOf dispatchesAfter
-planned w plan h message out slots ordinal standing inv quiet server responses =
-    let same : dispatchesAfter (w .dispatches) (plan .notice) ordinal (handsUp (plan .server) slots) ≡ w .dispatches =
-    ap (λ (n : Notice). dispatchesAfter (w .dispatches) n ordinal (handsUp (plan .server) slots)) quiet in
+planned w plan h message out slots of inv quiet server responses =
+    let same : dispatchesAfter (w .books .dispatches) (plan .notice) (dispatchOf of (plan .server) slots) ≡ w .books .dispatches =
+    ap (λ (n : Notice). dispatchesAfter (w .books .dispatches) n (dispatchOf of (plan .server) slots)) quiet in
     record {
       client = inv .client;
       server = rw same server;

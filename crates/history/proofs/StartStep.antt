@@ -32,7 +32,7 @@ use Rattle.history.specs.World.{bears, Started, Dispatched, Replied, Wor
 use Rattle.history.specs.Steps.{lastStart, sentAfter, completionsAfter}
 use Rattle.history.specs.Fairness.{FairStart}
 use Rattle.history.specs.Claim.{times}
-use Rattle.history.proofs.ListLaws.{in-before, in-added, in-grown, all-grown, last-started, times-none}
+use Rattle.history.proofs.ListLaws.{in-before, in-added, in-grown, all-grown, last-added, times-none}
 use Rattle.history.proofs.Holding.{Empty}
 use Rattle.history.proofs.Network.{Request, more-known}
 use Rattle.history.proofs.Invariant.{nothing, ClientInv, ServerInv, CallInv, IsRequest, Inv, startStep}
@@ -75,33 +75,33 @@ module _ (c : Client) (slots : List ℕ) (starts : List Started) (replies : List
               by-order (no h) = absurd (q (omega arith))
 
 -- A start that goes on record.
-module _ (w : World) (inv : Inv w) (call : Call) (n : ℕ) (message : List ℕ) (can : CanStart (w .client) n) (fair : FairStart call n message) where
+module _ (w : World) (inv : Inv w) (call : Call) (n : ℕ) (message : List ℕ) (can : CanStart (w .client .machine) n) (fair : FairStart call n message) where
   abbrev number : ℕ
-  number = nextNumber (isQueued (w .client .state)) (w .client .number)
+  number = nextNumber (isQueued (w .client .machine .state)) (w .client .machine .number)
 
   abbrev start : Started
-  start = record { ordinal = length (w .starts); number = number; idempotent = call .idempotent; message = message }
+  start = record { ordinal = length (w .books .starts); number = number; idempotent = call .idempotent; message = message }
 
   abbrev starts : List Started
-  starts = andThen (w .starts) start
+  starts = andThen (w .books .starts) start
 
-  above : (s : Started) → In s (w .starts) → s .ordinal < length (w .starts)
+  above : (s : Started) → In s (w .books .starts) → s .ordinal < length (w .books .starts)
   above = inv .calls .below
 
-  more : length starts ≡ length (w .starts) + 1
+  more : length starts ≡ length (w .books .starts) + 1
   more = rw length-append refl
 
-  last : length (w .starts) ≡ lastStart starts
+  last : length (w .books .starts) ≡ lastStart starts
   last = let one = more in omega arith
 
-  numbered : number ≡ bears (length (w .starts))
-  numbered = next-number (w .client) (w .clientSlots) (w .starts) (w .replies) (inv .client) above n can
+  numbered : number ≡ bears (length (w .books .starts))
+  numbered = next-number (w .client .machine) (w .client .slots) (w .books .starts) (w .books .replies) (inv .client) above n can
 
   -- The client has the new call and holds nothing,
-  client-started : ClientInv (started (w .client) call n) (w .clientSlots) starts (w .replies)
+  client-started : ClientInv (started (w .client .machine) call n) (w .client .slots) starts (w .books .replies)
   unfolding started isQueued startedMessage messageOf
   client-started = record {
-    kept = started-sound (w .client) call n (can .short);
+    kept = started-sound (w .client .machine) call n (can .short);
     activity = inv .client .activity;
     slotted = cleared-length;
     unbegun = λ e. absurd (false≢true e);
@@ -109,14 +109,14 @@ module _ (w : World) (inv : Inv w) (call : Call) (n : ℕ) (message : List ℕ) 
         λ e.
         record {
           start = start;
-          started = in-added (w .starts) start;
+          started = in-added (w .books .starts) start;
           is = last;
           number = numbered ∙ ap bears last;
           mark = refl;
-          message = last-started (w .starts) start;
+          message = λ m. last-added (λ (s : Started). m ≡ s .message) (w .books .starts) start;
           size = fair .whole;
           typed = fair .typed;
-          small = next-small (w .client) (w .clientSlots) (w .starts) (w .replies) (inv .client) above n can;
+          small = next-small (w .client .machine) (w .client .slots) (w .books .starts) (w .books .replies) (inv .client) above n can;
         };
     unasked = λ e. absurd (false≢true e);
     whole = λ e. absurd (false≢true e);
@@ -124,7 +124,7 @@ module _ (w : World) (inv : Inv w) (call : Call) (n : ℕ) (message : List ℕ) 
   }
 
   -- no start has that ordinal, and no dispatch;
-  undispatched : (d : Dispatched) → In d (w .dispatches) → d .ordinal ≡ length (w .starts) → ⊥
+  undispatched : (d : Dispatched) → In d (w .books .dispatches) → d .ordinal ≡ length (w .books .starts) → ⊥
   undispatched d m e =
       let from = inv .calls .whole d m in
       let below = above (from .0) (from .1 .0) in
@@ -132,7 +132,7 @@ module _ (w : World) (inv : Inv w) (call : Call) (n : ℕ) (message : List ℕ) 
       omega arith
 
   -- the server's call is still one that was started,
-  server-started : ServerInv (w .server) (w .standing) (w .serverSlots) starts (w .dispatches) (w .replies)
+  server-started : ServerInv (w .server .machine) (w .books .standing) (w .server .slots) starts (w .books .dispatches) (w .books .replies)
   server-started =
       let old = inv .server in
       record {
@@ -145,7 +145,7 @@ module _ (w : World) (inv : Inv w) (call : Call) (n : ℕ) (message : List ℕ) 
             let before = old .takes k new in
             record {
               first =
-                  all-grown (λ (t : Started). t .ordinal ≡ k → t .idempotent ≡ false → (d : Dispatched) → In d (w .dispatches) → d .ordinal ≡ k → ⊥) (w .starts) start
+                  all-grown (λ (t : Started). t .ordinal ≡ k → t .idempotent ≡ false → (d : Dispatched) → In d (w .books .dispatches) → d .ordinal ≡ k → ⊥) (w .books .starts) start
                   (before .first) (λ e i d m n. undispatched d m (n ∙ sym e));
               single = before .single;
             };
@@ -154,7 +154,7 @@ module _ (w : World) (inv : Inv w) (call : Call) (n : ℕ) (message : List ℕ) 
             let k = old .called e in
             record {
               start = k .start;
-              started = in-before (w .starts) (k .start) start (k .started);
+              started = in-before (w .books .starts) (k .start) start (k .started);
               is = k .is;
               number = k .number;
               mark = k .mark;
@@ -166,7 +166,7 @@ module _ (w : World) (inv : Inv w) (call : Call) (n : ℕ) (message : List ℕ) 
             let k = old .collecting e in
             record {
               start = k .start;
-              started = in-before (w .starts) (k .start) start (k .started);
+              started = in-before (w .books .starts) (k .start) start (k .started);
               is = k .is;
               holding = k .holding;
               first = k .first;
@@ -177,42 +177,43 @@ module _ (w : World) (inv : Inv w) (call : Call) (n : ℕ) (message : List ℕ) 
       }
 
   unique : (s t : Started) → In s starts → In t starts → s .ordinal ≡ t .ordinal → s ≡ t
-  unique s t m k e = by-places (in-grown (w .starts) s start m) (in-grown (w .starts) t start k)
+  unique s t m k e = by-places (in-grown (w .books .starts) s start m) (in-grown (w .books .starts) t start k)
     where
-      by-places : In s (w .starts) ⊎ (s ≡ start) → In t (w .starts) ⊎ (t ≡ start) → s ≡ t
+      by-places : In s (w .books .starts) ⊎ (s ≡ start) → In t (w .books .starts) ⊎ (t ≡ start) → s ≡ t
       by-places (inl p) (inl q) = inv .calls .unique s t p q e
       by-places (inl p) (inr q) =
           let below = above s p in
-          let same : t .ordinal ≡ length (w .starts) = ap (λ (x : Started). x .ordinal) q in
+          let same : t .ordinal ≡ length (w .books .starts) = ap (λ (x : Started). x .ordinal) q in
           absurd (omega arith)
       by-places (inr p) (inl q) =
           let below = above t q in
-          let same : s .ordinal ≡ length (w .starts) = ap (λ (x : Started). x .ordinal) p in
+          let same : s .ordinal ≡ length (w .books .starts) = ap (λ (x : Started). x .ordinal) p in
           absurd (omega arith)
       by-places (inr p) (inr q) = p ∙ sym q
 
-  calls-started : CallInv starts (w .dispatches) (w .replies)
+  calls-started : CallInv starts (w .books .dispatches) (w .books .replies)
   calls-started = record {
     unique = unique;
     below =
-        all-grown (λ (s : Started). s .ordinal < length starts) (w .starts) start (λ s m. omega (arith, above s m, more)) (omega (arith, more));
-    numbered = all-grown (λ (s : Started). s .number ≡ bears (s .ordinal)) (w .starts) start (inv .calls .numbered) numbered;
+        all-grown (λ (s : Started). s .ordinal < length starts) (w .books .starts) start (λ s m. omega (arith, above s m, more)) (omega (arith, more));
+    numbered = all-grown (λ (s : Started). s .number ≡ bears (s .ordinal)) (w .books .starts) start (inv .calls .numbered) numbered;
     once =
-        all-grown (λ (s : Started). s .idempotent ≡ false → times (s .ordinal) (w .dispatches) ≤ 1) (w .starts) start (inv .calls .once)
-        (λ e. let none = times-none (w .dispatches) (length (w .starts)) undispatched in omega arith);
+        all-grown (λ (s : Started). s .idempotent ≡ false → times (s .ordinal) (w .books .dispatches) ≤ 1) (w .books .starts) start (inv .calls .once)
+        (λ e. let none = times-none (w .books .dispatches) (length (w .books .starts)) undispatched in omega arith);
     whole =
         λ d m.
         let from = inv .calls .whole d m in
-        (from .0, (in-before (w .starts) (from .0) start (from .1 .0), from .1 .1));
+        (from .0, (in-before (w .books .starts) (from .0) start (from .1 .0), from .1 .1));
+    called = inv .calls .called;
     replied = inv .calls .replied;
     alike = inv .calls .alike;
   }
 
   -- and what was sent is known with one start more.
-  request-started : (o : ℕ) (h : Header) (body : List ℕ) → Request (w .starts) o h body → Request starts o h body
+  request-started : (o : ℕ) (h : Header) (body : List ℕ) → Request (w .books .starts) o h body → Request starts o h body
   request-started o h body r = record {
     start = r .start;
-    started = in-before (w .starts) (r .start) start (r .started);
+    started = in-before (w .books .starts) (r .start) start (r .started);
     is = r .is;
     number = r .number;
     mark = r .mark;
@@ -223,22 +224,22 @@ module _ (w : World) (inv : Inv w) (call : Call) (n : ℕ) (message : List ℕ) 
     operation = r .operation;
   }
 
-  start-inv : Inv (startStep w (outcomeOf (startPlan Pass (w .client) call n) Unsent) (call .idempotent) message)
+  start-inv : Inv (startStep w (outcomeOf (startPlan Pass (w .client .machine) call n) Unsent) (call .idempotent) message)
   unfolding outcomeOf startPlan accepted choose started sentAfter completionsAfter
   start-inv = record {
     client = client-started;
     server = server-started;
     calls = calls-started;
-    requests = λ d m. more-known IsRequest (Request (w .starts)) (Request starts) request-started d (inv .requests d m);
+    requests = λ d m. more-known IsRequest (Request (w .books .starts)) (Request starts) request-started d (inv .requests d m);
     responses = inv .responses;
     completed = inv .completed;
   }
 
 -- A start that is answered 0 keeps what is known of the world.
-pub started-inv : (w : World) (call : Call) (n : ℕ) (message : List ℕ) → Inv w → starting (w .client) call n .answer ≡ Done → FairStart call n message
-    → Inv (startStep w (starting (w .client) call n) (call .idempotent) message)
+pub started-inv : (w : World) (call : Call) (n : ℕ) (message : List ℕ) → Inv w → starting (w .client .machine) call n .answer ≡ Done → FairStart call n message
+    → Inv (startStep w (starting (w .client .machine) call n) (call .idempotent) message)
 unfolding starting
 started-inv w call n message inv done fair =
-    let pass = start-accepted (w .client) call n done in
-    subst (λ (g : Ground). Inv (startStep w (outcomeOf (startPlan g (w .client) call n) Unsent) (call .idempotent) message)) (sym pass)
-    (start-inv w inv call n message (start-passes (w .client) n pass) fair)
+    let pass = start-accepted (w .client .machine) call n done in
+    subst (λ (g : Ground). Inv (startStep w (outcomeOf (startPlan g (w .client .machine) call n) Unsent) (call .idempotent) message)) (sym pass)
+    (start-inv w inv call n message (start-passes (w .client .machine) n pass) fair)

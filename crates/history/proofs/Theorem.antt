@@ -26,11 +26,11 @@ use Rattle.server_record.specs.declared.State.{State as ServerState}
 use Rattle.server_record.specs.declared.State.the-variants.{Idle, Collect, Running, Replying, Held}
 use Rattle.server_record.proofs.RuleLaws.{resend-off, rules-told as server-rules-told}
 use Rattle.history.specs.World.{World}
-use Rattle.history.specs.Events.{Event}
+use Rattle.history.specs.Events.{Event, OfClient, OfServer}
 use Rattle.history.specs.Steps.{lastStart, run}
 use Rattle.history.specs.Fairness.{Fair}
 use Rattle.history.specs.Freshness.{Fresh}
-use Rattle.history.specs.Claim.{AtMostOnce, WholeMessages, replyHandedUp, RepliesToDispatches, LeadsReply, OneReply, WholeReplies, WholeWhereAnswered, OnlyGrows, TimerOf, OfClient, OfServer, timerIn, LateTimers, GoneTickets, waits, confirms, resends, Quiet, Claim}
+use Rattle.history.specs.Claim.{AtMostOnce, WholeMessages, replyHandedUp, RepliesToDispatches, LeadsReply, OneReply, WholeReplies, WholeWhereAnswered, OnlyGrows, TimerOf, OnClient, OnServer, timerIn, LateTimers, GoneTickets, waits, confirms, resends, Quiet, Claim}
 use Rattle.history.proofs.Holding.{unheld-none}
 use Rattle.history.proofs.Invariant.{ClientHolds, nothing, fragments-of, Inv}
 use Rattle.history.proofs.Beginning.{fresh-inv}
@@ -45,21 +45,21 @@ unfolding joined handedBelow
 unheld-joined m slots none = rw (unheld-none m none)
 
 module _ (w : World) (inv : Inv w) where
-  joins : replyHandedUp w ≡ joined (w .client .incoming) (w .clientSlots)
-  joins = hands-joined (w .client) (w .clientSlots) (inv .client .kept)
+  joins : replyHandedUp w ≡ joined (w .client .machine .incoming) (w .client .slots)
+  joins = hands-joined (w .client .machine) (w .client .slots) (inv .client .kept)
 
   -- What the client hands up is nothing, or a leading part of one reply,
   one-reply : OneReply w
   unfolding OneReply
-  one-reply = by-state (isQueued (w .client .state)) refl
+  one-reply = by-state (isQueued (w .client .machine .state)) refl
     where
-      by-holds : ClientHolds (lastStart (w .starts)) (w .client .incoming) (w .clientSlots) (w .replies)
+      by-holds : ClientHolds (lastStart (w .books .starts)) (w .client .machine .incoming) (w .client .slots) (w .books .replies)
           → (replyHandedUp w ≡ []) ⊎ LeadsReply w
-      by-holds (nothing e) = inl (joins ∙ unheld-joined (w .client .incoming) (w .clientSlots) (e .none))
+      by-holds (nothing e) = inl (joins ∙ unheld-joined (w .client .machine .incoming) (w .client .slots) (e .none))
       by-holds (fragments-of r m n whole h) =
-          let count = contiguous (w .client .incoming) in
+          let count = contiguous (w .client .machine .incoming) in
           let front =
-          joined-front (w .client .incoming) (w .clientSlots) (r .message) (rules-told (w .client) (inv .client .kept) .incoming) whole (h .carries) in
+          joined-front (w .client .machine .incoming) (w .client .slots) (r .message) (rules-told (w .client .machine) (inv .client .kept) .incoming) whole (h .carries) in
           inr
           (record {
             reply = r;
@@ -72,8 +72,8 @@ module _ (w : World) (inv : Inv w) where
                 };
           })
 
-      by-state : (queued : Bool) → isQueued (w .client .state) ≡ queued → (replyHandedUp w ≡ []) ⊎ LeadsReply w
-      by-state true e = inl (joins ∙ unheld-joined (w .client .incoming) (w .clientSlots) (inv .client .unasked e))
+      by-state : (queued : Bool) → isQueued (w .client .machine .state) ≡ queued → (replyHandedUp w ≡ []) ⊎ LeadsReply w
+      by-state true e = inl (joins ∙ unheld-joined (w .client .machine .incoming) (w .client .slots) (inv .client .unasked e))
       by-state false e = by-holds (inv .client .holds e)
 
   -- Each dispatch gets the whole message of its one start.
@@ -92,9 +92,9 @@ module _ (w : World) (inv : Inv w) where
   -- A timer is armed only in the states that name it.
   quiet : Quiet w
   quiet = record {
-    wait = λ e. wait-off (w .client) (inv .client .kept) (sym (named-wait (w .client .state)) ∙ e);
-    ack = λ e. ack-off (w .client) (inv .client .kept) (sym (named-ack (w .client .state)) ∙ e);
-    resend = λ e. resend-off (w .server) (inv .server .kept) (sym (named-resend (w .server .state)) ∙ e);
+    wait = λ e. wait-off (w .client .machine) (inv .client .kept) (sym (named-wait (w .client .machine .state)) ∙ e);
+    ack = λ e. ack-off (w .client .machine) (inv .client .kept) (sym (named-ack (w .client .machine .state)) ∙ e);
+    resend = λ e. resend-off (w .server .machine) (inv .server .kept) (sym (named-resend (w .server .machine .state)) ∙ e);
   }
     where
       named-wait : (s : State) → waits s ≡ isWaiting s
@@ -125,10 +125,10 @@ module _ (w : World) (inv : Inv w) where
 -- An armed ticket is at most the counter of its side.
 armed-in-most : (w : World) → Inv w → (timer : TimerOf) (ticket : ℕ) → timerIn w timer ≡ Armed ticket → ticket ≤ counterOf w timer
 unfolding timerIn namedTimer
-armed-in-most w inv (OfClient Wait) ticket e = client-most (w .client) Wait ticket (inv .client .kept) e
-armed-in-most w inv (OfClient Ack) ticket e = client-most (w .client) Ack ticket (inv .client .kept) e
-armed-in-most w inv OfServer ticket e =
-    ticket-most (isHeld (w .server .state)) (w .server .resend) (w .server .tickets) ticket (server-rules-told (w .server) (inv .server .kept) .timer) e
+armed-in-most w inv (OnClient Wait) ticket e = client-most (w .client .machine) Wait ticket (inv .client .kept) e
+armed-in-most w inv (OnClient Ack) ticket e = client-most (w .client .machine) Ack ticket (inv .client .kept) e
+armed-in-most w inv OnServer ticket e =
+    ticket-most (isHeld (w .server .machine .state)) (w .server .machine .resend) (w .server .machine .tickets) ticket (server-rules-told (w .server .machine) (inv .server .kept) .timer) e
 
 -- A ticket that was armed and is no longer never is again.
 gone-tickets : (w : World) (events : List Event) → Inv w → Fair w events → GoneTickets w events
@@ -150,7 +150,7 @@ only-grows w events fair before after split same =
     let later = fair-append w before after (subst (Fair w) split fair) .1 in
     let end : run w events ≡ run (run w before) after = ap (run w) split ∙ run-append w before after in
     subst (λ (v : World). Leads (replyHandedUp (run w before)) (replyHandedUp v)) (sym end)
-    (run-grows (run w before) after later (sym (ap (λ (v : World). v .starts) end) ∙ same))
+    (run-grows (run w before) after later (sym (ap (λ (v : World). v .books .starts) end) ∙ same))
 
 -- After every fair list of events of a fresh world the claim holds.
 pub theorem : (w : World) → Fresh w → (events : List Event) → Fair w events → Claim w events
@@ -162,6 +162,7 @@ theorem w fresh events fair =
       numbered =
           record {
             starts = inv .calls .numbered;
+            dispatches = inv .calls .called;
             client = λ e. inv .client .current e .number;
             server = λ e. inv .server .called e .number;
           };
@@ -170,7 +171,7 @@ theorem w fresh events fair =
       replied = inv .calls .replied;
       reply = one-reply (run w events) inv;
       complete = inv .completed;
-      answered = λ e. whole-handed (run w events .client) (run w events .clientSlots) (run w events .starts) (run w events .replies) (inv .client) (inv .client .whole e);
+      answered = λ e. let v = run w events in whole-handed (v .client .machine) (v .client .slots) (v .books .starts) (v .books .replies) (inv .client) (inv .client .whole e);
       grows = only-grows w events fair;
       late = late-nothing (run w events);
       gone = gone-tickets w events start fair;

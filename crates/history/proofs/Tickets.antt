@@ -3,69 +3,54 @@ use Prim.Native.Nat.{ℕ, _≤_, _<_}
 use mathlib.Core.Bool.{true}
 use mathlib.Core.List.{List, [], _∷_}
 use mathlib.Core.Logic.{_⊎_, inl, inr}
-use mathlib.Core.Path.{_≡_, refl, ap, subst}
+use mathlib.Core.Path.{_≡_, refl, ap}
 use native.Mathlib.Omega.{arith}
 use Rattle.words.specs.Choice.{choose}
 use Rattle.reader.specs.Reading.{reading}
 use Rattle.timers.specs.declared.Timer.the-variants.{Armed}
 use Rattle.timers.proofs.TimerLaws.{Moved, stays-moved}
 use Rattle.client_record.specs.declared.Client.{Client}
-use Rattle.client_record.specs.declared.TimerKind.{TimerKind}
 use Rattle.client_record.specs.declared.TimerKind.the-variants.{Wait, Ack}
 use Rattle.client_table.specs.Events.{serverEvent, eventOf}
 use Rattle.client_table.specs.Local.{namedTimer}
 use Rattle.client.proofs.TicketLaws.{ClientMoved, start-moves, transmit-moves as client-transmit-moves, timer-moves as client-timer-moves, arrive-moves as client-arrive-moves, timer-spends as client-timer-spends, renews, arrive-spends}
 use Rattle.server_record.specs.declared.Server.{Server}
 use Rattle.server.proofs.TicketLaws.{ServerMoved, reply-moves, transmit-moves as server-transmit-moves, fault-moves, timer-moves as server-timer-moves, arrive-moves as server-arrive-moves, timer-spends as server-timer-spends}
-use Rattle.history.specs.World.{World}
-use Rattle.history.specs.Events.{Event, Start, ClientTransmit, ClientArrive, ClientTimer, ServerArrive, ServerTransmit, ServerTimer, Reply, Fault}
-use Rattle.history.specs.Steps.{bytesLent, happens, answerTo, step, run}
-use Rattle.history.specs.Claim.{TimerOf, OfClient, OfServer, timerIn, timerEvent, ActsOnce, Renews, ArmedAfresh}
+use Rattle.history.specs.World.{Side, World}
+use Rattle.history.specs.Events.{ClientEvent, ServerEvent, Event, Start, ClientTransmit, ClientArrive, ClientTimer, ServerArrive, ServerTransmit, ServerTimer, Reply, Fault, OfClient, OfServer}
+use Rattle.history.specs.Steps.{bytesLent, clientTurn, serverTurn, happens, answerTo, step, run}
+use Rattle.history.specs.Claim.{TimerOf, OnClient, OnServer, timerIn, timerEvent, ActsOnce, Renews, ArmedAfresh}
 
 -- The ticket counter of a timer's side.
 abbrev pub counterOf : World → TimerOf → ℕ
-counterOf w (OfClient kind) = w .client .tickets
-counterOf w OfServer = w .server .tickets
+counterOf w (OnClient kind) = w .client .machine .tickets
+counterOf w OnServer = w .server .machine .tickets
 
--- A timer moves as its side does: both of the client's,
-client-moved : (w v : World) → ClientMoved (w .client) (v .client) → w .server ≡ v .server → (timer : TimerOf)
-    → Moved (timerIn w timer) (timerIn v timer) (counterOf w timer) (counterOf v timer)
-unfolding timerIn
-client-moved w v moved same (OfClient Wait) = moved .wait
-client-moved w v moved same (OfClient Ack) = moved .ack
-client-moved w v moved same OfServer =
-    subst (λ (s : Server). Moved (w .server .resend) (s .resend) (w .server .tickets) (s .tickets)) same
-    (stays-moved (w .server .resend) (w .server .tickets) (w .server .resend) refl)
+-- Every event of a side moves its timers as its ticket counter allows: the client's,
+client-turn-moves : (c : Side Client) (e : ClientEvent) → ClientMoved (c .machine) (clientTurn c e .machine)
+client-turn-moves c (Start call n message) = start-moves (c .machine) call n
+client-turn-moves c (ClientTransmit message out) = client-transmit-moves (c .machine) message out
+client-turn-moves c (ClientArrive p lent out) = client-arrive-moves (c .machine) (p .bytes) (bytesLent lent (c .slots)) out
+client-turn-moves c (ClientTimer kind ticket out) = client-timer-moves (c .machine) kind ticket out
 
 -- and the server's.
-server-moved : (w v : World) → ServerMoved (w .server) (v .server) → w .client ≡ v .client → (timer : TimerOf)
-    → Moved (timerIn w timer) (timerIn v timer) (counterOf w timer) (counterOf v timer)
-unfolding timerIn
-server-moved w v moved same (OfClient Wait) =
-    subst (λ (c : Client). Moved (w .client .wait) (c .wait) (w .client .tickets) (c .tickets)) same
-    (stays-moved (w .client .wait) (w .client .tickets) (w .client .wait) refl)
-server-moved w v moved same (OfClient Ack) =
-    subst (λ (c : Client). Moved (w .client .ack) (c .ack) (w .client .tickets) (c .tickets)) same
-    (stays-moved (w .client .ack) (w .client .tickets) (w .client .ack) refl)
-server-moved w v moved same OfServer = moved .resend
+server-turn-moves : (s : Side Server) (e : ServerEvent) → ServerMoved (s .machine) (serverTurn s e .machine)
+server-turn-moves s (ServerArrive p lent out) = server-arrive-moves (s .machine) (p .bytes) (bytesLent lent (s .slots)) out
+server-turn-moves s (ServerTransmit message out) = server-transmit-moves (s .machine) message out
+server-turn-moves s (ServerTimer ticket out) = server-timer-moves (s .machine) ticket out
+server-turn-moves s (Reply n message) = reply-moves (s .machine) n
+server-turn-moves s (Fault status out) = fault-moves (s .machine) status out
 
--- At every event.
-step-moves : (w : World) (e : Event) (timer : TimerOf) → Moved (timerIn w timer) (timerIn (step w e) timer) (counterOf w timer) (counterOf (step w e) timer)
-unfolding step happens
-step-moves w (Start call n message) = client-moved w (step w (Start call n message)) (start-moves (w .client) call n) refl
-step-moves w (ClientTransmit message out) =
-    client-moved w (step w (ClientTransmit message out)) (client-transmit-moves (w .client) message out) refl
-step-moves w (ClientArrive p lent out) =
-    client-moved w (step w (ClientArrive p lent out)) (client-arrive-moves (w .client) (p .bytes) (bytesLent lent (w .clientSlots)) out) refl
-step-moves w (ClientTimer kind ticket out) =
-    client-moved w (step w (ClientTimer kind ticket out)) (client-timer-moves (w .client) kind ticket out) refl
-step-moves w (ServerArrive p lent out) =
-    server-moved w (step w (ServerArrive p lent out)) (server-arrive-moves (w .server) (p .bytes) (bytesLent lent (w .serverSlots)) out) refl
-step-moves w (ServerTransmit message out) =
-    server-moved w (step w (ServerTransmit message out)) (server-transmit-moves (w .server) message out) refl
-step-moves w (ServerTimer ticket out) = server-moved w (step w (ServerTimer ticket out)) (server-timer-moves (w .server) ticket out) refl
-step-moves w (Reply n message) = server-moved w (step w (Reply n message)) (reply-moves (w .server) n) refl
-step-moves w (Fault status out) = server-moved w (step w (Fault status out)) (fault-moves (w .server) status out) refl
+-- So does every timer at every event; those of the other side stay.
+step-moves : (w : World) (e : Event) (timer : TimerOf)
+    → Moved (timerIn w timer) (timerIn (step w e) timer) (counterOf w timer) (counterOf (step w e) timer)
+unfolding step happens timerIn
+step-moves w (OfClient e) (OnClient Wait) = client-turn-moves (w .client) e .wait
+step-moves w (OfClient e) (OnClient Ack) = client-turn-moves (w .client) e .ack
+step-moves w (OfClient e) OnServer = stays-moved (w .server .machine .resend) (w .server .machine .tickets) (w .server .machine .resend) refl
+step-moves w (OfServer e) (OnClient Wait) = stays-moved (w .client .machine .wait) (w .client .machine .tickets) (w .client .machine .wait) refl
+step-moves w (OfServer e) (OnClient Ack) = stays-moved (w .client .machine .ack) (w .client .machine .tickets) (w .client .machine .ack) refl
+step-moves w (OfServer e) OnServer = server-turn-moves (w .server) e .resend
 
 -- The counter never falls over a list,
 pub run-counts : (w : World) (events : List Event) (timer : TimerOf) → counterOf w timer ≤ counterOf (run w events) timer
@@ -94,20 +79,17 @@ run-gone w (e ∷ es) timer ticket most gone =
 -- A ticket that acts is no longer armed.
 pub acts-once : (w : World) → ActsOnce w
 unfolding ActsOnce answerTo happens timerEvent timerIn step namedTimer
-acts-once w (OfClient Wait) ticket out done = client-timer-spends (w .client) Wait ticket out done
-acts-once w (OfClient Ack) ticket out done = client-timer-spends (w .client) Ack ticket out done
-acts-once w OfServer ticket out done = server-timer-spends (w .server) ticket out done
+acts-once w (OnClient Wait) ticket out done = client-timer-spends (w .client .machine) Wait ticket out done
+acts-once w (OnClient Ack) ticket out done = client-timer-spends (w .client .machine) Ack ticket out done
+acts-once w OnServer ticket out done = server-timer-spends (w .server .machine) ticket out done
 
--- What arms afresh leaves no ticket armed that was so before.
+-- What arms afresh does not leave WAIT armed with the ticket that it had.
 pub armed-afresh : (w : World) → ArmedAfresh w
 unfolding ArmedAfresh answerTo happens step timerIn namedTimer
-armed-afresh w p lent out done known = by-timer (renewing known)
+armed-afresh w p lent out done known = arrive-spends (w .client .machine) (p .bytes) (bytesLent lent (w .client .slots)) out done (renewing known) Wait
   where
-    renewing : Renews (reading (p .bytes) .header .kind) → renews (eventOf (reading (p .bytes) .header .kind)) ≡ true
-    renewing (inl response) = unfold eventOf serverEvent choose in ap (λ (k : ℕ). renews (eventOf k)) response
-    renewing (inr working) = unfold eventOf serverEvent choose in ap (λ (k : ℕ). renews (eventOf k)) working
-
-    by-timer : renews (eventOf (reading (p .bytes) .header .kind)) ≡ true → (kind : TimerKind) (ticket : ℕ)
-        → timerIn w (OfClient kind) ≡ Armed ticket → timerIn (step w (ClientArrive p lent out)) (OfClient kind) ≡ Armed ticket → ⊥
-    by-timer r Wait ticket = arrive-spends (w .client) (p .bytes) (bytesLent lent (w .clientSlots)) out done r Wait ticket
-    by-timer r Ack ticket = arrive-spends (w .client) (p .bytes) (bytesLent lent (w .clientSlots)) out done r Ack ticket
+    renewing : Renews (reading (p .bytes) .header .kind) (w .client .machine .incoming)
+        (step w (OfClient (ClientArrive p lent out)) .client .machine .incoming)
+        → renews (eventOf (reading (p .bytes) .header .kind)) ≡ true
+    renewing (inl working) = unfold eventOf serverEvent choose in ap (λ (k : ℕ). renews (eventOf k)) working
+    renewing (inr response) = unfold eventOf serverEvent choose in ap (λ (k : ℕ). renews (eventOf k)) (response .0)

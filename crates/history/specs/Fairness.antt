@@ -5,21 +5,17 @@ use mathlib.Core.Path.{_≡_}
 use lib.ListN.{length}
 use Rattle.answers.specs.declared.Answer.the-variants.{Done}
 use Rattle.calls.specs.declared.Call.{Call}
-use Rattle.history.specs.Lists.{In}
-use Rattle.history.specs.World.{Started, Replied, Posted, World}
-use Rattle.history.specs.Events.{Lent, Own, Event, Start, ClientTransmit, ClientArrive, ClientTimer, ServerArrive, ServerTransmit, ServerTimer, Reply, Fault}
+use Rattle.history.specs.Lists.{In, OfLast}
+use Rattle.history.specs.World.{Started, Replied, SentPdu, World}
+use Rattle.history.specs.Events.{Lent, Own, ClientEvent, ServerEvent, Event, Start, ClientTransmit, ClientArrive, ClientTimer, ServerArrive, ServerTransmit, ServerTimer, Reply, Fault, OfClient, OfServer}
 use Rattle.history.specs.Steps.{step, answerTo}
 
 -- The message is that of the last start, or of the last reply; where there is none yet, any.
 abbrev pub OfLastStart : List Started → List ℕ → Type 0
-OfLastStart [] message = Unit {0}
-OfLastStart (s ∷ []) message = message ≡ s .message
-OfLastStart (s ∷ (t ∷ ss)) message = OfLastStart (t ∷ ss) message
+OfLastStart starts message = OfLast (λ s. message ≡ s .message) starts
 
 abbrev pub OfLastReply : List Replied → List ℕ → Type 0
-OfLastReply [] message = Unit {0}
-OfLastReply (r ∷ []) message = message ≡ r .message
-OfLastReply (r ∷ (t ∷ rs)) message = OfLastReply (t ∷ rs) message
+OfLastReply replies message = OfLast (λ r. message ≡ r .message) replies
 
 -- A call as its type has it: UUIDs of 16 bytes, a u32, a u16. The definitions take any number, the functions only these.
 pub record Typed (call : Call) : Type 0 where
@@ -34,21 +30,28 @@ pub record FairStart (call : Call) (n : ℕ) (message : List ℕ) : Type 0 where
   pub whole : length message ≡ n
 
 -- A PDU that arrives was sent by the other side earlier, of the start that is named, and the slot buffer lent is the side's own.
-pub record FairArrival (sent : List Posted) (p : Posted) (lent : Lent) : Type 0 where
+pub record FairArrival (sent : List SentPdu) (p : SentPdu) (lent : Lent) : Type 0 where
   pub earlier : In p sent
   pub own : lent ≡ Own
 
--- What is owed by an event that is answered 0.
+-- What is owed by an event that is answered 0. That a reply has a message of its length is document 01's word; the claim does not
+-- need it, since a message of another length is refused at every transmit.
+abbrev pub ClientPremise : World → ClientEvent → Type 0
+ClientPremise w (Start call n message) = FairStart call n message
+ClientPremise w (ClientTransmit message out) = OfLastStart (w .books .starts) message
+ClientPremise w (ClientArrive p lent out) = FairArrival (w .server .sent) p lent
+ClientPremise w (ClientTimer kind ticket out) = Unit {0}
+
+abbrev pub ServerPremise : World → ServerEvent → Type 0
+ServerPremise w (ServerArrive p lent out) = FairArrival (w .client .sent) p lent
+ServerPremise w (ServerTransmit message out) = OfLastReply (w .books .replies) message
+ServerPremise w (ServerTimer ticket out) = Unit {0}
+ServerPremise w (Reply n message) = length message ≡ n
+ServerPremise w (Fault status out) = Unit {0}
+
 abbrev pub Premise : World → Event → Type 0
-Premise w (Start call n message) = FairStart call n message
-Premise w (ClientTransmit message out) = OfLastStart (w .starts) message
-Premise w (ClientArrive p lent out) = FairArrival (w .serverSent) p lent
-Premise w (ClientTimer kind ticket out) = Unit {0}
-Premise w (ServerArrive p lent out) = FairArrival (w .clientSent) p lent
-Premise w (ServerTransmit message out) = OfLastReply (w .replies) message
-Premise w (ServerTimer ticket out) = Unit {0}
-Premise w (Reply n message) = length message ≡ n
-Premise w (Fault status out) = Unit {0}
+Premise w (OfClient e) = ClientPremise w e
+Premise w (OfServer e) = ServerPremise w e
 
 -- Every event of the list that is answered 0 keeps its premise.
 abbrev pub Fair : World → List Event → Type 0

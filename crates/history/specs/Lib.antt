@@ -6,4 +6,3 @@ pub mod Steps
 pub mod Fairness
 pub mod Freshness
 pub mod Claim
-pub mod Runs

@@ -13,17 +13,19 @@ use Rattle.calls.specs.declared.Notice.the-variants.{Nothing as Untold, Last, C
 use Rattle.calls.specs.declared.Sent.{Sent}
 use Rattle.calls.specs.declared.Sent.the-variants.{Nothing, Pdu}
 use Rattle.reader.specs.Reading.{reading}
+use Rattle.client_record.specs.declared.Client.{Client}
 use Rattle.client.specs.declared.Outcome.{Outcome as ClientOutcome}
 use Rattle.client.specs.HandUp.{handsUp as clientHandsUp}
 use Rattle.calls.specs.Sent.{sentBytes}
 use Rattle.calls.specs.Events.{Step, Arrival}
 use Rattle.client.specs.Machine.{starting, transmitting as clientTransmitting, timing as clientTiming, arriving as clientArriving}
+use Rattle.server_record.specs.declared.Server.{Server}
 use Rattle.server.specs.declared.Outcome.{Outcome as ServerOutcome}
 use Rattle.server.specs.HandUp.{handsUp as serverHandsUp}
 use Rattle.server.specs.Machine.{replying, transmitting as serverTransmitting, timing as serverTiming, faulting, arriving as serverArriving}
 use Rattle.history.specs.Lists.{andThen}
-use Rattle.history.specs.World.{Started, Dispatched, Replied, Completed, Posted, World}
-use Rattle.history.specs.Events.{Lent, Own, Other, Event, Start, ClientTransmit, ClientArrive, ClientTimer, ServerArrive, ServerTransmit, ServerTimer, Reply, Fault}
+use Rattle.history.specs.World.{Started, Dispatched, Replied, Completed, SentPdu, Side, Books, World}
+use Rattle.history.specs.Events.{Lent, Own, Other, ClientEvent, ServerEvent, Event, Start, ClientTransmit, ClientArrive, ClientTimer, ServerArrive, ServerTransmit, ServerTimer, Reply, Fault, OfClient, OfServer}
 
 -- The answer is 0.
 abbrev pub isDone : Answer → Bool
@@ -39,7 +41,7 @@ ownAfter Own own left = left
 ownAfter (Other bytes) own left = own
 
 -- What a side has sent: the PDU that `calls::sent_bytes` gives of the buffer that was lent for it, of the start with that ordinal.
-unfoldable pub sentAfter : List Posted → Sent → List ℕ → ℕ → List Posted
+unfoldable pub sentAfter : List SentPdu → Sent → List ℕ → ℕ → List SentPdu
 sentAfter before Nothing out ordinal = before
 sentAfter before (Pdu n) out ordinal = andThen before (record { ordinal = ordinal; bytes = sentBytes (Pdu n) out })
 
@@ -51,154 +53,190 @@ lastStart starts = length starts - 1
 abbrev pub standingAfter : ℕ → Answer → ℕ → ℕ → ℕ
 standingAfter before answer kind ordinal = choose (isDone answer) (choose (eqb kind 0) ordinal before) before
 
--- The dispatches: the notice "dispatch" is one, of that start and those bytes.
-unfoldable pub dispatchesAfter : List Dispatched → Notice → ℕ → List ℕ → List Dispatched
-dispatchesAfter before Untold ordinal bytes = before
-dispatchesAfter before Last ordinal bytes = before
-dispatchesAfter before (Count count) ordinal bytes = before
-dispatchesAfter before (FaultNotice status) ordinal bytes = before
-dispatchesAfter before (Reject status) ordinal bytes = before
-dispatchesAfter before (Cause cause) ordinal bytes = before
-dispatchesAfter before Dispatch ordinal bytes = andThen before (record { ordinal = ordinal; bytes = bytes })
+-- The dispatches: the notice "dispatch" is one.
+unfoldable pub dispatchesAfter : List Dispatched → Notice → Dispatched → List Dispatched
+dispatchesAfter before Untold d = before
+dispatchesAfter before Last d = before
+dispatchesAfter before (Count count) d = before
+dispatchesAfter before (FaultNotice status) d = before
+dispatchesAfter before (Reject status) d = before
+dispatchesAfter before (Cause cause) d = before
+dispatchesAfter before Dispatch d = andThen before d
 
--- The completions: the notice "last" is one, of that start and those bytes.
-unfoldable pub completionsAfter : List Completed → Notice → ℕ → List ℕ → List Completed
-completionsAfter before Untold ordinal bytes = before
-completionsAfter before Last ordinal bytes = andThen before (record { ordinal = ordinal; bytes = bytes })
-completionsAfter before (Count count) ordinal bytes = before
-completionsAfter before (FaultNotice status) ordinal bytes = before
-completionsAfter before (Reject status) ordinal bytes = before
-completionsAfter before (Cause cause) ordinal bytes = before
-completionsAfter before Dispatch ordinal bytes = before
+-- The completions: the notice "last" is one.
+unfoldable pub completionsAfter : List Completed → Notice → Completed → List Completed
+completionsAfter before Untold c = before
+completionsAfter before Last c = andThen before c
+completionsAfter before (Count count) c = before
+completionsAfter before (FaultNotice status) c = before
+completionsAfter before (Reject status) c = before
+completionsAfter before (Cause cause) c = before
+completionsAfter before Dispatch c = before
 
--- The start last dispatched; a reply before any dispatch would be on record for 0, which the claim rules out.
+-- The start last dispatched; a reply before any dispatch would be on the books for 0, which the claim rules out.
 abbrev pub lastDispatched : List Dispatched → ℕ
 lastDispatched [] = 0
 lastDispatched (d ∷ []) = d .ordinal
 lastDispatched (d ∷ (e ∷ ds)) = lastDispatched (e ∷ ds)
 
--- What an event gives: its answer, what the stub is told, and the world after it.
+-- What an event makes of its side: the answer, what the stub is told, what is sent, what is left in the PDU buffer (start and reply
+-- are lent none), the machine's record after it and the side's slot buffer.
+pub record Turn (Machine : Type 0) : Type 0 where
+  pub answer : Answer
+  pub notice : Notice
+  pub sent : Sent
+  pub out : List ℕ
+  pub machine : Machine
+  pub slots : List ℕ
+
+-- The client's: from what its definitions give, by the buffers after it.
+abbrev pub clientTurnOf : ClientOutcome → List ℕ → List ℕ → Turn Client
+clientTurnOf r out slots = record { answer = r .answer; notice = r .notice; sent = r .sent; out = out; machine = r .client; slots = slots }
+
+abbrev pub clientStepped : Side Client → Step ClientOutcome → Turn Client
+clientStepped c s = clientTurnOf (s .outcome) (s .out) (c .slots)
+
+abbrev pub clientArrived : Side Client → Lent → Arrival ClientOutcome → Turn Client
+clientArrived c lent a = clientTurnOf (a .outcome) (a .out) (ownAfter lent (c .slots) (a .slots))
+
+abbrev pub clientTurn : Side Client → ClientEvent → Turn Client
+clientTurn c (Start call n message) = clientTurnOf (starting (c .machine) call n) [] (c .slots)
+clientTurn c (ClientTransmit message out) = clientStepped c (clientTransmitting (c .machine) message out)
+clientTurn c (ClientArrive p lent out) = clientArrived c lent (clientArriving (c .machine) (p .bytes) (bytesLent lent (c .slots)) out)
+clientTurn c (ClientTimer kind ticket out) = clientStepped c (clientTiming (c .machine) kind ticket out)
+
+-- The server's.
+abbrev pub serverTurnOf : ServerOutcome → List ℕ → List ℕ → Turn Server
+serverTurnOf r out slots = record { answer = r .answer; notice = r .notice; sent = r .sent; out = out; machine = r .server; slots = slots }
+
+abbrev pub serverStepped : Side Server → Step ServerOutcome → Turn Server
+serverStepped s t = serverTurnOf (t .outcome) (t .out) (s .slots)
+
+abbrev pub serverArrived : Side Server → Lent → Arrival ServerOutcome → Turn Server
+serverArrived s lent a = serverTurnOf (a .outcome) (a .out) (ownAfter lent (s .slots) (a .slots))
+
+abbrev pub serverTurn : Side Server → ServerEvent → Turn Server
+serverTurn s (ServerArrive p lent out) = serverArrived s lent (serverArriving (s .machine) (p .bytes) (bytesLent lent (s .slots)) out)
+serverTurn s (ServerTransmit message out) = serverStepped s (serverTransmitting (s .machine) message out)
+serverTurn s (ServerTimer ticket out) = serverStepped s (serverTiming (s .machine) ticket out)
+serverTurn s (Reply n message) = serverTurnOf (replying (s .machine) n) [] (s .slots)
+serverTurn s (Fault status out) = serverStepped s (faulting (s .machine) status out)
+
+-- A side after a turn; what it sent is of the start with that ordinal.
+abbrev pub sideAfter : {Machine : Type 0} → Side Machine → Turn Machine → ℕ → Side Machine
+sideAfter side t ordinal = record { machine = t .machine; slots = t .slots; sent = sentAfter (side .sent) (t .sent) (t .out) ordinal }
+
+-- A start goes on the books, where it is answered 0: as many were before it, and it has the number that the client then has.
+abbrev pub startedAfter : List Started → Turn Client → Bool → List ℕ → List Started
+startedAfter before t idempotent message =
+    choose (isDone (t .answer))
+    (andThen before (record { ordinal = length before; number = t .machine .number; idempotent = idempotent; message = message }))
+    before
+
+abbrev pub startsAfter : List Started → ClientEvent → Turn Client → List Started
+startsAfter before (Start call n message) t = startedAfter before t (call .idempotent) message
+startsAfter before (ClientTransmit message out) t = before
+startsAfter before (ClientArrive p lent out) t = before
+startsAfter before (ClientTimer kind ticket out) t = before
+
+-- A reply goes on the books, where it is answered 0: it is given to the start last dispatched.
+abbrev pub repliedAfter : List Replied → Turn Server → ℕ → List ℕ → List Replied
+repliedAfter before t ordinal message = choose (isDone (t .answer)) (andThen before (record { ordinal = ordinal; message = message })) before
+
+abbrev pub repliesAfter : Books → ServerEvent → Turn Server → List Replied
+repliesAfter b (ServerArrive p lent out) t = b .replies
+repliesAfter b (ServerTransmit message out) t = b .replies
+repliesAfter b (ServerTimer ticket out) t = b .replies
+repliesAfter b (Reply n message) t = repliedAfter (b .replies) t (lastDispatched (b .dispatches)) message
+repliesAfter b (Fault status out) t = b .replies
+
+-- What a turn of the server is of: the start and the number of what it sends or dispatches, and where the record stands after it.
+-- An arrival is of the PDU that arrives, any other of the record.
+pub record CallOf : Type 0 where
+  pub ordinal : ℕ
+  pub number : ℕ
+  pub standing : ℕ
+
+abbrev pub ofRecord : World → CallOf
+ofRecord w = record { ordinal = w .books .standing; number = w .server .machine .number; standing = w .books .standing }
+
+abbrev pub ofArrival : World → SentPdu → Answer → CallOf
+ofArrival w p answer = record {
+  ordinal = p .ordinal;
+  number = reading (p .bytes) .header .number;
+  standing = standingAfter (w .books .standing) answer (reading (p .bytes) .header .kind) (p .ordinal);
+}
+
+abbrev pub callOf : World → ServerEvent → Answer → CallOf
+callOf w (ServerArrive p lent out) answer = ofArrival w p answer
+callOf w (ServerTransmit message out) answer = ofRecord w
+callOf w (ServerTimer ticket out) answer = ofRecord w
+callOf w (Reply n message) answer = ofRecord w
+callOf w (Fault status out) answer = ofRecord w
+
+-- What the stub has when it is told "last", and what it has when it is told "dispatch": what is then handed up.
+abbrev pub completionOf : List Started → Client → List ℕ → Completed
+completionOf starts c slots = record { ordinal = lastStart starts; bytes = clientHandsUp c slots }
+
+abbrev pub dispatchOf : CallOf → Server → List ℕ → Dispatched
+dispatchOf of s slots = record { ordinal = of .ordinal; number = of .number; bytes = serverHandsUp s slots }
+
+-- The world after a turn of the client, with the starts then: what it sends and what it tells complete is of the last start.
+abbrev pub clientWorld : World → Turn Client → List Started → World
+clientWorld w t starts = record {
+  client = sideAfter (w .client) t (lastStart starts);
+  server = w .server;
+  books =
+      record {
+        starts = starts;
+        dispatches = w .books .dispatches;
+        replies = w .books .replies;
+        completions = completionsAfter (w .books .completions) (t .notice) (completionOf starts (t .machine) (t .slots));
+        standing = w .books .standing;
+      };
+}
+
+-- The world after a turn of the server, with what it is of and the replies then.
+abbrev pub serverWorld : World → Turn Server → CallOf → List Replied → World
+serverWorld w t of replies = record {
+  client = w .client;
+  server = sideAfter (w .server) t (of .ordinal);
+  books =
+      record {
+        starts = w .books .starts;
+        dispatches = dispatchesAfter (w .books .dispatches) (t .notice) (dispatchOf of (t .machine) (t .slots));
+        replies = replies;
+        completions = w .books .completions;
+        standing = of .standing;
+      };
+}
+
+-- What an event gives: its answer, what the stub is told, what it leaves in the PDU buffer, and the world after it.
 pub record Happened : Type 0 where
   pub answer : Answer
   pub notice : Notice
   pub out : List ℕ
   pub world : World
 
--- The client's outcome, what it left in the PDU buffer, its slot buffer after it, and the starts then.
-abbrev pub clientWorld : World → ClientOutcome → List ℕ → List ℕ → List Started → World
-clientWorld w r out slots starts = record {
-  client = r .client;
-  server = w .server;
-  clientSlots = slots;
-  serverSlots = w .serverSlots;
-  clientSent = sentAfter (w .clientSent) (r .sent) out (lastStart starts);
-  serverSent = w .serverSent;
-  standing = w .standing;
-  starts = starts;
-  dispatches = w .dispatches;
-  replies = w .replies;
-  completions = completionsAfter (w .completions) (r .notice) (lastStart starts) (clientHandsUp (r .client) slots);
-}
+abbrev pub happened : {Machine : Type 0} → Turn Machine → World → Happened
+happened t world = record { answer = t .answer; notice = t .notice; out = t .out; world = world }
 
--- The server's outcome, what it left in the PDU buffer, its slot buffer after it, the start that what is sent or dispatched is
--- of, where the record stands then, and the replies then.
-abbrev pub serverWorld : World → ServerOutcome → List ℕ → List ℕ → ℕ → ℕ → List Replied → World
-serverWorld w r out slots ordinal standing replies = record {
-  client = w .client;
-  server = r .server;
-  clientSlots = w .clientSlots;
-  serverSlots = slots;
-  clientSent = w .clientSent;
-  serverSent = sentAfter (w .serverSent) (r .sent) out ordinal;
-  standing = standing;
-  starts = w .starts;
-  dispatches = dispatchesAfter (w .dispatches) (r .notice) ordinal (serverHandsUp (r .server) slots);
-  replies = replies;
-  completions = w .completions;
-}
-
--- A start goes on record, where it is answered 0: as many were before it, and it has the number that the client then has.
-abbrev pub startsAfter : List Started → ClientOutcome → Bool → List ℕ → List Started
-startsAfter before r idempotent message =
-    choose (isDone (r .answer)) (andThen before (record { ordinal = length before; number = r .client .number; idempotent = idempotent; message = message })) before
-
--- A reply goes on record, where it is answered 0: it is given to the start last dispatched.
-abbrev pub repliesAfter : List Replied → ServerOutcome → ℕ → List ℕ → List Replied
-repliesAfter before r ordinal message = choose (isDone (r .answer)) (andThen before (record { ordinal = ordinal; message = message })) before
-
--- What an event of the client gives: a start, one with a PDU buffer, an arriving datagram.
-abbrev pub clientStarted : World → ClientOutcome → Bool → List ℕ → Happened
-clientStarted w r idempotent message = record {
-  answer = r .answer;
-  notice = r .notice;
-  out = [];
-  world = clientWorld w r [] (w .clientSlots) (startsAfter (w .starts) r idempotent message);
-}
-
-abbrev pub clientStepped : World → Step ClientOutcome → Happened
-clientStepped w s = record {
-  answer = s .outcome .answer;
-  notice = s .outcome .notice;
-  out = s .out;
-  world = clientWorld w (s .outcome) (s .out) (w .clientSlots) (w .starts);
-}
-
-abbrev pub clientArrived : World → Lent → Arrival ClientOutcome → Happened
-clientArrived w lent a = record {
-  answer = a .outcome .answer;
-  notice = a .outcome .notice;
-  out = a .out;
-  world = clientWorld w (a .outcome) (a .out) (ownAfter lent (w .clientSlots) (a .slots)) (w .starts);
-}
-
--- The same of the server: a reply, one with a PDU buffer, an arriving datagram.
-abbrev pub serverReplied : World → ServerOutcome → List ℕ → Happened
-serverReplied w r message = record {
-  answer = r .answer;
-  notice = r .notice;
-  out = [];
-  world = serverWorld w r [] (w .serverSlots) (w .standing) (w .standing) (repliesAfter (w .replies) r (lastDispatched (w .dispatches)) message);
-}
-
-abbrev pub serverStepped : World → Step ServerOutcome → Happened
-serverStepped w s = record {
-  answer = s .outcome .answer;
-  notice = s .outcome .notice;
-  out = s .out;
-  world = serverWorld w (s .outcome) (s .out) (w .serverSlots) (w .standing) (w .standing) (w .replies);
-}
-
-abbrev pub serverArrived : World → Lent → Posted → Arrival ServerOutcome → Happened
-serverArrived w lent p a = record {
-  answer = a .outcome .answer;
-  notice = a .outcome .notice;
-  out = a .out;
-  world =
-      serverWorld w (a .outcome) (a .out) (ownAfter lent (w .serverSlots) (a .slots)) (p .ordinal)
-      (standingAfter (w .standing) (a .outcome .answer) (reading (p .bytes) .header .kind) (p .ordinal)) (w .replies);
-}
-
--- What each event gives.
 unfoldable pub happens : World → Event → Happened
-happens w (Start call length message) = clientStarted w (starting (w .client) call length) (call .idempotent) message
-happens w (ClientTransmit message out) = clientStepped w (clientTransmitting (w .client) message out)
-happens w (ClientArrive p lent out) = clientArrived w lent (clientArriving (w .client) (p .bytes) (bytesLent lent (w .clientSlots)) out)
-happens w (ClientTimer kind ticket out) = clientStepped w (clientTiming (w .client) kind ticket out)
-happens w (ServerArrive p lent out) =
-    serverArrived w lent p (serverArriving (w .server) (p .bytes) (bytesLent lent (w .serverSlots)) out)
-happens w (ServerTransmit message out) = serverStepped w (serverTransmitting (w .server) message out)
-happens w (ServerTimer ticket out) = serverStepped w (serverTiming (w .server) ticket out)
-happens w (Reply length message) = serverReplied w (replying (w .server) length) message
-happens w (Fault status out) = serverStepped w (faulting (w .server) status out)
+happens w (OfClient e) =
+    happened (clientTurn (w .client) e)
+    (clientWorld w (clientTurn (w .client) e) (startsAfter (w .books .starts) e (clientTurn (w .client) e)))
+happens w (OfServer e) =
+    happened (serverTurn (w .server) e)
+    (serverWorld w (serverTurn (w .server) e) (callOf w e (serverTurn (w .server) e .answer))
+    (repliesAfter (w .books) e (serverTurn (w .server) e)))
 
--- The answer, the notice, and the world after it.
+-- The answer, the notice, what is left in the PDU buffer, and the world after it.
 unfoldable pub answerTo : World → Event → Answer
 answerTo w e = happens w e .answer
 
 unfoldable pub noticeOf : World → Event → Notice
 noticeOf w e = happens w e .notice
 
--- What it leaves in the PDU buffer that it was lent.
 unfoldable pub leftIn : World → Event → List ℕ
 leftIn w e = happens w e .out
 

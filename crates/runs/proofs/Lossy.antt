@@ -29,17 +29,19 @@ use Rattle.server_record.specs.declared.State.{State as ServerState}
 use Rattle.server_record.specs.declared.State.the-variants.{Idle, Collect, Running, Replying, Held}
 use Rattle.server_record.specs.Rules.{sound as serverSound}
 use Rattle.server.specs.HandUp.{handsUp as serverHandsUp}
 use Rattle.history.specs.Fairness.{Typed}
-use Rattle.history.specs.Runs.{before, activity, called, request, ping, ack, response, working, nocall, asked, askedAgain, answered, answeredAgain, closed, lossy}
+use Rattle.runs.specs.Runs.{before, activity, called, request, ping, ack, response, working, nocall, asked, askedAgain, answered, answeredAgain, closed, lossy}
 use Rattle.history.proofs.Holding.{empty-holding, holding-whole}
 use Rattle.history.proofs.StartStep.{cleared-none}
-use Rattle.history.proofs.ComputedOpen.{opened}
-use Rattle.history.proofs.ComputedLaws.{Plays, told, came, over, then, refused, joined, Uuids, Carried, carried}
-use Rattle.history.proofs.ComputedParts.{kept, put}
-use Rattle.history.proofs.ComputedClient.{client-transmits, client-times, client-arrives}
-use Rattle.history.proofs.ComputedServer.{server-transmits, server-times, server-arrives}
-use Rattle.history.specs.World.{Posted}
-use Rattle.history.proofs.ComputedSides.{ClientSide, ServerSide, ofFirst, Books, world, held, holds, nothing, sends, clientIn, serverIn}
+use Rattle.runs.proofs.Opened.{opened}
+use Rattle.runs.proofs.Stories.{Plays, told, came, over, then, refused, joined, Uuids, Carried, carried}
+use Rattle.runs.proofs.Fragments.{kept, put}
+use Rattle.runs.proofs.ClientTurns.{client-transmits, client-times, client-arrives}
+use Rattle.runs.proofs.ServerTurns.{server-transmits, server-times, server-arrives}
+use Rattle.client_record.specs.declared.Client.{Client}
+use Rattle.server_record.specs.declared.Server.{Server}
+use Rattle.history.specs.World.{SentPdu, Side, Books}
+use Rattle.runs.proofs.Sides.{ofFirst, onBooks, world, held, holds, nothing, sends, clientIn, serverIn}
 
 uuids : Uuids activity called
 uuids = record { activity-16 = refl; object-16 = refl; interface-16 = refl }
@@ -98,13 +100,13 @@ module _ (message reply clientSlots serverSlots out : List ℕ) (asks : length m
   u3-long = filled-length 2 (fragmentOf reply 2) u2 ∙ u2-long
 
   -- The first n PDUs of all that the client has sent, and the server.
-  abbrev clientSent : ℕ → List Posted
+  abbrev clientSent : ℕ → List SentPdu
   clientSent n =
       take n
       (ofFirst (request message 0 1 ∷ request message 1 2 ∷ request message 2 3 ∷ ping 4
       ∷ request message 0 5 ∷ request message 1 6 ∷ request message 2 7 ∷ ping 8 ∷ ack 8 ∷ []))
 
-  abbrev serverSent : ℕ → List Posted
+  abbrev serverSent : ℕ → List SentPdu
   serverSent n =
       take n
       (ofFirst (nocall ∷ working ∷ response reply 0 1 ∷ response reply 1 2 ∷ response reply 2 3
@@ -112,148 +114,143 @@ module _ (message reply clientSlots serverSlots out : List ℕ) (asks : length m
 
   -- The client's side: state, fragments sent, serial, what is held, the counts of WAIT and of resends, tickets, WAIT, ACK; its slot
   -- buffer and how many PDUs it has sent.
-  abbrev clientAt : ClientState → ℕ → ℕ → Incoming → ℕ → ℕ → ℕ → Timer → Timer → List ℕ → ℕ → ClientSide
+  abbrev clientAt : ClientState → ℕ → ℕ → Incoming → ℕ → ℕ → ℕ → Timer → Timer → List ℕ → ℕ → Side Client
   clientAt state sent serial incoming waits resends tickets wait ack slots pdus = record {
-    client = clientIn called state (sends 2785 3 sent 0 serial) incoming waits resends tickets wait ack;
+    machine = clientIn called state (sends 2785 3 sent 0 serial) incoming waits resends tickets wait ack;
     slots = slots;
     sent = clientSent pdus;
   }
 
   -- The server's side: state, message sent, what is held, tickets, RESEND; its slot buffer and how many PDUs it has sent.
-  abbrev serverAt : ServerState → Outgoing → Incoming → ℕ → Timer → List ℕ → ℕ → ServerSide
+  abbrev serverAt : ServerState → Outgoing → Incoming → ℕ → Timer → List ℕ → ℕ → Side Server
   serverAt state outgoing incoming tickets resend slots pdus = record {
-    server = serverIn called state outgoing incoming tickets resend;
+    machine = serverIn called state outgoing incoming tickets resend;
     slots = slots;
     sent = serverSent pdus;
   }
 
   -- The client before its first event and after each that changes it; n is the length of the fragment that is put.
-  abbrev k0 : ClientSide
-  k0 = record { client = before clientSlots serverSlots .client; slots = clientSlots; sent = [] }
+  abbrev k0 : Side Client
+  k0 = record { machine = before clientSlots serverSlots .client .machine; slots = clientSlots; sent = [] }
 
-  abbrev k1 : ClientSide
+  abbrev k1 : Side Client
   k1 = clientAt SendFrags 0 0 nothing 0 0 5 Off Off clientSlots 0
 
-  abbrev k2 : ClientSide
+  abbrev k2 : Side Client
   k2 = clientAt SendFrags 1 1 nothing 0 0 5 Off Off clientSlots 1
 
-  abbrev k3 : ClientSide
+  abbrev k3 : Side Client
   k3 = clientAt SendFrags 2 2 nothing 0 0 5 Off Off clientSlots 2
 
-  abbrev k4 : ClientSide
+  abbrev k4 : Side Client
   k4 = clientAt Dispatched 3 3 nothing 0 0 6 (Armed 6) Off clientSlots 3
 
-  abbrev k5 : ClientSide
+  abbrev k5 : Side Client
   k5 = clientAt Dispatched 3 4 nothing 1 0 7 (Armed 7) Off clientSlots 4
 
-  abbrev k6 : ClientSide
+  abbrev k6 : Side Client
   k6 = clientAt SendFrags 0 4 nothing 1 1 7 Off Off clientSlots 4
 
-  abbrev k7 : ClientSide
+  abbrev k7 : Side Client
   k7 = clientAt SendFrags 1 5 nothing 1 1 7 Off Off clientSlots 5
 
-  abbrev k8 : ClientSide
+  abbrev k8 : Side Client
   k8 = clientAt SendFrags 2 6 nothing 1 1 7 Off Off clientSlots 6
 
-  abbrev k9 : ClientSide
+  abbrev k9 : Side Client
   k9 = clientAt Dispatched 3 7 nothing 1 1 8 (Armed 8) Off clientSlots 7
 
-  abbrev k10 : ClientSide
+  abbrev k10 : Side Client
   k10 = clientAt Dispatched 3 7 nothing 0 1 9 (Armed 9) Off clientSlots 7
 
-  abbrev k11 : ℕ → ClientSide
+  abbrev k11 : ℕ → Side Client
   k11 n = clientAt ReceiveFrags 3 7 (holds missing (held n) missing Unknown) 0 1 10 (Armed 10) Off u1 7
 
-  abbrev k12 : ℕ → ClientSide
+  abbrev k12 : ℕ → Side Client
   k12 n = clientAt ReceiveFrags 3 7 (holds (held n) (held 1392) missing Unknown) 0 1 11 (Armed 11) Off u2 7
 
-  abbrev k13 : ClientSide
+  abbrev k13 : Side Client
   k13 = clientAt ReceiveFrags 3 8 (holds (held 1392) (held 1392) missing Unknown) 1 1 12 (Armed 12) Off u2 8
 
-  abbrev k14 : ℕ → ClientSide
+  abbrev k14 : ℕ → Side Client
   k14 n = clientAt AckPending 3 8 (holds (held 1392) (held 1392) (held n) (At 2)) 0 1 13 Off (Armed 13) u3 8
 
-  abbrev k15 : ClientSide
+  abbrev k15 : Side Client
   k15 = clientAt Complete 3 8 (holds (held 1392) (held 1392) (held 2) (At 2)) 0 1 13 Off Off u3 9
 
   -- The server, likewise.
-  abbrev s0 : ServerSide
-  s0 = record { server = before clientSlots serverSlots .server; slots = serverSlots; sent = [] }
+  abbrev s0 : Side Server
+  s0 = record { machine = before clientSlots serverSlots .server .machine; slots = serverSlots; sent = [] }
 
-  abbrev s1 : ℕ → ServerSide
+  abbrev s1 : ℕ → Side Server
   s1 n = serverAt Collect (sends 0 0 0 0 0) (holds missing missing (held n) (At 2)) 100 Off v1 0
 
-  abbrev s2 : ℕ → ServerSide
+  abbrev s2 : ℕ → Side Server
   s2 n = serverAt Collect (sends 0 0 0 0 0) (holds (held n) missing (held 1) (At 2)) 100 Off v2 0
 
-  abbrev s3 : ServerSide
+  abbrev s3 : Side Server
   s3 = serverAt Collect (sends 0 0 0 0 0) (holds (held 1392) missing (held 1) (At 2)) 100 Off v2 1
 
-  abbrev s4 : ℕ → ServerSide
+  abbrev s4 : ℕ → Side Server
   s4 n = serverAt Running (sends 0 0 0 0 0) (holds (held 1392) (held n) (held 1) (At 2)) 100 Off v3 1
 
   abbrev all : Incoming
   all = holds (held 1392) (held 1392) (held 1) (At 2)
 
-  abbrev s5 : ServerSide
+  abbrev s5 : Side Server
   s5 = serverAt Running (sends 0 0 0 0 0) all 100 Off v3 2
 
-  abbrev s6 : ServerSide
+  abbrev s6 : Side Server
   s6 = serverAt Replying (sends 2786 3 0 0 0) all 100 Off v3 2
 
-  abbrev s7 : ServerSide
+  abbrev s7 : Side Server
   s7 = serverAt Replying (sends 2786 3 1 0 1) all 100 Off v3 3
 
-  abbrev s8 : ServerSide
+  abbrev s8 : Side Server
   s8 = serverAt Replying (sends 2786 3 2 0 2) all 100 Off v3 4
 
-  abbrev s9 : ServerSide
+  abbrev s9 : Side Server
   s9 = serverAt (Held Data) (sends 2786 3 3 0 3) all 101 (Armed 101) v3 5
 
-  abbrev s10 : ServerSide
+  abbrev s10 : Side Server
   s10 = serverAt Replying (sends 2786 3 0 0 3) all 101 Off v3 5
 
-  abbrev s11 : ServerSide
+  abbrev s11 : Side Server
   s11 = serverAt Replying (sends 2786 3 1 0 4) all 101 Off v3 6
 
-  abbrev s12 : ServerSide
+  abbrev s12 : Side Server
   s12 = serverAt Replying (sends 2786 3 2 0 5) all 101 Off v3 7
 
-  abbrev s13 : ServerSide
+  abbrev s13 : Side Server
   s13 = serverAt (Held Data) (sends 2786 3 3 0 6) all 102 (Armed 102) v3 8
 
-  abbrev s14 : ServerSide
+  abbrev s14 : Side Server
   s14 = serverAt (Idle Spent) (sends 2786 3 3 0 6) all 102 Off v3 8
 
   -- What is on record: nothing, the start, the dispatch of these bytes, the reply, the completion with these bytes.
   abbrev b0 : Books
-  b0 = record { starts = []; dispatches = []; replies = []; completions = [] }
+  b0 = onBooks [] [] [] []
 
   abbrev b1 : Books
-  b1 = record { starts = record { ordinal = 0; number = 0; idempotent = false; message = message } ∷ []; dispatches = []; replies = []; completions = [] }
+  b1 = onBooks (record { ordinal = 0; number = 0; idempotent = false; message = message } ∷ []) [] [] []
 
   abbrev b2 : List ℕ → Books
-  b2 bytes = record { starts = b1 .starts; dispatches = record { ordinal = 0; bytes = bytes } ∷ []; replies = []; completions = [] }
+  b2 bytes = onBooks (b1 .starts) (record { ordinal = 0; number = 0; bytes = bytes } ∷ []) [] []
 
   abbrev b3 : Books
-  b3 = record { starts = b1 .starts; dispatches = b2 message .dispatches; replies = record { ordinal = 0; message = reply } ∷ []; completions = [] }
+  b3 = onBooks (b1 .starts) (b2 message .dispatches) (record { ordinal = 0; message = reply } ∷ []) []
 
   abbrev b4 : List ℕ → Books
-  b4 bytes = record {
-    starts = b1 .starts;
-    dispatches = b2 message .dispatches;
-    replies = b3 .replies;
-    completions = record { ordinal = 0; bytes = bytes } ∷ [];
-  }
+  b4 bytes = onBooks (b1 .starts) (b2 message .dispatches) (b3 .replies) (record { ordinal = 0; bytes = bytes } ∷ [])
 
   -- What the server hands up when all is held is the request,
-  request-whole : serverHandsUp (s5 .server) v3 ≡ message
+  request-whole : serverHandsUp (s5 .machine) v3 ≡ message
   unfolding opened serverHandsUp
   request-whole =
-      parts-joined (serverSound (s5 .server)) all v3 refl
+      parts-joined (serverSound (s5 .machine)) all v3 refl
       ∙ holding-whole all v3 message
-      (put message 2785 1 asks (s2 1392 .server .incoming) v2 4
-      (put message 2785 0 asks (s1 1 .server .incoming) v1 4
+      (put message 2785 1 asks (s2 1392 .machine .incoming) v2 4
+      (put message 2785 0 asks (s1 1 .machine .incoming) v1 4
       (put message 2785 2 asks cleared serverSlots 6 (empty-holding cleared serverSlots message cleared-none)
       refl refl serverRoom (omega arith) (omega arith) refl)
       refl refl v1-long (omega arith) (omega arith) refl)
@@ -261,26 +258,26 @@ module _ (message reply clientSlots serverSlots out : List ℕ) (asks : length m
       refl v3-long refl
 
   -- and what the client does, the reply: where "last" is told,
-  reply-joined : joinedParts (k15 .client .incoming) u3 ≡ reply
+  reply-joined : joinedParts (k15 .machine .incoming) u3 ≡ reply
   unfolding opened
   reply-joined =
-      holding-whole (k15 .client .incoming) u3 reply
-      (put reply 2786 2 replies (k12 1392 .client .incoming) u2 6
-      (put reply 2786 0 replies (k11 1392 .client .incoming) u1 4
+      holding-whole (k15 .machine .incoming) u3 reply
+      (put reply 2786 2 replies (k12 1392 .machine .incoming) u2 6
+      (put reply 2786 0 replies (k11 1392 .machine .incoming) u1 4
       (put reply 2786 1 replies cleared clientSlots 4 (empty-holding cleared clientSlots reply cleared-none)
       refl refl clientRoom (omega arith) (omega arith) refl)
       refl refl u1-long (omega arith) (omega arith) refl)
       refl refl u2-long (omega arith) (omega arith) refl)
       refl u3-long refl
 
-  reply-told : clientHandsUp (k14 2 .client) u3 ≡ reply
+  reply-told : clientHandsUp (k14 2 .machine) u3 ≡ reply
   unfolding opened
-  reply-told = hands-joined (k14 2 .client) u3 refl ∙ reply-joined
+  reply-told = hands-joined (k14 2 .machine) u3 refl ∙ reply-joined
 
   -- and at the end.
-  pub reply-whole : clientHandsUp (k15 .client) u3 ≡ reply
+  pub reply-whole : clientHandsUp (k15 .machine) u3 ≡ reply
   unfolding opened
-  reply-whole = hands-joined (k15 .client) u3 refl ∙ reply-joined
+  reply-whole = hands-joined (k15 .machine) u3 refl ∙ reply-joined
 
   -- The story, stage by stage.
   plays-asked : Plays (world k0 s0 b0) (asked message reply out) (world k4 (s2 1392) b1)
@@ -312,7 +309,7 @@ module _ (message reply clientSlots serverSlots out : List ℕ) (asks : length m
       (refused {next = world k9 s3 b1} (server-arrives _ out room (fragment-came 0 0 message 0 5 (omega arith)) v2-long uuids) refl
       (then {next = world k9 (s4 1392) (b2 message)}
       (told (λ (bytes : List ℕ). world k9 (s4 1392) (b2 bytes)) request-whole
-      (told (λ (n : ℕ). world k9 (s4 n) (b2 (serverHandsUp (s4 n .server) v3))) (kept message 2785 1 asks)
+      (told (λ (n : ℕ). world k9 (s4 n) (b2 (serverHandsUp (s4 n .machine) v3))) (kept message 2785 1 asks)
       (server-arrives _ out room (fragment-came 0 0 message 1 6 (omega arith)) v2-long uuids))) (came 5 refl)
       (then {next = world k9 s5 (b2 message)} (server-arrives _ out room (fragment-came 0 0 message 2 7 (omega arith)) v3-long uuids) (came 6 refl)
       (then {next = world k10 s5 (b2 message)} (client-arrives _ out room (empty-came 7 4 0 (omega arith)) clientRoom uuids) (came 1 refl)
@@ -346,7 +343,7 @@ module _ (message reply clientSlots serverSlots out : List ℕ) (asks : length m
       (refused {next = world k13 s13 b3} (record { answered = refl; leaves = refl }) refl
       (then {next = world (k14 2) s13 (b4 reply)}
       (told (λ (bytes : List ℕ). world (k14 2) s13 (b4 bytes)) reply-told
-      (told (λ (n : ℕ). world (k14 n) s13 (b4 (clientHandsUp (k14 n .client) u3))) (kept reply 2786 2 replies)
+      (told (λ (n : ℕ). world (k14 n) s13 (b4 (clientHandsUp (k14 n .machine) u3))) (kept reply 2786 2 replies)
       (client-arrives _ out room (fragment-came 7 2 reply 2 6 (omega arith)) u2-long uuids))) (came 7 refl)
       over)))))))
 

@@ -7,58 +7,37 @@ use lib.ListN.{length, length-replicate}
 use Rattle.client_record.specs.declared.State.the-variants.{Complete}
 use Rattle.server_record.specs.declared.Idle.the-variants.{Spent, Repeatable}
 use Rattle.server_record.specs.declared.State.the-variants.{Idle}
 use Rattle.history.specs.World.{World}
 use Rattle.history.specs.Freshness.{Fresh}
 use Rattle.history.specs.Claim.{replyHandedUp}
-use Rattle.history.specs.Runs.{Story, Ran, before, lossy, twice, question, secondReply, exampleMessage, exampleReply, zeros}
-use Rattle.history.proofs.ComputedOpen.{opened}
-use Rattle.history.proofs.ComputedLaws.{Plays}
-use Rattle.history.proofs.ComputedLossy.{reply-whole as lossy-reply, plays-lossy}
-use Rattle.history.proofs.ComputedTwice.{reply-whole as twice-reply, plays-twice}
+use Rattle.history.proofs.Beginning.{client-record-fresh, server-record-fresh}
+use Rattle.runs.specs.Runs.{Story, Ran, activity, before, lossy, twice, question, secondReply, exampleMessage, exampleReply, zeros}
+use Rattle.runs.proofs.Stories.{Plays}
+use Rattle.runs.proofs.Lossy.{reply-whole as lossy-reply, plays-lossy}
+use Rattle.runs.proofs.Twice.{reply-whole as twice-reply, plays-twice}
 
 -- The world before a run is fresh.
 before-fresh : (clientSlots serverSlots : List ℕ) → Fresh (before clientSlots serverSlots)
-unfolding opened
 before-fresh clientSlots serverSlots = record {
-  client = record {
-    state = refl;
-    activity = refl;
-    outgoing = record { count = refl; sent = refl; acknowledged = refl };
-    incoming = record { slots = refl; none = refl; last = refl };
-    waits = refl;
-    resends = refl;
-    wait = refl;
-    ack = refl;
-  };
-  server = record {
-    state = refl;
-    activity = refl;
-    boot = omega arith;
-    outgoing = record { count = refl; sent = refl; acknowledged = refl };
-    incoming = record { slots = refl; none = refl; last = refl };
-    resends = refl;
-    resend = refl;
-  };
-  clientSent = refl;
-  serverSent = refl;
-  starts = refl;
-  dispatches = refl;
-  replies = refl;
-  completions = refl;
+  client = client-record-fresh activity 5 refl;
+  server = server-record-fresh activity 7 100 refl (omega arith);
+  client-unsent = refl;
+  server-unsent = refl;
+  books = record { starts = refl; dispatches = refl; replies = refl; completions = refl };
 }
 
 -- What a story that was played shows.
 ran : {w after : World} {story : Story} {handed : List ℕ} → Fresh w → Plays w story after
-    → after .completions ≡ record { ordinal = 0; bytes = handed } ∷ [] → replyHandedUp after ≡ handed
-    → Ran w story (after .client .state) (after .server .state) (after .dispatches) handed
+    → after .books .completions ≡ record { ordinal = 0; bytes = handed } ∷ [] → replyHandedUp after ≡ handed
+    → Ran w story (after .client .machine .state) (after .server .machine .state) (after .books .dispatches) handed
 ran fresh plays told handed = record {
   fresh = fresh;
   fair = plays .fair;
   answers = plays .answers;
-  client-ends = ap (λ (v : World). v .client .state) (plays .ends);
-  server-ends = ap (λ (v : World). v .server .state) (plays .ends);
-  dispatched = ap (λ (v : World). v .dispatches) (plays .ends);
-  completed = ap (λ (v : World). v .completions) (plays .ends) ∙ told;
+  client-ends = ap (λ (v : World). v .client .machine .state) (plays .ends);
+  server-ends = ap (λ (v : World). v .server .machine .state) (plays .ends);
+  dispatched = ap (λ (v : World). v .books .dispatches) (plays .ends);
+  completed = ap (λ (v : World). v .books .completions) (plays .ends) ∙ told;
   hands-up = ap replyHandedUp (plays .ends) ∙ handed;
 }
 
@@ -66,7 +45,7 @@ ran fresh plays told handed = record {
 -- dispatch, of the whole request, and the client hands up the whole reply.
 pub lossy-ran : (message reply clientSlots serverSlots out : List ℕ) → length message ≡ 2785 → length reply ≡ 2786 → length clientSlots ≡ 44544
     → length serverSlots ≡ 44544 → length out ≡ 1472
-    → Ran (before clientSlots serverSlots) (lossy message reply out) Complete (Idle Spent) (record { ordinal = 0; bytes = message } ∷ []) reply
+    → Ran (before clientSlots serverSlots) (lossy message reply out) Complete (Idle Spent) (record { ordinal = 0; number = 0; bytes = message } ∷ []) reply
 lossy-ran message reply clientSlots serverSlots out asks replies clientRoom serverRoom room =
     ran (before-fresh clientSlots serverSlots) (plays-lossy message reply clientSlots serverSlots out asks replies clientRoom serverRoom room) refl
     (lossy-reply message reply clientSlots serverSlots out asks replies clientRoom serverRoom room)
@@ -78,7 +57,7 @@ zeros-long n = length-replicate n 0
 
 pub example-ran :
     Ran (before (zeros 44544) (zeros 44544)) (lossy exampleMessage exampleReply (zeros 1472)) Complete (Idle Spent)
-    (record { ordinal = 0; bytes = exampleMessage } ∷ []) exampleReply
+    (record { ordinal = 0; number = 0; bytes = exampleMessage } ∷ []) exampleReply
 unfolding exampleMessage exampleReply
 example-ran =
     lossy-ran exampleMessage exampleReply (zeros 44544) (zeros 44544) (zeros 1472) refl refl (zeros-long 44544) (zeros-long 44544) (zeros-long 1472)
@@ -87,7 +66,7 @@ example-ran =
 -- hands up the reply to the second.
 pub twice-ran : (clientSlots serverSlots out : List ℕ) → length clientSlots ≡ 44544 → length serverSlots ≡ 44544 → length out ≡ 1472
     → Ran (before clientSlots serverSlots) (twice out) Complete (Idle Repeatable)
-    (record { ordinal = 0; bytes = question } ∷ record { ordinal = 0; bytes = question } ∷ []) secondReply
+    (record { ordinal = 0; number = 0; bytes = question } ∷ record { ordinal = 0; number = 0; bytes = question } ∷ []) secondReply
 twice-ran clientSlots serverSlots out clientRoom serverRoom room =
     ran (before-fresh clientSlots serverSlots) (plays-twice clientSlots serverSlots out clientRoom serverRoom room) refl
     (twice-reply clientSlots serverSlots out clientRoom serverRoom room)

@@ -25,24 +25,25 @@ use Rattle.client_steps.specs.declared.Plan.{Plan}
 use Rattle.client_steps.specs.Rows.{transmitPlan, timerPlan}
 use Rattle.client.specs.Sending.{pduHeader, requestSent, emptySent, fackSent, sentOut}
 use Rattle.client.specs.Machine.{outcomeOf, sending, transmitting, timing, planOf, acted, arriving}
-use Rattle.history.specs.World.{Posted, World}
-use Rattle.history.specs.Events.{Own, ClientTransmit, ClientArrive, ClientTimer}
-use Rattle.history.specs.Steps.{lastStart, sentAfter, completionsAfter, bytesLent, ownAfter, happens, step, answerTo}
+use Rattle.calls.specs.declared.Sent.the-variants.{Nothing as Unsent}
+use Rattle.history.specs.World.{SentPdu, World}
+use Rattle.history.specs.Events.{Own, ClientTransmit, ClientArrive, ClientTimer, OfClient, OfServer}
+use Rattle.history.specs.Steps.{lastStart, sentAfter, bytesLent, ownAfter, happens, step, answerTo}
 use Rattle.client.specs.HandUp.{handsUp}
-use Rattle.history.proofs.Network.{postedOf}
+use Rattle.history.proofs.Network.{pduOf}
 use Rattle.history.proofs.Invariant.{clientStep}
-use Rattle.history.proofs.ComputedLaws.{Makes, Uuids, posted, Carried}
+use Rattle.runs.proofs.Stories.{Makes, Uuids, posted, Carried}
 
 -- What the client sends, as it stands in the world: nothing, or one PDU.
-abbrev pub clientPdus : ℕ → Send → Client → List ℕ → List Posted
+abbrev pub clientPdus : ℕ → Send → Client → List ℕ → List SentPdu
 clientPdus o Nothing c message = []
-clientPdus o (Request f) c message = postedOf o (datagram (pduHeader 0 (flagsOf (c .outgoing .count) f) f c) (fragmentOf message f)) ∷ []
-clientPdus o Ping c message = postedOf o (datagram (pduHeader 1 0 0 c) []) ∷ []
-clientPdus o Ack c message = postedOf o (datagram (pduHeader 7 0 0 c) []) ∷ []
+clientPdus o (Request f) c message = pduOf o (datagram (pduHeader 0 (flagsOf (c .outgoing .count) f) f c) (fragmentOf message f)) ∷ []
+clientPdus o Ping c message = pduOf o (datagram (pduHeader 1 0 0 c) []) ∷ []
+clientPdus o Ack c message = pduOf o (datagram (pduHeader 7 0 0 c) []) ∷ []
 clientPdus o (Fack serial) c message =
-    postedOf o (datagram (pduHeader 9 0 (lastContiguous (contiguous (c .incoming))) c) (fackBytes (fackFields serial (maskOf (c .incoming))))) ∷ []
+    pduOf o (datagram (pduHeader 9 0 (lastContiguous (contiguous (c .incoming))) c) (fackBytes (fackFields serial (maskOf (c .incoming))))) ∷ []
 
-client-sent : (send : Send) (c : Client) (message out : List ℕ) (before : List Posted) (o : ℕ) → Uuids (c .activity) (c .call) → length out ≡ 1472
+client-sent : (send : Send) (c : Client) (message out : List ℕ) (before : List SentPdu) (o : ℕ) → Uuids (c .activity) (c .call) → length out ≡ 1472
     → sentAfter before (sentOut send c message out .sent) (sentOut send c message out .out) o ≡ before ++ clientPdus o send c message
 unfolding sentOut requestSent emptySent fackSent pduHeader sentAfter fackBytes
 client-sent Nothing c message out before o z room = sym (append-nil before)
@@ -56,17 +57,14 @@ client-sent (Fack serial) c message out before o z room =
 -- The world after a plan of the client.
 abbrev pub clientLeft : World → Plan → List ℕ → List ℕ → World
 clientLeft w plan message slots = record {
-  client = plan .client;
+  client =
+      record {
+        machine = plan .client;
+        slots = slots;
+        sent = w .client .sent ++ clientPdus (lastStart (w .books .starts)) (plan .send) (plan .client) message;
+      };
   server = w .server;
-  clientSlots = slots;
-  serverSlots = w .serverSlots;
-  clientSent = w .clientSent ++ clientPdus (lastStart (w .starts)) (plan .send) (plan .client) message;
-  serverSent = w .serverSent;
-  standing = w .standing;
-  starts = w .starts;
-  dispatches = w .dispatches;
-  replies = w .replies;
-  completions = completionsAfter (w .completions) (plan .notice) (lastStart (w .starts)) (handsUp (plan .client) slots);
+  books = clientStep w (outcomeOf plan Unsent) [] slots .books;
 }
 
 abbrev clientDone : World → Plan → List ℕ → List ℕ → List ℕ → World
@@ -76,17 +74,14 @@ client-left : (w : World) (plan : Plan) (message out slots : List ℕ) → Uuids
     → clientDone w plan message out slots ≡ clientLeft w plan message slots
 unfolding sending outcomeOf
 client-left w plan message out slots z room = λ i. record {
-  client = plan .client;
+  client =
+      record {
+        machine = plan .client;
+        slots = slots;
+        sent = client-sent (plan .send) (plan .client) message out (w .client .sent) (lastStart (w .books .starts)) z room i;
+      };
   server = w .server;
-  clientSlots = slots;
-  serverSlots = w .serverSlots;
-  clientSent = client-sent (plan .send) (plan .client) message out (w .clientSent) (lastStart (w .starts)) z room i;
-  serverSent = w .serverSent;
-  standing = w .standing;
-  starts = w .starts;
-  dispatches = w .dispatches;
-  replies = w .replies;
-  completions = completionsAfter (w .completions) (plan .notice) (lastStart (w .starts)) (handsUp (plan .client) slots);
+  books = clientStep w (outcomeOf plan Unsent) [] slots .books;
 }
 
 -- The plan of a transmit of n bytes, of a timer event, and of an arriving PDU.
@@ -102,45 +97,45 @@ clientArrival c h body = planOf c (lentGround 44544 1472) (accepted h) body
 module _ (w : World) (out : List ℕ) (room : length out ≡ 1472) where
   -- A transmit, of a message of n bytes;
   pub client-transmits : (message : List ℕ) (n : ℕ) → length message ≡ n
-      → Uuids (clientTransmit (w .client) n .client .activity) (clientTransmit (w .client) n .client .call)
-      → Makes w (ClientTransmit message out) (numberOf (clientTransmit (w .client) n .answer))
-      (clientLeft w (clientTransmit (w .client) n) message (w .clientSlots))
+      → Uuids (clientTransmit (w .client .machine) n .client .activity) (clientTransmit (w .client .machine) n .client .call)
+      → Makes w (OfClient (ClientTransmit message out)) (numberOf (clientTransmit (w .client .machine) n .answer))
+      (clientLeft w (clientTransmit (w .client .machine) n) message (w .client .slots))
   unfolding step answerTo happens transmitting sending outcomeOf
   client-transmits message n whole z = record {
-    answered = λ i. numberOf (transmitPlan (transmitGround (w .client) (whole i) (room i)) (w .client) .answer);
+    answered = λ i. numberOf (transmitPlan (transmitGround (w .client .machine) (whole i) (room i)) (w .client .machine) .answer);
     leaves =
-        (λ i. clientDone w (transmitPlan (transmitGround (w .client) (whole i) (room i)) (w .client)) message out (w .clientSlots))
-        ∙ client-left w (clientTransmit (w .client) n) message out (w .clientSlots) z room;
+        (λ i. clientDone w (transmitPlan (transmitGround (w .client .machine) (whole i) (room i)) (w .client .machine)) message out (w .client .slots))
+        ∙ client-left w (clientTransmit (w .client .machine) n) message out (w .client .slots) z room;
   }
 
   -- a timer event;
   pub client-times : (kind : TimerKind) (ticket : ℕ)
-      → Uuids (clientTime (w .client) kind ticket .client .activity) (clientTime (w .client) kind ticket .client .call)
-      → Makes w (ClientTimer kind ticket out) (numberOf (clientTime (w .client) kind ticket .answer))
-      (clientLeft w (clientTime (w .client) kind ticket) [] (w .clientSlots))
+      → Uuids (clientTime (w .client .machine) kind ticket .client .activity) (clientTime (w .client .machine) kind ticket .client .call)
+      → Makes w (OfClient (ClientTimer kind ticket out)) (numberOf (clientTime (w .client .machine) kind ticket .answer))
+      (clientLeft w (clientTime (w .client .machine) kind ticket) [] (w .client .slots))
   unfolding step answerTo happens timing sending outcomeOf
   client-times kind ticket z = record {
-    answered = λ i. numberOf (timerPlan (timerGround (w .client) kind ticket (room i)) kind (w .client) .answer);
+    answered = λ i. numberOf (timerPlan (timerGround (w .client .machine) kind ticket (room i)) kind (w .client .machine) .answer);
     leaves =
-        (λ i. clientDone w (timerPlan (timerGround (w .client) kind ticket (room i)) kind (w .client)) [] out (w .clientSlots))
-        ∙ client-left w (clientTime (w .client) kind ticket) [] out (w .clientSlots) z room;
+        (λ i. clientDone w (timerPlan (timerGround (w .client .machine) kind ticket (room i)) kind (w .client .machine)) [] out (w .client .slots))
+        ∙ client-left w (clientTime (w .client .machine) kind ticket) [] out (w .client .slots) z room;
   }
 
   -- a PDU that arrives.
-  pub client-arrives : {h : Header} {body : List ℕ} {o : ℕ} → Carried h body → length (w .clientSlots) ≡ 44544
-      → Uuids (clientArrival (w .client) h body .client .activity) (clientArrival (w .client) h body .client .call)
-      → Makes w (ClientArrive (postedOf o (datagram h body)) Own out) (numberOf (clientArrival (w .client) h body .answer))
-      (clientLeft w (clientArrival (w .client) h body) []
-      (storing (clientArrival (w .client) h body .put) (h .fragment) body (w .clientSlots)))
+  pub client-arrives : {h : Header} {body : List ℕ} {o : ℕ} → Carried h body → length (w .client .slots) ≡ 44544
+      → Uuids (clientArrival (w .client .machine) h body .client .activity) (clientArrival (w .client .machine) h body .client .call)
+      → Makes w (OfClient (ClientArrive (pduOf o (datagram h body)) Own out)) (numberOf (clientArrival (w .client .machine) h body .answer))
+      (clientLeft w (clientArrival (w .client .machine) h body) []
+      (storing (clientArrival (w .client .machine) h body .put) (h .fragment) body (w .client .slots)))
   unfolding step answerTo happens arriving acted sending outcomeOf bytesLent ownAfter
   client-arrives {h} {body} c whole z =
       let read = read-written h body (c .fits) (c .known) (c .plain) (c .short) in
       let rest = body-written h body (c .fits .sized) in
       record {
-        answered = λ i. numberOf (planOf (w .client) (lentGround (whole i) (room i)) (read i) (rest i) .answer);
+        answered = λ i. numberOf (planOf (w .client .machine) (lentGround (whole i) (room i)) (read i) (rest i) .answer);
         leaves =
-            (λ i. clientDone w (planOf (w .client) (lentGround (whole i) (room i)) (read i) (rest i)) [] out
-            (storing (planOf (w .client) (lentGround (whole i) (room i)) (read i) (rest i) .put) (read i .header .fragment) (rest i) (w .clientSlots)))
-            ∙ client-left w (clientArrival (w .client) h body) [] out
-            (storing (clientArrival (w .client) h body .put) (h .fragment) body (w .clientSlots)) z room;
+            (λ i. clientDone w (planOf (w .client .machine) (lentGround (whole i) (room i)) (read i) (rest i)) [] out
+            (storing (planOf (w .client .machine) (lentGround (whole i) (room i)) (read i) (rest i) .put) (read i .header .fragment) (rest i) (w .client .slots)))
+            ∙ client-left w (clientArrival (w .client .machine) h body) [] out
+            (storing (clientArrival (w .client .machine) h body .put) (h .fragment) body (w .client .slots)) z room;
       }

@@ -15,46 +15,21 @@ use Rattle.client_record.specs.declared.Client.{Client}
 use Rattle.client_record.specs.declared.State.{State as ClientState}
 use Rattle.server_record.specs.declared.Server.{Server}
 use Rattle.server_record.specs.declared.State.{State as ServerState}
-use Rattle.history.specs.World.{World, Started, Dispatched, Replied, Completed, Posted}
-use Rattle.history.specs.Runs.{activity}
+use Rattle.history.specs.World.{World, Started, Dispatched, Replied, Completed, SentPdu, Side, Books}
+use Rattle.runs.specs.Runs.{activity}
 
--- A side: its record, its slot buffer and what it has sent.
-pub record ClientSide : Type 0 where
-  pub client : Client
-  pub slots : List ℕ
-  pub sent : List Posted
-
-pub record ServerSide : Type 0 where
-  pub server : Server
-  pub slots : List ℕ
-  pub sent : List Posted
-
--- Datagrams of start 0, the only one.
-abbrev pub ofFirst : List (List ℕ) → List Posted
+-- PDUs of start 0, the only one.
+abbrev pub ofFirst : List (List ℕ) → List SentPdu
 ofFirst [] = []
 ofFirst (d ∷ ds) = record { ordinal = 0; bytes = d } ∷ ofFirst ds
 
--- What is on record of the calls.
-pub record Books : Type 0 where
-  pub starts : List Started
-  pub dispatches : List Dispatched
-  pub replies : List Replied
-  pub completions : List Completed
+-- The books while the server's record stands at start 0, or is fresh.
+abbrev pub onBooks : List Started → List Dispatched → List Replied → List Completed → Books
+onBooks starts dispatches replies completions =
+    record { starts = starts; dispatches = dispatches; replies = replies; completions = completions; standing = 0 }
 
-abbrev pub world : ClientSide → ServerSide → Books → World
-world c s b = record {
-  client = c .client;
-  server = s .server;
-  clientSlots = c .slots;
-  serverSlots = s .slots;
-  clientSent = c .sent;
-  serverSent = s .sent;
-  standing = 0;
-  starts = b .starts;
-  dispatches = b .dispatches;
-  replies = b .replies;
-  completions = b .completions;
-}
+abbrev pub world : Side Client → Side Server → Books → World
+world c s b = record { client = c; server = s; books = b }
 
 -- The fragments 0 to 2 held or missing, and the known last.
 abbrev pub held : ℕ → Slot

@@ -15,13 +15,13 @@ use Rattle.pdu.specs.Header.{datagram}
 use Rattle.writer.proofs.RoundTrip.{Fits}
 use Rattle.calls.specs.declared.Call.{Call}
 use Rattle.calls.specs.Sent.{sentHeader, posting}
 use Rattle.history.specs.Lists.{In, andThen}
-use Rattle.history.specs.World.{Posted, World}
-use Rattle.history.specs.Events.{Own, Event}
+use Rattle.history.specs.World.{SentPdu, World}
+use Rattle.history.specs.Events.{Own, Event, OfClient, OfServer}
 use Rattle.history.specs.Steps.{sentAfter, step, answerTo, run}
 use Rattle.history.specs.Fairness.{Typed, FairArrival, Premise, Fair}
-use Rattle.history.specs.Runs.{Story, eventsOf, numbersOf, answersTo}
-use Rattle.history.proofs.Network.{postedOf, posted-sent, call-sized, call-fits}
+use Rattle.runs.specs.Runs.{Story, eventsOf, numbersOf, answersTo}
+use Rattle.history.proofs.Network.{pduOf, posted-sent, call-sized, call-fits}
 
 -- The event is answered that number, and leaves that world.
 pub record Makes (w : World) (e : Event) (number : ℕ) (after : World) : Type 0 where
@@ -40,12 +40,12 @@ pub told : {A : Type 0} {w : World} {e : Event} {number : ℕ} (after : A → Wo
 told after same m = record { answered = m .answered; leaves = m .leaves ∙ ap after same }
 
 -- What arrives is the i-th PDU sent.
-nth : (sent : List Posted) (i : ℕ) → i < length sent → In (getD sent i (postedOf 0 [])) sent
+nth : (sent : List SentPdu) (i : ℕ) → i < length sent → In (getD sent i (pduOf 0 [])) sent
 nth [] i h = absurd (omega arith)
 nth (d ∷ ds) zero h = inl refl
 nth (d ∷ ds) (suc i) h = inr (nth ds i (omega arith))
 
-pub came : {sent : List Posted} (i : ℕ) → ltb i (length sent) ≡ true → FairArrival sent (getD sent i (postedOf 0 [])) Own
+pub came : {sent : List SentPdu} (i : ℕ) → ltb i (length sent) ≡ true → FairArrival sent (getD sent i (pduOf 0 [])) Own
 came {sent} i here = record { earlier = nth sent i (ltb-true i (length sent) here); own = refl }
 
 -- Nothing happens;
@@ -101,11 +101,11 @@ pub record Uuids (activity : List ℕ) (call : Call) : Type 0 where
   pub interface-16 : length (call .interface) ≡ 16
 
 -- A PDU that is posted stands at the end of what was sent.
-module _ (kind flags1 serial : ℕ) (activity : List ℕ) (boot number : ℕ) (call : Call) (fragment : ℕ) (body out : List ℕ) (before : List Posted) (o : ℕ) where
+module _ (kind flags1 serial : ℕ) (activity : List ℕ) (boot number : ℕ) (call : Call) (fragment : ℕ) (body out : List ℕ) (before : List SentPdu) (o : ℕ) where
   pub posted : kind ≤ 10 → length body ≤ 1392 → Uuids activity call → length out ≡ 1472
       → sentAfter before (posting (sentHeader kind flags1 serial activity boot number call fragment) body out .sent)
       (posting (sentHeader kind flags1 serial activity boot number call fragment) body out .out) o
-      ≡ andThen before (postedOf o (datagram (sentHeader kind flags1 serial activity boot number call fragment) body))
+      ≡ andThen before (pduOf o (datagram (sentHeader kind flags1 serial activity boot number call fragment) body))
   unfolding sentHeader
   posted known short z room =
       posted-sent before o (sentHeader kind flags1 serial activity boot number call fragment) body out

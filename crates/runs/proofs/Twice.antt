@@ -23,17 +23,19 @@ use Rattle.server_record.specs.declared.Idle.the-variants.{Repeatable}
 use Rattle.server_record.specs.declared.State.the-variants.{Idle, Running, Replying}
 use Rattle.server_record.specs.Rules.{sound as serverSound}
 use Rattle.server.specs.HandUp.{handsUp as serverHandsUp}
 use Rattle.history.specs.Fairness.{Typed}
-use Rattle.history.specs.Runs.{before, activity, asking, question, firstReply, secondReply, questionPdu, pingPdu, clientFackPdu, fackPdu, replyPdu, nocallPdu, runOnce, runAgain, twice}
+use Rattle.runs.specs.Runs.{before, activity, asking, question, firstReply, secondReply, questionPdu, pingPdu, clientFackPdu, fackPdu, replyPdu, nocallPdu, runOnce, runAgain, twice}
 use Rattle.history.proofs.Holding.{empty-holding, holding-whole}
 use Rattle.history.proofs.StartStep.{cleared-none}
-use Rattle.history.proofs.ComputedOpen.{opened}
-use Rattle.history.proofs.ComputedLaws.{Plays, told, came, over, then, refused, joined, Uuids, Carried, carried}
-use Rattle.history.proofs.ComputedParts.{put}
-use Rattle.history.proofs.ComputedClient.{client-transmits, client-times, client-arrives}
-use Rattle.history.proofs.ComputedServer.{server-transmits, server-arrives}
-use Rattle.history.specs.World.{Posted}
-use Rattle.history.proofs.ComputedSides.{ClientSide, ServerSide, ofFirst, Books, world, held, holds, nothing, sends, clientIn, serverIn}
+use Rattle.runs.proofs.Opened.{opened}
+use Rattle.runs.proofs.Stories.{Plays, told, came, over, then, refused, joined, Uuids, Carried, carried}
+use Rattle.runs.proofs.Fragments.{put}
+use Rattle.runs.proofs.ClientTurns.{client-transmits, client-times, client-arrives}
+use Rattle.runs.proofs.ServerTurns.{server-transmits, server-arrives}
+use Rattle.client_record.specs.declared.Client.{Client}
+use Rattle.server_record.specs.declared.Server.{Server}
+use Rattle.history.specs.World.{SentPdu, Side, Books}
+use Rattle.runs.proofs.Sides.{ofFirst, onBooks, world, held, holds, nothing, sends, clientIn, serverIn}
 
 uuids : Uuids activity asking
 uuids = record { activity-16 = refl; object-16 = refl; interface-16 = refl }
@@ -68,115 +70,100 @@ module _ (clientSlots serverSlots out : List ℕ) (clientRoom : length clientSlo
   u1-long = filled-length 0 secondReply clientSlots ∙ clientRoom
 
   -- The first n PDUs of all that the client has sent, and the server.
-  abbrev clientSent : ℕ → List Posted
+  abbrev clientSent : ℕ → List SentPdu
   clientSent n = take n (ofFirst (questionPdu 1 ∷ pingPdu 2 ∷ questionPdu 3 ∷ clientFackPdu ∷ []))
 
-  abbrev serverSent : ℕ → List Posted
+  abbrev serverSent : ℕ → List SentPdu
   serverSent n = take n (ofFirst (fackPdu 1 ∷ replyPdu firstReply ∷ nocallPdu ∷ fackPdu 3 ∷ replyPdu secondReply ∷ []))
 
   -- The client after each of its events.
-  abbrev k0 : ClientSide
-  k0 = record { client = before clientSlots serverSlots .client; slots = clientSlots; sent = clientSent 0 }
+  abbrev k0 : Side Client
+  k0 = record { machine = before clientSlots serverSlots .client .machine; slots = clientSlots; sent = clientSent 0 }
 
-  abbrev k1 : ClientSide
-  k1 = record { client = clientIn asking SendFrags (sends 3 1 0 0 0) nothing 0 0 5 Off Off; slots = clientSlots; sent = clientSent 0 }
+  abbrev k1 : Side Client
+  k1 = record { machine = clientIn asking SendFrags (sends 3 1 0 0 0) nothing 0 0 5 Off Off; slots = clientSlots; sent = clientSent 0 }
 
-  abbrev k2 : ClientSide
-  k2 = record { client = clientIn asking Dispatched (sends 3 1 1 0 1) nothing 0 0 6 (Armed 6) Off; slots = clientSlots; sent = clientSent 1 }
+  abbrev k2 : Side Client
+  k2 = record { machine = clientIn asking Dispatched (sends 3 1 1 0 1) nothing 0 0 6 (Armed 6) Off; slots = clientSlots; sent = clientSent 1 }
 
-  abbrev k3 : ClientSide
-  k3 = record { client = clientIn asking Dispatched (sends 3 1 1 1 1) nothing 0 0 6 (Armed 6) Off; slots = clientSlots; sent = clientSent 1 }
+  abbrev k3 : Side Client
+  k3 = record { machine = clientIn asking Dispatched (sends 3 1 1 1 1) nothing 0 0 6 (Armed 6) Off; slots = clientSlots; sent = clientSent 1 }
 
-  abbrev k4 : ClientSide
-  k4 = record { client = clientIn asking Dispatched (sends 3 1 1 1 2) nothing 1 0 7 (Armed 7) Off; slots = clientSlots; sent = clientSent 2 }
+  abbrev k4 : Side Client
+  k4 = record { machine = clientIn asking Dispatched (sends 3 1 1 1 2) nothing 1 0 7 (Armed 7) Off; slots = clientSlots; sent = clientSent 2 }
 
-  abbrev k5 : ClientSide
-  k5 = record { client = clientIn asking SendFrags (sends 3 1 0 1 2) nothing 1 1 7 Off Off; slots = clientSlots; sent = clientSent 2 }
+  abbrev k5 : Side Client
+  k5 = record { machine = clientIn asking SendFrags (sends 3 1 0 1 2) nothing 1 1 7 Off Off; slots = clientSlots; sent = clientSent 2 }
 
-  abbrev k6 : ClientSide
-  k6 = record { client = clientIn asking Dispatched (sends 3 1 1 1 3) nothing 1 1 8 (Armed 8) Off; slots = clientSlots; sent = clientSent 3 }
+  abbrev k6 : Side Client
+  k6 = record { machine = clientIn asking Dispatched (sends 3 1 1 1 3) nothing 1 1 8 (Armed 8) Off; slots = clientSlots; sent = clientSent 3 }
 
-  abbrev k7 : ClientSide
-  k7 = record { client = clientIn asking Complete (sends 3 1 1 1 3) (holds (held 2) missing missing (At 0)) 0 1 8 Off Off; slots = u1; sent = clientSent 4 }
+  abbrev k7 : Side Client
+  k7 = record { machine = clientIn asking Complete (sends 3 1 1 1 3) (holds (held 2) missing missing (At 0)) 0 1 8 Off Off; slots = u1; sent = clientSent 4 }
 
   -- The server after each of its events.
-  abbrev s0 : ServerSide
-  s0 = record { server = before clientSlots serverSlots .server; slots = serverSlots; sent = serverSent 0 }
+  abbrev s0 : Side Server
+  s0 = record { machine = before clientSlots serverSlots .server .machine; slots = serverSlots; sent = serverSent 0 }
 
-  abbrev s1 : ServerSide
-  s1 = record { server = serverIn asking Running (sends 0 0 0 0 0) (holds (held 3) missing missing (At 0)) 100 Off; slots = v1; sent = serverSent 1 }
+  abbrev s1 : Side Server
+  s1 = record { machine = serverIn asking Running (sends 0 0 0 0 0) (holds (held 3) missing missing (At 0)) 100 Off; slots = v1; sent = serverSent 1 }
 
-  abbrev s2 : ServerSide
-  s2 = record { server = serverIn asking Replying (sends 1 1 0 0 0) (holds (held 3) missing missing (At 0)) 100 Off; slots = v1; sent = serverSent 1 }
+  abbrev s2 : Side Server
+  s2 = record { machine = serverIn asking Replying (sends 1 1 0 0 0) (holds (held 3) missing missing (At 0)) 100 Off; slots = v1; sent = serverSent 1 }
 
-  abbrev s3 : ServerSide
-  s3 = record { server = serverIn asking (Idle Repeatable) (sends 1 1 1 0 1) (holds (held 3) missing missing (At 0)) 100 Off; slots = v1; sent = serverSent 2 }
+  abbrev s3 : Side Server
+  s3 = record { machine = serverIn asking (Idle Repeatable) (sends 1 1 1 0 1) (holds (held 3) missing missing (At 0)) 100 Off; slots = v1; sent = serverSent 2 }
 
-  abbrev s4 : ServerSide
-  s4 = record { server = serverIn asking (Idle Repeatable) (sends 1 1 1 0 1) (holds (held 3) missing missing (At 0)) 100 Off; slots = v1; sent = serverSent 3 }
+  abbrev s4 : Side Server
+  s4 = record { machine = serverIn asking (Idle Repeatable) (sends 1 1 1 0 1) (holds (held 3) missing missing (At 0)) 100 Off; slots = v1; sent = serverSent 3 }
 
-  abbrev s5 : ServerSide
-  s5 = record { server = serverIn asking Running (sends 0 0 0 0 0) (holds (held 3) missing missing (At 0)) 100 Off; slots = v2; sent = serverSent 4 }
+  abbrev s5 : Side Server
+  s5 = record { machine = serverIn asking Running (sends 0 0 0 0 0) (holds (held 3) missing missing (At 0)) 100 Off; slots = v2; sent = serverSent 4 }
 
-  abbrev s6 : ServerSide
-  s6 = record { server = serverIn asking Replying (sends 2 1 0 0 0) (holds (held 3) missing missing (At 0)) 100 Off; slots = v2; sent = serverSent 4 }
+  abbrev s6 : Side Server
+  s6 = record { machine = serverIn asking Replying (sends 2 1 0 0 0) (holds (held 3) missing missing (At 0)) 100 Off; slots = v2; sent = serverSent 4 }
 
-  abbrev s7 : ServerSide
-  s7 = record { server = serverIn asking (Idle Repeatable) (sends 2 1 1 0 1) (holds (held 3) missing missing (At 0)) 100 Off; slots = v2; sent = serverSent 5 }
+  abbrev s7 : Side Server
+  s7 = record { machine = serverIn asking (Idle Repeatable) (sends 2 1 1 0 1) (holds (held 3) missing missing (At 0)) 100 Off; slots = v2; sent = serverSent 5 }
 
   -- What is on record: nothing, the start, the first dispatch of these bytes, its reply, the second dispatch, its reply, the completion with
   -- these bytes.
   abbrev b0 : Books
-  b0 = record { starts = []; dispatches = []; replies = []; completions = [] }
+  b0 = onBooks [] [] [] []
 
   abbrev b1 : Books
-  b1 = record { starts = record { ordinal = 0; number = 0; idempotent = true; message = question } ∷ []; dispatches = []; replies = []; completions = [] }
+  b1 = onBooks (record { ordinal = 0; number = 0; idempotent = true; message = question } ∷ []) [] [] []
 
   abbrev b2 : List ℕ → Books
-  b2 bytes = record { starts = b1 .starts; dispatches = record { ordinal = 0; bytes = bytes } ∷ []; replies = []; completions = [] }
+  b2 bytes = onBooks (b1 .starts) (record { ordinal = 0; number = 0; bytes = bytes } ∷ []) [] []
 
   abbrev b3 : Books
-  b3 = record { starts = b1 .starts; dispatches = b2 question .dispatches; replies = record { ordinal = 0; message = firstReply } ∷ []; completions = [] }
+  b3 = onBooks (b1 .starts) (b2 question .dispatches) (record { ordinal = 0; message = firstReply } ∷ []) []
 
   abbrev b4 : List ℕ → Books
-  b4 bytes = record {
-    starts = b1 .starts;
-    dispatches = record { ordinal = 0; bytes = question } ∷ record { ordinal = 0; bytes = bytes } ∷ [];
-    replies = b3 .replies;
-    completions = [];
-  }
+  b4 bytes = onBooks (b1 .starts) (record { ordinal = 0; number = 0; bytes = question } ∷ record { ordinal = 0; number = 0; bytes = bytes } ∷ []) (b3 .replies) []
 
   abbrev b5 : Books
-  b5 = record {
-    starts = b1 .starts;
-    dispatches = b4 question .dispatches;
-    replies = record { ordinal = 0; message = firstReply } ∷ record { ordinal = 0; message = secondReply } ∷ [];
-    completions = [];
-  }
+  b5 = onBooks (b1 .starts) (b4 question .dispatches) (record { ordinal = 0; message = firstReply } ∷ record { ordinal = 0; message = secondReply } ∷ []) []
 
   abbrev b6 : List ℕ → Books
-  b6 bytes = record {
-    starts = b1 .starts;
-    dispatches = b5 .dispatches;
-    replies = b5 .replies;
-    completions = record { ordinal = 0; bytes = bytes } ∷ [];
-  }
+  b6 bytes = onBooks (b1 .starts) (b5 .dispatches) (b5 .replies) (record { ordinal = 0; bytes = bytes } ∷ [])
 
   -- What the server hands up at each dispatch is the request,
-  question-whole : (slots : List ℕ) → length slots ≡ 44544 → serverHandsUp (s1 .server) (filled 0 question slots) ≡ question
+  question-whole : (slots : List ℕ) → length slots ≡ 44544 → serverHandsUp (s1 .machine) (filled 0 question slots) ≡ question
   unfolding opened serverHandsUp fragmentOf
   question-whole slots long =
-      parts-joined (serverSound (s1 .server)) (s1 .server .incoming) (filled 0 question slots) refl
-      ∙ holding-whole (s1 .server .incoming) (filled 0 question slots) question
+      parts-joined (serverSound (s1 .machine)) (s1 .machine .incoming) (filled 0 question slots) refl
+      ∙ holding-whole (s1 .machine .incoming) (filled 0 question slots) question
       (put question 3 0 refl cleared slots 0 (empty-holding cleared slots question cleared-none) refl refl long (omega arith) (omega arith) refl)
       refl (filled-length 0 question slots ∙ long) refl
 
   -- and what the client does, the second reply.
-  pub reply-whole : clientHandsUp (k7 .client) u1 ≡ secondReply
+  pub reply-whole : clientHandsUp (k7 .machine) u1 ≡ secondReply
   unfolding opened fragmentOf
   reply-whole =
-      hands-joined (k7 .client) u1 refl
-      ∙ holding-whole (k7 .client .incoming) u1 secondReply
+      hands-joined (k7 .machine) u1 refl
+      ∙ holding-whole (k7 .machine .incoming) u1 secondReply
       (put secondReply 2 0 refl cleared clientSlots 0 (empty-holding cleared clientSlots secondReply cleared-none) refl refl clientRoom (omega arith)
       (omega arith) refl)
       refl u1-long refl

@@ -1,0 +1,155 @@
+-- The same of the server.
+use Prim.Native.Nat.{ℕ}
+use mathlib.Core.List.{List, [], _∷_, _++_, append-nil}
+use mathlib.Core.Path.{_≡_, refl, sym, _∙_}
+use native.Mathlib.Omega.{arith}
+use lib.ListN.{length}
+use Rattle.answers.specs.declared.Answer.{Answer}
+use Rattle.answers.specs.Number.{numberOf}
+use Rattle.pdu.specs.declared.Header.{Header}
+use Rattle.pdu.specs.Header.{datagram, blank}
+use Rattle.writer.proofs.RoundTrip.{accepted, read-written, body-written}
+use Rattle.bodies.specs.Fack.{fackBytes, fackSent as fackFields}
+use Rattle.bodies.specs.Status.{statusBytes}
+use Rattle.incoming.specs.Slots.{contiguous}
+use Rattle.facks.specs.Mask.{lastContiguous, maskOf}
+use Rattle.outgoing.specs.Message.{fragmentOf, flagsOf}
+use Rattle.outgoing.proofs.OutgoingLaws.{fragment-most}
+use Rattle.grounds.specs.Entry.{lentGround}
+use Rattle.server_record.specs.declared.Server.{Server}
+use Rattle.server_table.specs.Local.{transmitGround, timerGround}
+use Rattle.server_steps.specs.declared.Send.{Send}
+use Rattle.server_steps.specs.declared.Send.the-variants.{Nothing, Response, Fault, Working, Nocall, Fack}
+use Rattle.server_steps.specs.declared.Plan.{Plan}
+use Rattle.server_steps.specs.Rows.{transmitPlan, timerPlan}
+use Rattle.server.specs.Sending.{replyHeader, echoed, echoHeader, responseSent, faultSent, emptySent, fackSent, sentOut}
+use Rattle.server.specs.Machine.{outcomeOf, sending, transmitting, timing, planOf, acted, arriving}
+use Rattle.server.specs.HandUp.{handsUp}
+use Rattle.fragments.specs.Slots.{storing}
+use Rattle.calls.specs.declared.Sent.the-variants.{Nothing as Unsent}
+use Rattle.history.specs.World.{SentPdu, World}
+use Rattle.history.specs.Events.{Own, ServerTransmit, ServerArrive, ServerTimer, OfClient, OfServer}
+use Rattle.history.specs.Steps.{standingAfter, sentAfter, CallOf, ofRecord, bytesLent, ownAfter, happens, step, answerTo}
+use Rattle.history.proofs.Network.{pduOf}
+use Rattle.history.proofs.Invariant.{serverStep}
+use Rattle.runs.proofs.Stories.{Makes, Uuids, posted, Carried}
+
+-- What the server sends, as it stands in the world: nothing, or one PDU; h is the header of the PDU answered.
+abbrev pub serverPdus : ℕ → Send → Server → Header → List ℕ → List SentPdu
+serverPdus o Nothing s h message = []
+serverPdus o (Response f) s h message = pduOf o (datagram (replyHeader 2 (flagsOf (s .outgoing .count) f) f s) (fragmentOf message f)) ∷ []
+serverPdus o (Fault status) s h message = pduOf o (datagram (replyHeader 3 0 0 s) (statusBytes status)) ∷ []
+serverPdus o Working s h message = pduOf o (datagram (echoHeader 4 0 s h) []) ∷ []
+serverPdus o Nocall s h message = pduOf o (datagram (echoHeader 5 0 s h) []) ∷ []
+serverPdus o (Fack serial) s h message =
+    pduOf o (datagram (echoHeader 9 (lastContiguous (contiguous (s .incoming))) s h) (fackBytes (fackFields serial (maskOf (s .incoming))))) ∷ []
+
+server-sent : (send : Send) (s : Server) (h : Header) (message out : List ℕ) (before : List SentPdu) (o : ℕ) → Uuids (s .activity) (s .call)
+    → Uuids (s .activity) (echoed h) → length out ≡ 1472
+    → sentAfter before (sentOut send s h message out .sent) (sentOut send s h message out .out) o ≡ before ++ serverPdus o send s h message
+unfolding sentOut responseSent faultSent emptySent fackSent replyHeader echoHeader sentAfter fackBytes
+server-sent Nothing s h message out before o z y room = sym (append-nil before)
+server-sent (Response f) s h message out before o z y room =
+    posted 2 _ _ _ _ _ _ _ (fragmentOf message f) out before o (omega arith) (fragment-most message f) z room
+server-sent (Fault status) s h message out before o z y room =
+    posted 3 _ _ _ _ _ _ _ (statusBytes status) out before o (omega arith) (omega arith) z room
+server-sent Working s h message out before o z y room = posted 4 _ _ _ _ _ _ _ [] out before o (omega arith) (omega arith) y room
+server-sent Nocall s h message out before o z y room = posted 5 _ _ _ _ _ _ _ [] out before o (omega arith) (omega arith) y room
+server-sent (Fack serial) s h message out before o z y room =
+    posted 9 _ _ _ _ _ _ _ (fackBytes (fackFields serial (maskOf (s .incoming)))) out before o (omega arith) (omega arith) y room
+
+-- The world after a plan of the server.
+abbrev pub serverLeft : World → Plan → Header → List ℕ → List ℕ → CallOf → World
+serverLeft w plan h message slots of = record {
+  client = w .client;
+  server =
+      record {
+        machine = plan .server;
+        slots = slots;
+        sent = w .server .sent ++ serverPdus (of .ordinal) (plan .send) (plan .server) h message;
+      };
+  books = serverStep w (outcomeOf plan Unsent) [] slots of .books;
+}
+
+abbrev serverDone : World → Plan → Header → List ℕ → List ℕ → List ℕ → CallOf → World
+serverDone w plan h message out slots of = serverStep w (sending plan h message out .outcome) (sending plan h message out .out) slots of
+
+server-left : (w : World) (plan : Plan) (h : Header) (message out slots : List ℕ) (of : CallOf) → Uuids (plan .server .activity) (plan .server .call)
+    → Uuids (plan .server .activity) (echoed h) → length out ≡ 1472
+    → serverDone w plan h message out slots of ≡ serverLeft w plan h message slots of
+unfolding sending outcomeOf
+server-left w plan h message out slots of z y room = λ i. record {
+  client = w .client;
+  server =
+      record {
+        machine = plan .server;
+        slots = slots;
+        sent = server-sent (plan .send) (plan .server) h message out (w .server .sent) (of .ordinal) z y room i;
+      };
+  books = serverStep w (outcomeOf plan Unsent) [] slots of .books;
+}
+
+-- The plan of a transmit of n bytes, of a timer event, and of an arriving PDU.
+abbrev pub serverTransmit : Server → ℕ → Plan
+serverTransmit s n = transmitPlan (transmitGround s n 1472) s
+
+abbrev pub serverTime : Server → ℕ → Plan
+serverTime s ticket = timerPlan (timerGround s ticket 1472) s
+
+abbrev pub serverArrival : Server → Header → List ℕ → Plan
+serverArrival s h body = planOf s (lentGround 44544 1472) (accepted h) body
+
+-- What the arrival of a PDU with that header is of.
+abbrev ofHeader : World → ℕ → Header → Answer → CallOf
+ofHeader w o h answer = record { ordinal = o; number = h .number; standing = standingAfter (w .books .standing) answer (h .kind) o }
+
+module _ (w : World) (out : List ℕ) (room : length out ≡ 1472) where
+  -- A transmit, of a message of n bytes;
+  pub server-transmits : (message : List ℕ) (n : ℕ) → length message ≡ n
+      → Uuids (serverTransmit (w .server .machine) n .server .activity) (serverTransmit (w .server .machine) n .server .call)
+      → Makes w (OfServer (ServerTransmit message out)) (numberOf (serverTransmit (w .server .machine) n .answer))
+      (serverLeft w (serverTransmit (w .server .machine) n) blank message (w .server .slots) (ofRecord w))
+  unfolding step answerTo happens transmitting sending outcomeOf blank echoed
+  server-transmits message n whole z = record {
+    answered = λ i. numberOf (transmitPlan (transmitGround (w .server .machine) (whole i) (room i)) (w .server .machine) .answer);
+    leaves =
+        (λ i. serverDone w (transmitPlan (transmitGround (w .server .machine) (whole i) (room i)) (w .server .machine)) blank message out (w .server .slots) (ofRecord w))
+        ∙ server-left w (serverTransmit (w .server .machine) n) blank message out (w .server .slots) (ofRecord w) z
+        (record { activity-16 = z .activity-16; object-16 = refl; interface-16 = refl }) room;
+  }
+
+  -- a timer event;
+  pub server-times : (ticket : ℕ) → Uuids (serverTime (w .server .machine) ticket .server .activity) (serverTime (w .server .machine) ticket .server .call)
+      → Makes w (OfServer (ServerTimer ticket out)) (numberOf (serverTime (w .server .machine) ticket .answer))
+      (serverLeft w (serverTime (w .server .machine) ticket) blank [] (w .server .slots) (ofRecord w))
+  unfolding step answerTo happens timing sending outcomeOf blank echoed
+  server-times ticket z = record {
+    answered = λ i. numberOf (timerPlan (timerGround (w .server .machine) ticket (room i)) (w .server .machine) .answer);
+    leaves =
+        (λ i. serverDone w (timerPlan (timerGround (w .server .machine) ticket (room i)) (w .server .machine)) blank [] out (w .server .slots) (ofRecord w))
+        ∙ server-left w (serverTime (w .server .machine) ticket) blank [] out (w .server .slots) (ofRecord w) z
+        (record { activity-16 = z .activity-16; object-16 = refl; interface-16 = refl }) room;
+  }
+
+  -- a PDU that arrives.
+  pub server-arrives : {h : Header} {body : List ℕ} {o : ℕ} → Carried h body → length (w .server .slots) ≡ 44544
+      → Uuids (serverArrival (w .server .machine) h body .server .activity) (serverArrival (w .server .machine) h body .server .call)
+      → Makes w (OfServer (ServerArrive (pduOf o (datagram h body)) Own out)) (numberOf (serverArrival (w .server .machine) h body .answer))
+      (serverLeft w (serverArrival (w .server .machine) h body) h [] (storing (serverArrival (w .server .machine) h body .put) (h .fragment) body (w .server .slots))
+      (ofHeader w o h (serverArrival (w .server .machine) h body .answer)))
+  unfolding step answerTo happens arriving acted sending outcomeOf bytesLent ownAfter echoed
+  server-arrives {h} {body} {o} c whole z =
+      let read = read-written h body (c .fits) (c .known) (c .plain) (c .short) in
+      let rest = body-written h body (c .fits .sized) in
+      let sized = c .fits .sized in
+      record {
+        answered = λ i. numberOf (planOf (w .server .machine) (lentGround (whole i) (room i)) (read i) (rest i) .answer);
+        leaves =
+            (λ i. serverDone w (planOf (w .server .machine) (lentGround (whole i) (room i)) (read i) (rest i)) (read i .header) [] out
+            (storing (planOf (w .server .machine) (lentGround (whole i) (room i)) (read i) (rest i) .put) (read i .header .fragment) (rest i) (w .server .slots))
+            (ofHeader w o (read i .header) (planOf (w .server .machine) (lentGround (whole i) (room i)) (read i) (rest i) .answer)))
+            ∙ server-left w (serverArrival (w .server .machine) h body) h [] out
+            (storing (serverArrival (w .server .machine) h body .put) (h .fragment) body (w .server .slots))
+            (ofHeader w o h (serverArrival (w .server .machine) h body .answer)) z
+            (record { activity-16 = z .activity-16; object-16 = sized .object; interface-16 = sized .interface }) room;
+      }
