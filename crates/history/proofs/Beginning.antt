@@ -8,7 +8,6 @@ use borrow.Author.Tests.{le-leb, eq-eqb}
 use lib.ListN.{length}
 use Rattle.words.specs.Choice.{choose, either}
 use Rattle.words.proofs.Tests.{both-hold}
-use Rattle.fragments.specs.Judgement.{held}
 use Rattle.fragments.proofs.PutLaws.{none-held}
 use Rattle.incoming.specs.declared.Incoming.{Incoming}
 use Rattle.incoming.specs.Slots.{missing, cleared, lastSound, soundFrom, sound as incomingSound}
@@ -36,19 +35,15 @@ use Rattle.history.specs.Lists.{In}
 use Rattle.history.specs.World.{Started, Dispatched, Replied, World}
 use Rattle.history.specs.Claim.{hasReply}
 use Rattle.history.specs.Freshness.{NothingHeld, NothingSent, FreshClient, FreshServer, Fresh}
+use Rattle.history.proofs.Holding.{none-unheld}
 use Rattle.history.proofs.Invariant.{ClientInv, unanswered, hasData, ServerInv, CallInv, Inv}
 
--- Nothing held keeps the rules of what is held,
+-- Nothing held keeps the rules of what is held.
 held-sound : (m : Incoming) → NothingHeld m → incomingSound m ≡ true
 unfolding incomingSound
 held-sound m n =
     both-hold (lastSound (m .last)) (soundFrom (m .last) 0 (m .slots)) (n .last)
     (sound-all (m .last) 0 (m .slots) missing (λ g below h. absurd (false≢true (sym (none-held (m .slots) g (n .none)) ∙ h))))
-
--- and is nothing at every number.
-unheld : (m : Incoming) → NothingHeld m → (f : ℕ) → held m f ≡ false
-unfolding held
-unheld m n f = none-held (m .slots) f (n .none)
 
 -- No message out keeps the rules of what is sent.
 sent-bounded : (o : Outgoing) → NothingSent o → bounded o ≡ true
@@ -81,7 +76,7 @@ client-fresh c slots starts replies f none = record {
   slotted = f .incoming .slots;
   unbegun = λ e. none;
   current = λ e. absurd (false≢true (sym e ∙ ap isQueued (f .state)));
-  unasked = λ e. unheld (c .incoming) (f .incoming);
+  unasked = λ e. none-unheld (c .incoming) (f .incoming .none);
   whole = λ e. absurd (false≢true (sym (ap hasReply (f .state)) ∙ e));
   holds = λ e. absurd (false≢true (sym e ∙ ap isQueued (f .state)));
 }

@@ -1,7 +1,6 @@
 -- An arriving PDU keeps what is known of the world: the client puts only fragments of one reply.
 use Prim.Native.Nat.{ℕ, _≤_, _<_}
 use mathlib.Core.Bool.{Bool, true, false, false≢true}
-use borrow.Author.Tests.{le-ltb}
 use mathlib.Core.List.{List, []}
 use mathlib.Core.Logic.{_⊎_, inl, inr}
 use mathlib.Core.Path.{_≡_, refl, sym, ap, subst, _∙_}
@@ -14,11 +13,9 @@ use Rattle.answers.specs.declared.Ground.{Ground}
 use Rattle.bodies.specs.Status.{statusReading}
 use Rattle.calls.specs.declared.Notice.the-variants.{Nothing as Untold, Fault as FaultNotice, Reject as RejectNotice, Cause}
 use Rattle.flags.specs.Flags.{idempotent}
-use Rattle.fragments.specs.Judgement.{held, contradicts}
 use Rattle.fragments.specs.Slots.{filled, storing}
-use Rattle.fragments.proofs.PutLaws.{stored-length, filled-length}
 use Rattle.incoming.specs.declared.Incoming.{Incoming}
-use Rattle.incoming.specs.Slots.{allTo, contiguous, complete, stored, sound as incomingSound}
+use Rattle.incoming.specs.Slots.{contiguous, complete, stored, sound as incomingSound}
 use Rattle.pdu.specs.declared.Header.{Header}
 use Rattle.pdu.specs.Header.{datagram, bodyOf}
 use Rattle.reader.specs.Reading.{reading}
@@ -48,49 +45,37 @@ use Rattle.history.specs.Lists.{In}
 use Rattle.history.specs.World.{Started, Completed, Replied, SentPdu, World}
 use Rattle.history.specs.Steps.{lastStart, completionsAfter, completionOf}
 use Rattle.history.specs.Claim.{WholeReply, hasReply}
-use Rattle.history.proofs.Holding.{PartOf, unheld-none, holding-whole, Holding, Single, empty-holding, put-holding, other-empty}
+use Rattle.history.proofs.Holding.{Buffer, Slotted, Short, CanPut, can-put, PartOf, unheld-unfinished, holding-whole, Holding, Single, empty-holding, put-holding, put-slotted, other-empty}
 use Rattle.history.proofs.Network.{Request, Response}
 use Rattle.history.proofs.Ordinals.{equal-start}
+use Rattle.history.proofs.More.{current-on}
 use Rattle.history.proofs.Invariant.{ClientHolds, nothing, fragments-of, ClientInv, Inv, clientStep}
 use Rattle.history.proofs.ClientSteps.{GoesOn, goes-on, failed-goes-on, fack-goes-on, working-goes-on, nocall-goes-on}
 use Rattle.history.proofs.ClientSends.{asks, others-sent, planned, none-told}
 use Rattle.history.proofs.ListLaws.{tellsLast, completed-more}
 use Rattle.client.specs.HandUp.{handsUp}
 use Rattle.client.proofs.Growing.{hands-joined}
-use Rattle.incoming.specs.declared.Last.{Last}
-use Rattle.incoming.specs.declared.Last.the-variants.{Unknown, At}
 use Rattle.calls.specs.declared.Notice.{Notice}
 
 -- The client's holdings after a response that passed 16 and 17: fragments of one reply.
 module _ (ordinal : ℕ) (m : Incoming) (slots : List ℕ) (replies : List Replied) (flags1 f : ℕ) (body : List ℕ)
-    (kept : incomingSound m ≡ true) (long : length (m .slots) ≡ 32) (whole : length slots ≡ 44544)
+    (kept : incomingSound m ≡ true) (long : Slotted m) (whole : Buffer slots)
     (alike : (r t : Replied) → In r replies → In t replies → r .ordinal ≡ t .ordinal → (r ≡ t) ⊎ (Single (r .message) ⊎ Single (t .message)))
     (r : Replied) (given : In r replies) (mine : r .ordinal ≡ ordinal) (part : PartOf (r .message) flags1 f body)
-    (small : f < 32) (new : held m f ≡ false) (fits : contradicts m f (isLast flags1) ≡ false) where
+    (can : CanPut m flags1 f) where
   -- What was held is of that reply,
   same-reply : ClientHolds ordinal m slots replies → Holding m slots (r .message)
-  same-reply (nothing e) = empty-holding m slots (r .message) e
-  same-reply (fragments-of t m′ n z h) = by-replies (alike t r m′ given (n ∙ sym mine))
+  same-reply (nothing e) = empty-holding m slots (r .message) whole e
+  same-reply (fragments-of t m′ n h) = by-replies (alike t r m′ given (n ∙ sym mine))
     where
       by-replies : (t ≡ r) ⊎ (Single (t .message) ⊎ Single (r .message)) → Holding m slots (r .message)
       by-replies (inl same) = subst (λ (x : Replied). Holding m slots (x .message)) same h
       by-replies (inr one) =
-          empty-holding m slots (r .message) (other-empty m slots (t .message) (r .message) flags1 f body h part new fits one)
+          empty-holding m slots (r .message) whole (other-empty m slots (t .message) (r .message) flags1 f body h part can one)
 
   -- and so it is after the put.
   put-holds : ClientHolds ordinal m slots replies → ClientHolds ordinal (stored m f (length body) (isLast flags1)) (filled f body slots) replies
-  put-holds h =
-      fragments-of r given mine (filled-length f body slots ∙ whole)
-      (put-holding m slots (r .message) flags1 f body (same-reply h) kept long whole part small)
-
--- Where nothing is held, not all is.
-unheld-unfinished : (m : Incoming) → ((f : ℕ) → held m f ≡ false) → complete m ≡ false
-unfolding complete
-unheld-unfinished m none = by-last (m .last)
-  where
-    by-last : (l : Last) → allTo l (contiguous m) ≡ false
-    by-last Unknown = refl
-    by-last (At k) = le-ltb k (contiguous m) (omega (arith, unheld-none m none))
+  put-holds h = fragments-of r given mine (put-holding m slots (r .message) flags1 f body (same-reply h) kept long part can)
 
 -- Where all is held, what is handed up is the whole of one reply,
 pub whole-handed : (c : Client) (slots : List ℕ) (starts : List Started) (replies : List Replied) → ClientInv c slots starts replies → complete (c .incoming) ≡ true
@@ -99,14 +84,14 @@ whole-handed c slots starts replies inv all = by-state (isQueued (c .state)) ref
   where
     by-holds : ClientHolds (lastStart starts) (c .incoming) slots replies → WholeReply replies (completionOf starts c slots)
     by-holds (nothing e) = absurd (false≢true (sym (unheld-unfinished (c .incoming) (e .none)) ∙ all))
-    by-holds (fragments-of r m n whole h) =
+    by-holds (fragments-of r m n h) =
         record {
           reply = r;
           given = m;
           ordinal = n;
           whole =
               hands-joined c slots (inv .kept)
-              ∙ holding-whole (c .incoming) slots (r .message) h (rules-told c (inv .kept) .incoming) whole all;
+              ∙ holding-whole (c .incoming) slots (r .message) h (rules-told c (inv .kept) .incoming) all;
         }
 
     by-state : (queued : Bool) → isQueued (c .state) ≡ queued → WholeReply replies (completionOf starts c slots)
@@ -159,8 +144,8 @@ put-same true false c m = record { activity = refl; number = refl; call = refl; 
 put-same false idempotent c m = record { activity = refl; number = refl; call = refl; size = refl }
 
 -- The row of an arriving PDU that passed: what is known of the client stays known.
-module _ (w : World) (inv : Inv w) (o : ℕ) (h : Header) (body : List ℕ) (status : ℕ) (kept : sound (w .client .machine) ≡ true) (whole : length (w .client .slots) ≡ 44544)
-    (short : length body ≤ 1392) (known : eventOf (h .kind) ≡ ResponseEvent → Response (w .books .replies) o h body) where
+module _ (w : World) (inv : Inv w) (o : ℕ) (h : Header) (body : List ℕ) (status : ℕ) (kept : sound (w .client .machine) ≡ true) (whole : Buffer (w .client .slots))
+    (short : Short body) (known : eventOf (h .kind) ≡ ResponseEvent → Response (w .books .replies) o h body) where
   -- A response that has the client's number is of its last start.
   mine : (from : Response (w .books .replies) o h body) → isQueued (w .client .machine .state) ≡ false → w .client .machine .number ≡ h .number → from .reply .ordinal ≡ lastStart (w .books .starts)
   mine from begun e =
@@ -182,35 +167,26 @@ module _ (w : World) (inv : Inv w) (o : ℕ) (h : Header) (body : List ℕ) (sta
       let m = stored (c .incoming) (h .fragment) (bodyLength body) (isLast (h .flags1)) in
       let begun = active-state (c .state) (j .row) in
       let same = put-same (complete m) (c .call .idempotent) c m in
-      let now = inv .client .current begun in
       let from = known e in
       let number = fragment-passes (h .flags1) (h .fragment) (j .number) in
       let new = put-passes (c .incoming) (h .fragment) (isLast (h .flags1)) (j .fits) in
       record {
         kept = row-sound c h (bodyLength body) status kept (omega arith) ResponseEvent j;
         activity = rw (same .activity) (inv .client .activity);
-        slotted = stored-length (c .incoming) (h .fragment) (bodyLength body) (isLast (h .flags1)) ∙ inv .client .slotted;
+        slotted = put-slotted (c .incoming) (h .fragment) (bodyLength body) (isLast (h .flags1)) (inv .client .slotted);
         unbegun = λ q. absurd (false≢true (sym (put-started (complete m) (c .call .idempotent) c m) ∙ q));
         current =
             λ q.
-            record {
-              start = now .start;
-              started = now .started;
-              is = now .is;
-              number = rw (same .number) (now .number);
-              mark = rw (same .call) (now .mark);
-              message = now .message;
-              size = rw (same .size) (now .size);
-              typed = rw (same .call) (now .typed);
-              small = rw (same .number) (now .small);
-            };
+            current-on c (withIncoming (putRecord (complete m) (c .call .idempotent) c) m) (w .books .starts) (same .number) (same .call) (same .size)
+            (inv .client .current begun);
         whole = put-ends (complete m) (c .call .idempotent) c m;
         unasked = λ e. absurd (false≢true (sym (put-started (complete m) (c .call .idempotent) c m) ∙ e));
         holds =
             λ q.
             rw (body-length body short)
             (put-holds (lastStart (w .books .starts)) (c .incoming) (w .client .slots) (w .books .replies) (h .flags1) (h .fragment) body (rules-told c kept .incoming)
-            (inv .client .slotted) whole (inv .calls .alike) (from .reply) (from .given) (mine from begun (j .mine)) (from .part) (omega arith) (new .0) (new .1)
+            (inv .client .slotted) whole (inv .calls .alike) (from .reply) (from .given) (mine from begun (j .mine)) (from .part)
+            (can-put (c .incoming) (h .flags1) (h .fragment) number (new .0) (new .1))
             (inv .client .holds begun));
       }
 

@@ -1,14 +1,15 @@
--- What a receiver holds of one message.
-use Prim.Native.Nat.{ℕ, zero, suc, _+_, _-_, _<_, _≤_}
+-- What a receiver holds of one message. Of the files of this crate this one alone knows the sizes of document 01, and in which slot
+-- a fragment lies.
+use Prim.Native.Nat.{ℕ, zero, suc, _+_, _*_, _<_, _≤_}
 use mathlib.Core.Bool.{Bool, true, false, false≢true, true≢false}
-use mathlib.Core.List.{List}
+use mathlib.Core.List.{List, [], _++_}
 use mathlib.Core.Logic.{_⊎_, inl, inr}
 use mathlib.Core.Path.{_≡_, refl, sym, ap, _∙_}
 use native.Mathlib.Omega.{arith}
 use lib.Dec.{eqb}
-use lib.ListN.{length, getD, List·getD-eq-default}
+use lib.ListN.{length, drop, take-append-drop, getD, List·getD-eq-default}
 use native.Mathlib.Decide.{decLt}
-use borrow.Author.Tests.{eqb-true, eqb-false, eq-eqb, ltb-true, lt-ltb}
+use borrow.Author.Tests.{eqb-true, eqb-false, eq-eqb, ltb-true, lt-ltb, le-ltb}
 use Rattle.words.specs.Choice.{choose, both, either}
 use Rattle.words.proofs.Tests.{either-false}
 use Rattle.flags.specs.Flags.{lastFragment, fragment, idempotent, hasFlag, withFlag}
@@ -16,15 +17,43 @@ use Rattle.incoming.specs.declared.Slot.{Slot}
 use Rattle.incoming.specs.declared.Last.{Last}
 use Rattle.incoming.specs.declared.Last.the-variants.{Unknown, At}
 use Rattle.incoming.specs.declared.Incoming.{Incoming}
-use Rattle.incoming.specs.Slots.{missing, allTo, sound, contiguousFrom, contiguous, complete, lastWith, stored}
+use Rattle.incoming.specs.Slots.{missing, cleared, allTo, sound, contiguousFrom, contiguous, complete, lastWith, stored}
 use Rattle.incoming.proofs.SlotLaws.{count-held}
 use Rattle.outgoing.specs.Message.{fragments, fragmentOf, flagsOf}
 use Rattle.outgoing.proofs.OutgoingLaws.{fragments-reach, fragment-most}
-use Rattle.fragments.specs.Judgement.{held, heldAbove, aboveLast, otherLast, lastBelowHeld, contradicts}
+use Rattle.fragments.specs.Joined.{Leads}
+use Rattle.fragments.specs.Judgement.{held, anyHeld, heldAbove, aboveLast, otherLast, lastBelowHeld, contradicts}
 use Rattle.fragments.specs.Slots.{bytesOf, filled}
-use Rattle.fragments.proofs.BufferLaws.{joined, Carries, filled-here, filled-other, joined-whole}
-use Rattle.fragments.proofs.PutLaws.{stored-slot-same, stored-slot-other, stored-held-same, stored-held-other, held-told, none-above}
+use Rattle.fragments.proofs.BufferLaws.{handedBelow, joined, joined-front, Carries, filled-here, filled-other, joined-whole}
+use Rattle.fragments.proofs.PutLaws.{none-held, stored-length, filled-length, stored-sound, stored-slot-same, stored-slot-other, stored-held-same, stored-held-other, held-told, none-above}
 use Rattle.grounds.specs.Fragment.{isLast}
+
+-- The sizes: a slot buffer, the slots of a record, the body of a PDU.
+abbrev pub Buffer : List ℕ → Type 0
+Buffer slots = length slots ≡ 44544
+
+abbrev pub Slotted : Incoming → Type 0
+Slotted m = length (m .slots) ≡ 32
+
+abbrev pub Short : List ℕ → Type 0
+Short body = length body ≤ 1392
+
+-- The slot of a fragment: that of its number.
+abbrev slotOf : ℕ → ℕ
+slotOf f = f
+
+abbrev slotAt : Incoming → ℕ → Slot
+slotAt m f = getD (m .slots) (slotOf f) missing
+
+-- No fragment is held.
+abbrev pub Unheld : Incoming → Type 0
+Unheld m = (f : ℕ) → held m f ≡ false
+
+-- A fragment that may be put: it passed 12, 16 and 17.
+pub record CanPut (m : Incoming) (flags1 f : ℕ) : Type 0 where
+  pub number : f < 32
+  pub new : held m f ≡ false
+  pub fits : contradicts m f (isLast flags1) ≡ false
 
 -- A fragment of a message: one of its numbers, marked last where it is the last, with its bytes.
 pub record PartOf (message : List ℕ) (flags1 f : ℕ) (body : List ℕ) : Type 0 where
@@ -32,8 +61,9 @@ pub record PartOf (message : List ℕ) (flags1 f : ℕ) (body : List ℕ) : Type
   pub last : isLast flags1 ≡ eqb (f + 1) (fragments (length message))
   pub bytes : body ≡ fragmentOf message f
 
--- All that is held is of the message; the last is known exactly where it is held.
+-- All that is held, in a slot buffer, is of the message; the last is known exactly where it is held.
 pub record Holding (m : Incoming) (slots message : List ℕ) : Type 0 where
+  pub buffer : Buffer slots
   pub carries : Carries m slots message
   pub below : (f : ℕ) → held m f ≡ true → f < fragments (length message)
   pub last : (k : ℕ) → m .last ≡ At k → k + 1 ≡ fragments (length message)
@@ -42,17 +72,53 @@ pub record Holding (m : Incoming) (slots message : List ℕ) : Type 0 where
 
 -- Nothing is held and no last is known.
 pub record Empty (m : Incoming) : Type 0 where
-  pub none : (f : ℕ) → held m f ≡ false
+  pub none : Unheld m
   pub last : m .last ≡ Unknown
 
--- Where nothing is held, none is contiguous.
-pub unheld-none : (m : Incoming) → ((f : ℕ) → held m f ≡ false) → contiguous m ≡ 0
+-- Nothing is held where no slot is, and in a cleared record.
+pub none-unheld : (m : Incoming) → anyHeld (m .slots) ≡ false → Unheld m
+unfolding held
+none-unheld m none f = none-held (m .slots) f none
+
+pub cleared-empty : Empty cleared
+unfolding cleared either choose
+cleared-empty = record { none = none-unheld cleared refl; last = refl }
+
+-- A fragment that the judgement let pass may be put, and so in a cleared record.
+pub can-put : (m : Incoming) (flags1 f : ℕ) → f ≤ 31 → held m f ≡ false → contradicts m f (isLast flags1) ≡ false → CanPut m flags1 f
+can-put m flags1 f number new fits = record { number = omega arith; new = new; fits = fits }
+
+pub can-begin : (flags1 f : ℕ) → f ≤ 31 → contradicts cleared f (isLast flags1) ≡ false → CanPut cleared flags1 f
+can-begin flags1 f number fits = can-put cleared flags1 f number (cleared-empty .none f) fits
+
+-- What it leaves keeps the rules of what is held.
+pub put-sound : (m : Incoming) (flags1 f : ℕ) (body : List ℕ) → sound m ≡ true → Short body → CanPut m flags1 f
+    → sound (stored m f (length body) (isLast flags1)) ≡ true
+put-sound m flags1 f body kept short can =
+    stored-sound m f (length body) (isLast flags1) kept (omega (arith, can .number)) short (can .fits)
+
+-- Where nothing is held, none is contiguous,
+pub unheld-none : (m : Incoming) → Unheld m → contiguous m ≡ 0
 unfolding contiguous held
 unheld-none m none = by-count (contiguousFrom (m .slots)) refl
   where
     by-count : (n : ℕ) → contiguousFrom (m .slots) ≡ n → contiguousFrom (m .slots) ≡ 0
     by-count zero k = k
     by-count (suc n) k = absurd (false≢true (sym (none 0) ∙ count-held (m .slots) 0 missing (omega (arith, k))))
+
+-- not all is held,
+pub unheld-unfinished : (m : Incoming) → Unheld m → complete m ≡ false
+unfolding complete
+unheld-unfinished m none = by-last (m .last)
+  where
+    by-last : (l : Last) → allTo l (contiguous m) ≡ false
+    by-last Unknown = refl
+    by-last (At k) = le-ltb k (contiguous m) (omega (arith, unheld-none m none))
+
+-- and nothing is joined.
+pub unheld-joined : (m : Incoming) (slots : List ℕ) → Unheld m → joined m slots ≡ []
+unfolding joined handedBelow
+unheld-joined m slots none = rw (unheld-none m none)
 
 -- An unknown last is at no number.
 abbrev isKnown : Last → Bool
@@ -68,9 +134,10 @@ lastOr Unknown = 0
 lastOr (At k) = k
 
 -- Where nothing is held, it is of any message.
-pub empty-holding : (m : Incoming) (slots message : List ℕ) → Empty m → Holding m slots message
+pub empty-holding : (m : Incoming) (slots message : List ℕ) → Buffer slots → Empty m → Holding m slots message
 unfolding held
-empty-holding m slots message e = record {
+empty-holding m slots message buffer e = record {
+  buffer = buffer;
   carries = λ f h. absurd (false≢true (sym (e .none f) ∙ h));
   below = λ f h. absurd (false≢true (sym (e .none f) ∙ h));
   last = λ k h. absurd (not-known (m .last) k (e .last) h);
@@ -79,21 +146,23 @@ empty-holding m slots message e = record {
 }
 
 -- A held fragment of a sound record is at most 1,392 long.
-pub held-short : (m : Incoming) (g : ℕ) → sound m ≡ true → getD (m .slots) g missing .held ≡ true → getD (m .slots) g missing .length ≤ 1392
+held-short : (m : Incoming) (g : ℕ) → sound m ≡ true → slotAt m g .held ≡ true → slotAt m g .length ≤ 1392
 unfolding held
-held-short m g kept h = by-place (decLt g (length (m .slots)))
+held-short m g kept h = by-place (decLt (slotOf g) (length (m .slots)))
   where
-    by-place : Dec (g < length (m .slots)) → getD (m .slots) g missing .length ≤ 1392
+    by-place : Dec (slotOf g < length (m .slots)) → slotAt m g .length ≤ 1392
     by-place (yes here) = held-told m g kept here h .0
     by-place (no past) =
         absurd (false≢true (sym (ap (λ (s : Slot). s .held) (List·getD-eq-default (m .slots) missing (omega arith))) ∙ h))
 
 -- A put of a fragment of the message that is missing.
 module _ (m : Incoming) (slots message : List ℕ) (flags1 f : ℕ) (body : List ℕ) (holds : Holding m slots message)
-    (kept : sound m ≡ true) (long : length (m .slots) ≡ 32) (whole : length slots ≡ 44544) (part : PartOf message flags1 f body)
-    (number : f < 32) where
-  short : length body ≤ 1392
+    (kept : sound m ≡ true) (long : Slotted m) (part : PartOf message flags1 f body) (can : CanPut m flags1 f) where
+  short : Short body
   short = rw (part .bytes) (fragment-most message f)
+
+  number : f < 32
+  number = can .number
 
   put-carries : Carries (stored m f (length body) (isLast flags1)) (filled f body slots) message
   put-carries g h = by-number (eqb g f) refl
@@ -101,12 +170,13 @@ module _ (m : Incoming) (slots message : List ℕ) (flags1 f : ℕ) (body : List
       by-number : (t : Bool) → eqb g f ≡ t → bytesOf (stored m f (length body) (isLast flags1) .slots) g (filled f body slots) ≡ fragmentOf message g
       by-number true e =
           let same : g ≡ f = eqb-true g f e in
-          rw (same, stored-slot-same m f (length body) (isLast flags1) (omega arith)) (filled-here f body slots whole short number ∙ part .bytes)
+          rw (same, stored-slot-same m f (length body) (isLast flags1) (omega arith)) (filled-here f body slots (holds .buffer) short number ∙ part .bytes)
       by-number false e =
           let apart = eqb-false g f e in
           let other = stored-slot-other m f (length body) (isLast flags1) g apart in
-          let before : getD (m .slots) g missing .held ≡ true = sym (ap (λ (s : Slot). s .held) other) ∙ h in
-          rw other (filled-other f body slots whole short number g (getD (m .slots) g missing .length) apart (held-short m g kept before) ∙ holds .carries g before)
+          let before : slotAt m g .held ≡ true = sym (ap (λ (s : Slot). s .held) other) ∙ h in
+          rw other
+          (filled-other f body slots (holds .buffer) short number g (slotAt m g .length) apart (held-short m g kept before) ∙ holds .carries g before)
 
   put-below : (g : ℕ) → held (stored m f (length body) (isLast flags1)) g ≡ true → g < fragments (length message)
   put-below g h = by-number (eqb g f) refl
@@ -143,6 +213,7 @@ module _ (m : Incoming) (slots message : List ℕ) (flags1 f : ℕ) (body : List
   pub put-holding : Holding (stored m f (length body) (isLast flags1)) (filled f body slots) message
   unfolding stored
   put-holding = record {
+    buffer = filled-length f body slots ∙ holds .buffer;
     carries = put-carries;
     below = put-below;
     last = λ k h. put-last (isLast flags1) refl k h .0;
@@ -150,11 +221,22 @@ module _ (m : Incoming) (slots message : List ℕ) (flags1 f : ℕ) (body : List
     end = put-end (isLast flags1) refl;
   }
 
--- Where all to the last is held, what is handed up is the whole message.
-pub holding-whole : (m : Incoming) (slots message : List ℕ) → Holding m slots message → sound m ≡ true → length slots ≡ 44544 → complete m ≡ true
+-- A put leaves the record its slots.
+pub put-slotted : (m : Incoming) (f n : ℕ) (last : Bool) → Slotted m → Slotted (stored m f n last)
+put-slotted m f n last long = stored-length m f n last ∙ long
+
+-- What is handed up is a leading part of the message,
+pub holding-leads : (m : Incoming) (slots message : List ℕ) → Holding m slots message → sound m ≡ true → Leads (joined m slots) message
+holding-leads m slots message holds kept =
+    let front = joined-front m slots message kept (holds .buffer) (holds .carries) in
+    let end = 1392 * contiguous m in
+    record { rest = drop end message; whole = sym (take-append-drop end message) ∙ ap (λ (l : List ℕ). l ++ drop end message) (sym front) }
+
+-- and where all to the last is held, the whole of it.
+pub holding-whole : (m : Incoming) (slots message : List ℕ) → Holding m slots message → sound m ≡ true → complete m ≡ true
     → joined m slots ≡ message
 unfolding complete
-holding-whole m slots message holds kept whole all = by-last (m .last) refl all
+holding-whole m slots message holds kept all = by-last (m .last) refl all
   where
     by-last : (l : Last) → m .last ≡ l → allTo l (contiguous m) ≡ true → joined m slots ≡ message
     by-last Unknown e h = absurd (false≢true h)
@@ -162,7 +244,7 @@ holding-whole m slots message holds kept whole all = by-last (m .last) refl all
         let end = holds .last k e in
         let below : k < contiguous m = ltb-true k (contiguous m) h in
         let reach = fragments-reach message in
-        joined-whole m slots message kept whole (holds .carries) (omega arith)
+        joined-whole m slots message kept (holds .buffer) (holds .carries) (omega arith)
 
 -- A message of one fragment.
 abbrev pub Single : List ℕ → Type 0
@@ -231,13 +313,13 @@ module _ (m : Incoming) (slots message : List ℕ) (holds : Holding m slots mess
 
 -- Of two messages of which one has a single fragment: where a fragment of the other passes 16 and 17, nothing was held.
 pub other-empty : (m : Incoming) (slots message other : List ℕ) (flags1 f : ℕ) (body : List ℕ) → Holding m slots message
-    → PartOf other flags1 f body → held m f ≡ false → contradicts m f (isLast flags1) ≡ false → Single message ⊎ Single other → Empty m
-other-empty m slots message other flags1 f body holds part new fits (inl one) = single-held m slots message holds one f (isLast flags1) new fits
-other-empty m slots message other flags1 f body holds part new fits (inr one) =
+    → PartOf other flags1 f body → CanPut m flags1 f → Single message ⊎ Single other → Empty m
+other-empty m slots message other flags1 f body holds part can (inl one) = single-held m slots message holds one f (isLast flags1) (can .new) (can .fits)
+other-empty m slots message other flags1 f body holds part can (inr one) =
     let zero-is : f ≡ 0 = omega (arith, one, part .below) in
     let ends : isLast flags1 ≡ true = part .last ∙ eq-eqb (f + 1) (fragments (length other)) (omega (arith, one)) in
-    first-last m slots message holds (ap (held m) (sym zero-is) ∙ new)
-    (sym (ap (λ (t : Bool). contradicts m 0 t) ends) ∙ ap (λ (k : ℕ). contradicts m k (isLast flags1)) (sym zero-is) ∙ fits)
+    first-last m slots message holds (ap (held m) (sym zero-is) ∙ can .new)
+    (sym (ap (λ (t : Bool). contradicts m 0 t) ends) ∙ ap (λ (k : ℕ). contradicts m k (isLast flags1)) (sym zero-is) ∙ can .fits)
 
 -- The flags of a fragment, with the idempotent bit or without, mark the last and no other.
 pub flags-last : (count f : ℕ) (mark : Bool) → f < count → isLast (withFlag idempotent mark (flagsOf count f)) ≡ eqb (f + 1) count

@@ -5,7 +5,6 @@ use mathlib.Core.List.{List, []}
 use mathlib.Core.Logic.{_⊎_, inl, inr}
 use mathlib.Core.Path.{_≡_, sym, _∙_}
 use lib.ListN.{length}
-use Rattle.fragments.specs.Judgement.{held}
 use Rattle.incoming.specs.declared.Incoming.{Incoming}
 use Rattle.incoming.specs.Slots.{complete}
 use Rattle.client_record.specs.declared.Client.{Client}
@@ -29,7 +28,7 @@ use Rattle.history.specs.World.{bears, Started, Dispatched, Replied, Com
 use Rattle.history.specs.Steps.{lastStart, lastDispatched, clientTurnOf, serverTurnOf, startedAfter, repliedAfter, CallOf, ofRecord, clientWorld, serverWorld}
 use Rattle.history.specs.Fairness.{OfLastStart, OfLastReply, Typed}
 use Rattle.history.specs.Claim.{times, DispatchOf, WholeReply, hasReply}
-use Rattle.history.proofs.Holding.{Holding, Empty, Single}
+use Rattle.history.proofs.Holding.{Slotted, Unheld, Holding, Empty, Single}
 use Rattle.history.proofs.Network.{Request, Response, Known}
 
 -- The client's call is the last start.
@@ -47,17 +46,16 @@ pub record CurrentStart (c : Client) (starts : List Started) : Type 0 where
 -- The client holds nothing, or fragments of one reply to its start.
 pub data ClientHolds (ordinal : ℕ) (m : Incoming) (slots : List ℕ) (replies : List Replied) : Type 0 where
   nothing : Empty m → ClientHolds ordinal m slots replies
-  fragments-of : (r : Replied) → In r replies → r .ordinal ≡ ordinal → length slots ≡ 44544 → Holding m slots (r .message)
-      → ClientHolds ordinal m slots replies
+  fragments-of : (r : Replied) → In r replies → r .ordinal ≡ ordinal → Holding m slots (r .message) → ClientHolds ordinal m slots replies
 
 -- What is known of the client.
 pub record ClientInv (c : Client) (slots : List ℕ) (starts : List Started) (replies : List Replied) : Type 0 where
   pub kept : clientSound c ≡ true
   pub activity : length (c .activity) ≡ 16
-  pub slotted : length (c .incoming .slots) ≡ 32
+  pub slotted : Slotted (c .incoming)
   pub unbegun : isQueued (c .state) ≡ true → starts ≡ []
   pub current : isQueued (c .state) ≡ false → CurrentStart c starts
-  pub unasked : isQueued (c .state) ≡ true → (f : ℕ) → held (c .incoming) f ≡ false
+  pub unasked : isQueued (c .state) ≡ true → Unheld (c .incoming)
   pub whole : hasReply (c .state) ≡ true → complete (c .incoming) ≡ true
   pub holds : isQueued (c .state) ≡ false → ClientHolds (lastStart starts) (c .incoming) slots replies
 
@@ -131,7 +129,7 @@ pub record ServerInv (s : Server) (standing : ℕ) (slots : List ℕ) (starts : 
   pub kept : serverSound s ≡ true
   pub activity : length (s .activity) ≡ 16
   pub boot : s .boot < 4294967296
-  pub slotted : length (s .incoming .slots) ≡ 32
+  pub slotted : Slotted (s .incoming)
   pub takes : (k : ℕ) → NewTo s standing k → Open starts dispatches replies k
   pub called : isFresh (s .state) ≡ false → CalledStart s standing starts
   pub collecting : s .state ≡ Collect → Collecting s standing slots starts dispatches

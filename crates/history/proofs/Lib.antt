@@ -4,6 +4,7 @@ pub mod Holding
 pub mod Ordinals
 pub mod Network
 pub mod Invariant
+pub mod More
 pub mod Beginning
 pub mod Refused
 pub mod ClientSteps

@@ -15,7 +15,6 @@ use Rattle.answers.specs.declared.Ground.{Ground}
 use Rattle.answers.specs.declared.Ground.the-variants.{Pass}
 use Rattle.calls.specs.declared.Notice.the-variants.{Nothing as Untold}
 use Rattle.flags.specs.Flags.{idempotent, hasFlag}
-use Rattle.fragments.specs.Judgement.{held}
 use Rattle.fragments.specs.Slots.{storing}
 use Rattle.outgoing.specs.Sending.{acknowledgedTo}
 use Rattle.pdu.specs.declared.Header.{Header}
@@ -58,6 +57,7 @@ use Rattle.history.specs.Lists.{In}
 use Rattle.history.specs.World.{bears, SentPdu, World}
 use Rattle.history.specs.Steps.{isDone, lastStart, standingAfter, CallOf, ofArrival}
 use Rattle.history.specs.Fairness.{Typed}
+use Rattle.history.proofs.Holding.{Buffer, Short, can-put, can-begin}
 use Rattle.history.proofs.Network.{Request, Response, read-sized}
 use Rattle.history.proofs.Invariant.{unanswered, hasData, NewTo, ServerInv, Inv, serverStep}
 use Rattle.history.proofs.Ordinals.{newer-start, equal-start}
@@ -100,8 +100,8 @@ request-kind kind e = by-zero (eqb kind 0) refl (leb kind 1) (eqb kind 7) (eqb k
     by-zero false z false false false q = absurd (false≢true (ap isRequest q))
 
 -- The row of an arriving PDU that passed.
-module _ (w : World) (inv : Inv w) (o : ℕ) (h : Header) (body : List ℕ) (j : CanArrive (w .server .machine) h) (whole : length (w .server .slots) ≡ 44544)
-    (short : length body ≤ 1392) (sized : Sized h) (known : eventOf (h .kind) ≡ RequestEvent → Request (w .books .starts) o h body)
+module _ (w : World) (inv : Inv w) (o : ℕ) (h : Header) (body : List ℕ) (j : CanArrive (w .server .machine) h) (whole : Buffer (w .server .slots))
+    (short : Short body) (sized : Sized h) (known : eventOf (h .kind) ≡ RequestEvent → Request (w .books .starts) o h body)
     (out : List ℕ) (room : length out ≡ 1472) where
   -- Where the record then stands: at a request's start.
   abbrev stands : ℕ
@@ -203,8 +203,8 @@ module _ (w : World) (inv : Inv w) (o : ℕ) (h : Header) (body : List ℕ) (j :
       let request = known (b .0) in
       subst (λ (n : ℕ). Inv (AfterAt (beginPlan (w .server .machine) h (bodyLength body)) n)) (sym (stands-at (b .0)))
       (put-inv w inv (begun (w .server .machine) h) o
-      (begun-inv (w .server .machine) (w .books .standing) (w .server .slots) (w .books .starts) (w .books .dispatches) (w .books .replies) (inv .server) o h body request (b .1)) refl h body request whole short
-      (omega (arith, fits .0)) (fits .1) out room)
+      (begun-inv (w .server .machine) (w .books .standing) (w .server .slots) (w .books .starts) (w .books .dispatches) (w .books .replies) (inv .server) whole o h body request (b .1)) refl h body request short
+      (can-begin (h .flags1) (h .fragment) (fits .0) (fits .1)) out room)
 
   -- Put: the request is of the call that is collected.
   put-row-inv : rowFor (w .server .machine) h ≡ Put
@@ -217,7 +217,7 @@ module _ (w : World) (inv : Inv w) (o : ℕ) (h : Header) (body : List ℕ) (j :
       subst (λ (n : ℕ). Inv (AfterAt (requestPlan (w .server .machine) (h .flags1) (h .serial) (h .fragment) (bodyLength body)) n)) (sym (stands-at (told .0)))
       (put-inv w inv (w .server .machine) o
       (subst (λ (n : ℕ). ServerInv (w .server .machine) n (w .server .slots) (w .books .starts) (w .books .dispatches) (w .books .replies)) (equal-ordinal request (told .1)) (inv .server))
-      (told .2) h body request whole short (omega (arith, fits .0)) (fits .2) out room)
+      (told .2) h body request short (can-put (w .server .machine .incoming) (h .flags1) (h .fragment) (fits .0) (fits .1) (fits .2)) out room)
 
   -- Replay: data is sent again by transmit, a fault at once.
   replay-inv : (reply : Reply) → w .server .machine .state ≡ Held reply → sound (replayHeld (w .server .machine) reply .server) ≡ true

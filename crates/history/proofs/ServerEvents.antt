@@ -39,9 +39,10 @@ use Rattle.history.specs.Claim.{DispatchOf}
 use Rattle.history.specs.World.{Replied, World}
 use Rattle.history.specs.Steps.{lastStart, lastDispatched, sentAfter, dispatchesAfter, ofRecord}
 use Rattle.history.specs.Fairness.{OfLastReply}
-use Rattle.history.proofs.ListLaws.{in-before, in-added, in-grown, all-grown, last-added}
+use Rattle.history.proofs.ListLaws.{Within, within-grown, in-added, in-grown, all-grown, last-added}
 use Rattle.history.proofs.Holding.{Single}
 use Rattle.history.proofs.Network.{Response, more-known}
+use Rattle.history.proofs.More.{response-more, whole-reply-more, more-replies, called-on}
 use Rattle.history.proofs.Invariant.{ClientHolds, nothing, fragments-of, ClientInv, unanswered, hasData, NewTo, new-on, ServerInv, IsResponse, Inv, serverStep, replyStep}
 use Rattle.history.proofs.ServerSteps.{goes-on, settled-goes-on, transmitted-goes-on, resend-goes-on}
 use Rattle.history.proofs.ServerSends.{answers, others-sent, all-single, response-sent, transmitted-counts, planned}
@@ -142,6 +143,9 @@ module _ (w : World) (inv : Inv w) (n : ℕ) (message : List ℕ) (can : CanRepl
   abbrev replies : List Replied
   replies = andThen (w .books .replies) reply
 
+  grown : Within (w .books .replies) replies
+  grown = within-grown (w .books .replies) reply
+
   running : w .server .machine .state ≡ Running
   running = running-state (w .server .machine .state) (can .row)
 
@@ -176,9 +180,7 @@ module _ (w : World) (inv : Inv w) (n : ℕ) (message : List ℕ) (can : CanRepl
               first = before .first;
               single = all-grown (λ (r : Replied). r .ordinal ≡ k → Single (r .message)) (w .books .replies) reply (before .single) (λ e. absurd (above-other k new e));
             };
-        called =
-            λ e.
-            record { start = k .start; started = k .started; is = k .is; number = k .number; mark = k .mark; typed = k .typed; small = k .small };
+        called = λ e. called-on (w .server .machine) (answered (w .server .machine) n) (w .books .standing) (w .books .starts) refl refl k;
         collecting = λ e. absurd (false≢true (sym (ap hasData e)));
         running = λ e. absurd (false≢true (sym (ap hasData e)));
         single = λ e. absurd (false≢true e);
@@ -203,23 +205,7 @@ module _ (w : World) (inv : Inv w) (n : ℕ) (message : List ℕ) (can : CanRepl
 
   -- The client holds what it held,
   client-replied : ClientInv (w .client .machine) (w .client .slots) (w .books .starts) replies
-  client-replied =
-      let old = inv .client in
-      record {
-        kept = old .kept;
-        activity = old .activity;
-        slotted = old .slotted;
-        unbegun = old .unbegun;
-        current = old .current;
-        unasked = old .unasked;
-        whole = old .whole;
-        holds = λ e. more (old .holds e);
-      }
-    where
-      more : ClientHolds (lastStart (w .books .starts)) (w .client .machine .incoming) (w .client .slots) (w .books .replies)
-          → ClientHolds (lastStart (w .books .starts)) (w .client .machine .incoming) (w .client .slots) replies
-      more (nothing e) = nothing e
-      more (fragments-of r m e z h) = fragments-of r (in-before (w .books .replies) r reply m) e z h
+  client-replied = more-replies (w .books .replies) replies grown (w .client .machine) (w .client .slots) (w .books .starts) (inv .client)
 
   -- and of two replies to one number the earlier is a single fragment.
   alike : (r t : Replied) → In r replies → In t replies → r .ordinal ≡ t .ordinal → (r ≡ t) ⊎ (Single (r .message) ⊎ Single (t .message))
@@ -230,10 +216,6 @@ module _ (w : World) (inv : Inv w) (n : ℕ) (message : List ℕ) (can : CanRepl
       by-places (inl p) (inr q) = inr (inl (earlier r p (e ∙ ap (λ (x : Replied). x .ordinal) q ∙ to-start)))
       by-places (inr p) (inl q) = inr (inr (earlier t q (sym e ∙ ap (λ (x : Replied). x .ordinal) p ∙ to-start)))
       by-places (inr p) (inr q) = inl (p ∙ sym q)
-
-  response-replied : (o : ℕ) (h : Header) (body : List ℕ) → Response (w .books .replies) o h body → Response replies o h body
-  response-replied o h body r =
-      record { reply = r .reply; given = in-before (w .books .replies) (r .reply) reply (r .given); is = r .is; number = r .number; part = r .part }
 
   reply-inv : Inv (replyStep w (outcomeOf (replyPlan Pass (w .server .machine) n) Unsent) message)
   unfolding outcomeOf replyPlan accepted choose sentAfter dispatchesAfter
@@ -254,11 +236,10 @@ module _ (w : World) (inv : Inv w) (n : ℕ) (message : List ℕ) (can : CanRepl
           alike = alike;
         };
     requests = inv .requests;
-    responses = λ d m. more-known IsResponse (Response (w .books .replies)) (Response replies) response-replied d (inv .responses d m);
-    completed =
-        λ c m.
-        let old = inv .completed c m in
-        record { reply = old .reply; given = in-before (w .books .replies) (old .reply) reply (old .given); ordinal = old .ordinal; whole = old .whole };
+    responses =
+        λ d m.
+        more-known IsResponse (Response (w .books .replies)) (Response replies) (response-more (w .books .replies) replies grown) d (inv .responses d m);
+    completed = λ c m. whole-reply-more (w .books .replies) replies grown c (inv .completed c m);
   }
 
 -- Reply.

@@ -13,7 +13,6 @@ use Rattle.flags.specs.Flags.{idempotent, hasFlag}
 use Rattle.fragments.specs.Judgement.{contradicts}
 use Rattle.fragments.specs.Slots.{filled}
 use Rattle.fragments.specs.Joined.{parts}
-use Rattle.fragments.proofs.PutLaws.{stored-length, stored-sound, filled-length}
 use Rattle.fragments.proofs.PartLaws.{parts-joined}
 use Rattle.incoming.specs.declared.Incoming.{Incoming}
 use Rattle.incoming.specs.Slots.{complete, cleared, stored, sound as incomingSound}
@@ -31,19 +30,19 @@ use Rattle.server_record.specs.Rules.{sound, outgoingSound, messageRule}
 use Rattle.server_record.specs.Record.{unarmed}
 use Rattle.server_record.proofs.RuleLaws.{rules-told, rules-hold}
 use Rattle.server_arrivals.specs.Rows.{callOf, begun, withIncoming, putState, putNotice, fackFor, putPlan, requestPlan}
-use Rattle.server_arrivals.proofs.ArrivalLaws.{put-sound}
+use Rattle.server_arrivals.proofs.ArrivalLaws.{put-sound as put-plan-sound}
 use Rattle.server.specs.HandUp.{handsUp}
 use Rattle.server.specs.Machine.{outcomeOf, sending}
 use Rattle.history.specs.Lists.{In, andThen}
 use Rattle.history.specs.World.{bears, Started, Dispatched, Replied, World}
 use Rattle.history.specs.Steps.{dispatchesAfter, CallOf, dispatchOf}
 use Rattle.history.specs.Claim.{times}
-use Rattle.history.proofs.ListLaws.{in-added, dispatch-before, all-grown, last-dispatched, times-same, times-other, times-none}
-use Rattle.history.proofs.Holding.{PartOf, Holding, Single, empty-holding, put-holding, holding-whole}
+use Rattle.history.proofs.ListLaws.{within-grown, in-added, all-grown, last-dispatched, times-same, times-other, times-none}
+use Rattle.history.proofs.Holding.{Buffer, Short, CanPut, cleared-empty, PartOf, Holding, Single, empty-holding, put-holding, put-sound, put-slotted, holding-whole}
 use Rattle.history.proofs.Network.{Request, Response}
+use Rattle.history.proofs.More.{more-dispatches, called-on}
 use Rattle.history.proofs.Invariant.{Collecting, unanswered, NewTo, new-on, ServerInv, CallInv, Inv, serverStep}
 use Rattle.history.proofs.ServerSends.{answers, ofCall, others-sent}
-use Rattle.history.proofs.StartStep.{cleared-none}
 
 -- A record that has begun keeps its rules.
 begun-sound : (s : Server) (h : Header) → sound (begun s h) ≡ true
@@ -58,7 +57,8 @@ Begins s standing o h =
 
 -- A request that begins.
 module _ (s : Server) (standing : ℕ) (slots : List ℕ) (starts : List Started) (dispatches : List Dispatched) (replies : List Replied)
-    (inv : ServerInv s standing slots starts dispatches replies) (o : ℕ) (h : Header) (body : List ℕ) (request : Request starts o h body) where
+    (inv : ServerInv s standing slots starts dispatches replies) (buffer : Buffer slots) (o : ℕ) (h : Header) (body : List ℕ)
+    (request : Request starts o h body) where
   -- What is newer to the record that has begun was newer before.
   newer-on : Begins s standing o h → (k : ℕ) → NewTo (begun s h) o k → NewTo s standing k
   unfolding begun isFresh
@@ -108,7 +108,7 @@ module _ (s : Server) (standing : ℕ) (slots : List ℕ) (starts : List Started
           start = request .start;
           started = request .started;
           is = request .is;
-          holding = empty-holding cleared slots (request .start .message) cleared-none;
+          holding = empty-holding cleared slots (request .start .message) buffer cleared-empty;
           first = first-time begins;
         };
     running = λ e. absurd (false≢true (ap isRunning e));
@@ -120,8 +120,7 @@ module _ (s : Server) (standing : ℕ) (slots : List ℕ) (starts : List Started
 module _ (s : Server) (o : ℕ) (slots : List ℕ) (starts : List Started) (dispatches : List Dispatched) (replies : List Replied)
     (inv : ServerInv s o slots starts dispatches replies) (calls : CallInv starts dispatches replies) (state : s .state ≡ Collect)
     (h : Header) (body : List ℕ) (request : Request starts o h body)
-    (whole : length slots ≡ 44544) (short : length body ≤ 1392) (small : h .fragment < 32)
-    (fits : contradicts (s .incoming) (h .fragment) (isLast (h .flags1)) ≡ false) where
+    (short : Short body) (can : CanPut (s .incoming) (h .flags1) (h .fragment)) where
   collecting : Collecting s o slots starts dispatches
   collecting = inv .collecting state
 
@@ -133,14 +132,13 @@ module _ (s : Server) (o : ℕ) (slots : List ℕ) (starts : List Started) (disp
   after = stored (s .incoming) (h .fragment) (length body) (isLast (h .flags1))
 
   after-sound : incomingSound after ≡ true
-  after-sound =
-      stored-sound (s .incoming) (h .fragment) (length body) (isLast (h .flags1)) (rules-told s (inv .kept) .incoming) (omega arith) short fits
+  after-sound = put-sound (s .incoming) (h .flags1) (h .fragment) body (rules-told s (inv .kept) .incoming) short can
 
   -- so what is held then is of that message,
   after-holds : Holding after (filled (h .fragment) body slots) (collecting .start .message)
   after-holds =
       put-holding (s .incoming) slots (collecting .start .message) (h .flags1) (h .fragment) body (collecting .holding) (rules-told s (inv .kept) .incoming)
-      (inv .slotted) whole (subst (λ (x : Started). PartOf (x .message) (h .flags1) (h .fragment) body) same-start (request .part)) small
+      (inv .slotted) (subst (λ (x : Started). PartOf (x .message) (h .flags1) (h .fragment) body) same-start (request .part)) can
 
   -- and where all to the last is held it is handed up whole.
   handed-whole : (t : Server) → sound t ≡ true → t .incoming ≡ after → complete after ≡ true
@@ -149,8 +147,7 @@ module _ (s : Server) (o : ℕ) (slots : List ℕ) (starts : List Started) (disp
   handed-whole t kept same all =
       ap (λ (m : Incoming). parts (sound t) m (filled (h .fragment) body slots)) same
       ∙ parts-joined (sound t) after (filled (h .fragment) body slots) kept
-      ∙ holding-whole after (filled (h .fragment) body slots) (collecting .start .message) after-holds after-sound
-      (filled-length (h .fragment) body slots ∙ whole) all
+      ∙ holding-whole after (filled (h .fragment) body slots) (collecting .start .message) after-holds after-sound all
 
   -- The record after the put, by whether all is held.
   abbrev putServer : Bool → Server
@@ -166,11 +163,9 @@ module _ (s : Server) (o : ℕ) (slots : List ℕ) (starts : List Started) (disp
         kept = kept;
         activity = inv .activity;
         boot = inv .boot;
-        slotted = stored-length (s .incoming) (h .fragment) (length body) (isLast (h .flags1)) ∙ inv .slotted;
+        slotted = put-slotted (s .incoming) (h .fragment) (length body) (isLast (h .flags1)) (inv .slotted);
         takes = λ n new. inv .takes n (new-on s (putServer false) o refl n new);
-        called =
-            λ e.
-            record { start = k .start; started = k .started; is = k .is; number = k .number; mark = k .mark; typed = k .typed; small = k .small };
+        called = λ e. called-on s (putServer false) o starts refl refl k;
         collecting =
             λ e.
             record {
@@ -205,7 +200,7 @@ module _ (s : Server) (o : ℕ) (slots : List ℕ) (starts : List Started) (disp
         kept = kept;
         activity = inv .activity;
         boot = inv .boot;
-        slotted = stored-length (s .incoming) (h .fragment) (length body) (isLast (h .flags1)) ∙ inv .slotted;
+        slotted = put-slotted (s .incoming) (h .fragment) (length body) (isLast (h .flags1)) (inv .slotted);
         takes =
             λ n new.
             let old = inv .takes n (new-on s (putServer true) o refl n new) in
@@ -215,9 +210,7 @@ module _ (s : Server) (o : ℕ) (slots : List ℕ) (starts : List Started) (disp
                   all-grown (λ (d : Dispatched). d .ordinal ≡ n → ⊥) dispatches (dispatch bytes) (old .first t m e i) (above-other n new);
               single = old .single;
             };
-        called =
-            λ e.
-            record { start = k .start; started = k .started; is = k .is; number = k .number; mark = k .mark; typed = k .typed; small = k .small };
+        called = λ e. called-on s (putServer true) o starts refl refl k;
         collecting = λ e. absurd (false≢true (sym (ap isRunning e)));
         running =
             λ e.
@@ -263,7 +256,9 @@ module _ (s : Server) (o : ℕ) (slots : List ℕ) (starts : List Started) (disp
         all-grown (λ (d : Dispatched). (t : Started) × (In t starts × ((t .ordinal ≡ d .ordinal) × (d .bytes ≡ t .message)))) dispatches (dispatch bytes)
         (calls .whole) (collecting .start, (collecting .started, (collecting .is, all)));
     called = all-grown (λ (d : Dispatched). d .number ≡ bears (d .ordinal)) dispatches (dispatch bytes) (calls .called) (request .number);
-    replied = λ r m. dispatch-before dispatches (dispatch bytes) (r .ordinal) (calls .replied r m);
+    replied =
+        λ r m.
+        more-dispatches dispatches (andThen dispatches (dispatch bytes)) (within-grown dispatches (dispatch bytes)) (r .ordinal) (calls .replied r m);
     alike = calls .alike;
   }
 
@@ -290,14 +285,14 @@ ofRequest o h = record { ordinal = o; number = h .number; standing = o }
 
 -- A world whose server put a request.
 pub put-inv : (w : World) → Inv w → (s : Server) (o : ℕ) → ServerInv s o (w .server .slots) (w .books .starts) (w .books .dispatches) (w .books .replies) → s .state ≡ Collect
-    → (h : Header) (body : List ℕ) → Request (w .books .starts) o h body → length (w .server .slots) ≡ 44544 → length body ≤ 1392
-    → h .fragment < 32 → contradicts (s .incoming) (h .fragment) (isLast (h .flags1)) ≡ false → (out : List ℕ) → length out ≡ 1472
+    → (h : Header) (body : List ℕ) → Request (w .books .starts) o h body → Short body → CanPut (s .incoming) (h .flags1) (h .fragment)
+    → (out : List ℕ) → length out ≡ 1472
     → Inv
     (serverStep w (sending (requestPlan s (h .flags1) (h .serial) (h .fragment) (bodyLength body)) h [] out .outcome)
     (sending (requestPlan s (h .flags1) (h .serial) (h .fragment) (bodyLength body)) h [] out .out)
     (filled (h .fragment) body (w .server .slots)) (ofRequest o h))
 unfolding requestPlan putPlan sending outcomeOf
-put-inv w inv s o server state h body request whole short small fits out room =
+put-inv w inv s o server state h body request short can out room =
     subst
     (λ (n : ℕ).
     Inv
@@ -326,8 +321,8 @@ put-inv w inv s o server state h body request whole short small fits out room =
     kept : sound (putServer-of (complete m)) ≡ true
     kept =
         unfold putPlan in
-        put-sound s (server .kept) m (h .flags1) (h .serial) state
-        (stored-sound (s .incoming) (h .fragment) (length body) (isLast (h .flags1)) (rules-told s (server .kept) .incoming) (omega arith) short fits)
+        put-plan-sound s (server .kept) m (h .flags1) (h .serial) state
+        (put-sound (s .incoming) (h .flags1) (h .fragment) body (rules-told s (server .kept) .incoming) short can)
 
     dispatches : List Dispatched
     dispatches =
@@ -337,4 +332,4 @@ put-inv w inv s o server state h body request whole short small fits out room =
     known : ServerInv (putServer-of (complete m)) o (filled (h .fragment) body (w .server .slots)) (w .books .starts) dispatches (w .books .replies)
         × CallInv (w .books .starts) dispatches (w .books .replies)
     known =
-        put-known s o (w .server .slots) (w .books .starts) (w .books .dispatches) (w .books .replies) server (inv .calls) state h body request whole short small fits (complete m) refl kept
+        put-known s o (w .server .slots) (w .books .starts) (w .books .dispatches) (w .books .replies) server (inv .calls) state h body request short can (complete m) refl kept

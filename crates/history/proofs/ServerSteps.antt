@@ -24,6 +24,7 @@ use Rattle.server_steps.specs.Rows.{settled, transmitted, rewinding, resendHeld
 use Rattle.history.specs.Lists.{In}
 use Rattle.history.specs.World.{Started, Dispatched, Replied}
 use Rattle.history.proofs.Holding.{Single}
+use Rattle.history.proofs.More.{called-on}
 use Rattle.history.proofs.Invariant.{CurrentReply, unanswered, hasData, new-on, ServerInv}
 
 -- The states that follow RUNNING.
@@ -72,17 +73,7 @@ goes-on s t standing slots starts dispatches replies inv called kept g =
       boot = rw (g .boot) (inv .boot);
       slotted = rw (g .incoming) (inv .slotted);
       takes = λ n new. inv .takes n (new-on s t standing later n new);
-      called =
-          λ e.
-          record {
-            start = k .start;
-            started = k .started;
-            is = k .is;
-            number = rw (g .number) (k .number);
-            mark = rw (g .call) (k .mark);
-            typed = rw (g .call) (k .typed);
-            small = rw (g .number) (k .small);
-          };
+      called = λ e. called-on s t standing starts (g .number) (g .call) k;
       collecting = λ e. absurd (false≢true (sym (ap past e) ∙ g .after));
       running = λ e. absurd (false≢true (sym (ap past e) ∙ g .after));
       single = λ e r m n. g .single e r m n;

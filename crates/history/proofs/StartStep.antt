@@ -13,8 +13,6 @@ use Rattle.answers.specs.declared.Ground.{Ground}
 use Rattle.answers.specs.declared.Ground.the-variants.{Pass}
 use Rattle.calls.specs.declared.Call.{Call}
 use Rattle.calls.specs.declared.Sent.the-variants.{Nothing as Unsent}
-use Rattle.fragments.specs.Judgement.{held}
-use Rattle.fragments.proofs.PutLaws.{none-held}
 use Rattle.incoming.specs.Slots.{cleared}
 use Rattle.incoming.proofs.SlotLaws.{cleared-length}
 use Rattle.outgoing.specs.Sending.{started as startedMessage, messageOf}
@@ -32,15 +30,11 @@ use Rattle.history.specs.World.{bears, Started, Dispatched, Replied, Wor
 use Rattle.history.specs.Steps.{lastStart, sentAfter, completionsAfter}
 use Rattle.history.specs.Fairness.{FairStart}
 use Rattle.history.specs.Claim.{times}
-use Rattle.history.proofs.ListLaws.{in-before, in-added, in-grown, all-grown, last-added, times-none}
-use Rattle.history.proofs.Holding.{Empty}
+use Rattle.history.proofs.ListLaws.{in-before, within-grown, in-added, in-grown, all-grown, last-added, times-none}
+use Rattle.history.proofs.Holding.{cleared-empty}
 use Rattle.history.proofs.Network.{Request, more-known}
+use Rattle.history.proofs.More.{request-more, more-starts}
 use Rattle.history.proofs.Invariant.{nothing, ClientInv, ServerInv, CallInv, IsRequest, Inv, startStep}
-
--- After a start nothing is held.
-pub cleared-none : Empty cleared
-unfolding held cleared either choose
-cleared-none = record { none = λ f. none-held (cleared .slots) f refl; last = refl }
 
 -- The number of a new start is that of its ordinal.
 module _ (c : Client) (slots : List ℕ) (starts : List Started) (replies : List Replied) (inv : ClientInv c slots starts replies)
@@ -120,7 +114,7 @@ module _ (w : World) (inv : Inv w) (call : Call) (n : ℕ) (message : List ℕ) 
         };
     unasked = λ e. absurd (false≢true e);
     whole = λ e. absurd (false≢true e);
-    holds = λ e. nothing cleared-none;
+    holds = λ e. nothing cleared-empty;
   }
 
   -- no start has that ordinal, and no dispatch;
@@ -134,47 +128,17 @@ module _ (w : World) (inv : Inv w) (call : Call) (n : ℕ) (message : List ℕ) 
   -- the server's call is still one that was started,
   server-started : ServerInv (w .server .machine) (w .books .standing) (w .server .slots) starts (w .books .dispatches) (w .books .replies)
   server-started =
-      let old = inv .server in
+      more-starts (w .books .starts) starts (within-grown (w .books .starts) start) (w .server .machine) (w .books .standing) (w .server .slots)
+      (w .books .dispatches) (w .books .replies)
+      (λ k new.
+      let before = inv .server .takes k new in
       record {
-        kept = old .kept;
-        activity = old .activity;
-        boot = old .boot;
-        slotted = old .slotted;
-        takes =
-            λ k new.
-            let before = old .takes k new in
-            record {
-              first =
-                  all-grown (λ (t : Started). t .ordinal ≡ k → t .idempotent ≡ false → (d : Dispatched) → In d (w .books .dispatches) → d .ordinal ≡ k → ⊥) (w .books .starts) start
-                  (before .first) (λ e i d m n. undispatched d m (n ∙ sym e));
-              single = before .single;
-            };
-        called =
-            λ e.
-            let k = old .called e in
-            record {
-              start = k .start;
-              started = in-before (w .books .starts) (k .start) start (k .started);
-              is = k .is;
-              number = k .number;
-              mark = k .mark;
-              typed = k .typed;
-              small = k .small;
-            };
-        collecting =
-            λ e.
-            let k = old .collecting e in
-            record {
-              start = k .start;
-              started = in-before (w .books .starts) (k .start) start (k .started);
-              is = k .is;
-              holding = k .holding;
-              first = k .first;
-            };
-        running = old .running;
-        single = old .single;
-        replying = old .replying;
-      }
+        first =
+            all-grown (λ (t : Started). t .ordinal ≡ k → t .idempotent ≡ false → (d : Dispatched) → In d (w .books .dispatches) → d .ordinal ≡ k → ⊥)
+            (w .books .starts) start (before .first) (λ e i d m n. undispatched d m (n ∙ sym e));
+        single = before .single;
+      })
+      (inv .server)
 
   unique : (s t : Started) → In s starts → In t starts → s .ordinal ≡ t .ordinal → s ≡ t
   unique s t m k e = by-places (in-grown (w .books .starts) s start m) (in-grown (w .books .starts) t start k)
@@ -210,27 +174,16 @@ module _ (w : World) (inv : Inv w) (call : Call) (n : ℕ) (message : List ℕ) 
   }
 
   -- and what was sent is known with one start more.
-  request-started : (o : ℕ) (h : Header) (body : List ℕ) → Request (w .books .starts) o h body → Request starts o h body
-  request-started o h body r = record {
-    start = r .start;
-    started = in-before (w .books .starts) (r .start) start (r .started);
-    is = r .is;
-    number = r .number;
-    mark = r .mark;
-    part = r .part;
-    sized = r .sized;
-    version = r .version;
-    small = r .small;
-    operation = r .operation;
-  }
-
   start-inv : Inv (startStep w (outcomeOf (startPlan Pass (w .client .machine) call n) Unsent) (call .idempotent) message)
   unfolding outcomeOf startPlan accepted choose started sentAfter completionsAfter
   start-inv = record {
     client = client-started;
     server = server-started;
     calls = calls-started;
-    requests = λ d m. more-known IsRequest (Request (w .books .starts)) (Request starts) request-started d (inv .requests d m);
+    requests =
+        λ d m.
+        more-known IsRequest (Request (w .books .starts)) (Request starts)
+        (request-more (w .books .starts) starts (within-grown (w .books .starts) start)) d (inv .requests d m);
     responses = inv .responses;
     completed = inv .completed;
   }

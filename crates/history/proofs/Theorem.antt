@@ -1,16 +1,12 @@
 -- The theorem over every list of events.
-use Prim.Native.Nat.{ℕ, _*_, _≤_}
+use Prim.Native.Nat.{ℕ, _≤_}
 use mathlib.Core.Bool.{Bool, true, false, false≢true}
 use mathlib.Core.List.{List, [], _++_, append-assoc}
 use mathlib.Core.Logic.{_⊎_, inl, inr}
 use mathlib.Core.Path.{_≡_, refl, sym, ap, subst, _∙_}
 use native.Mathlib.Omega.{arith}
-use lib.ListN.{drop, take-append-drop}
-use Rattle.fragments.specs.Judgement.{held}
 use Rattle.fragments.specs.Joined.{Leads}
-use Rattle.fragments.proofs.BufferLaws.{handedBelow, joined, joined-front}
-use Rattle.incoming.specs.declared.Incoming.{Incoming}
-use Rattle.incoming.specs.Slots.{contiguous, complete}
+use Rattle.fragments.proofs.BufferLaws.{joined}
 use Rattle.timers.specs.declared.Timer.the-variants.{Off, Armed}
 use Rattle.timers.proofs.TimerLaws.{ticket-most}
 use Rattle.client_record.specs.declared.State.{State}
@@ -31,18 +27,13 @@ use Rattle.history.specs.Steps.{lastStart, run}
 use Rattle.history.specs.Fairness.{Fair}
 use Rattle.history.specs.Freshness.{Fresh}
 use Rattle.history.specs.Claim.{AtMostOnce, WholeMessages, replyHandedUp, RepliesToDispatches, LeadsReply, OneReply, WholeReplies, WholeWhereAnswered, OnlyGrows, TimerOf, OnClient, OnServer, timerIn, LateTimers, GoneTickets, waits, confirms, resends, Quiet, Claim}
-use Rattle.history.proofs.Holding.{unheld-none}
+use Rattle.history.proofs.Holding.{unheld-joined, holding-leads}
 use Rattle.history.proofs.Invariant.{ClientHolds, nothing, fragments-of, Inv}
 use Rattle.history.proofs.Beginning.{fresh-inv}
 use Rattle.history.proofs.ClientArrivals.{whole-handed}
 use Rattle.history.proofs.Refused.{late-nothing}
 use Rattle.history.proofs.Histories.{run-inv, run-append, fair-append, run-grows}
 use Rattle.history.proofs.Tickets.{counterOf, run-counts, run-gone, acts-once, armed-afresh}
-
--- Where nothing is held nothing is joined.
-unheld-joined : (m : Incoming) (slots : List ℕ) → ((f : ℕ) → held m f ≡ false) → joined m slots ≡ []
-unfolding joined handedBelow
-unheld-joined m slots none = rw (unheld-none m none)
 
 module _ (w : World) (inv : Inv w) where
   joins : replyHandedUp w ≡ joined (w .client .machine .incoming) (w .client .slots)
@@ -56,20 +47,15 @@ module _ (w : World) (inv : Inv w) where
       by-holds : ClientHolds (lastStart (w .books .starts)) (w .client .machine .incoming) (w .client .slots) (w .books .replies)
           → (replyHandedUp w ≡ []) ⊎ LeadsReply w
       by-holds (nothing e) = inl (joins ∙ unheld-joined (w .client .machine .incoming) (w .client .slots) (e .none))
-      by-holds (fragments-of r m n whole h) =
-          let count = contiguous (w .client .machine .incoming) in
-          let front =
-          joined-front (w .client .machine .incoming) (w .client .slots) (r .message) (rules-told (w .client .machine) (inv .client .kept) .incoming) whole (h .carries) in
+      by-holds (fragments-of r m n h) =
           inr
           (record {
             reply = r;
             given = m;
             ordinal = n;
             leads =
-                record {
-                  rest = drop (1392 * count) (r .message);
-                  whole = sym (take-append-drop (1392 * count) (r .message)) ∙ ap (λ (l : List ℕ). l ++ drop (1392 * count) (r .message)) (sym (joins ∙ front));
-                };
+                subst (λ (bytes : List ℕ). Leads bytes (r .message)) (sym joins)
+                (holding-leads (w .client .machine .incoming) (w .client .slots) (r .message) h (rules-told (w .client .machine) (inv .client .kept) .incoming));
           })
 
       by-state : (queued : Bool) → isQueued (w .client .machine .state) ≡ queued → (replyHandedUp w ≡ []) ⊎ LeadsReply w
