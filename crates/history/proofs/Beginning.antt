@@ -1,6 +1,6 @@
 -- A fresh world is as every world is known to be.
 use Prim.Native.Nat.{ℕ, _<_}
-use mathlib.Core.Bool.{Bool, true, false, false≢true}
+use mathlib.Core.Bool.{Bool, true, false≢true}
 use mathlib.Core.List.{List, []}
 use mathlib.Core.Path.{_≡_, refl, sym, ap, subst, _∙_}
 use native.Mathlib.Omega.{arith}
@@ -128,6 +128,7 @@ fresh-inv w f = record {
   server = server-fresh (w .server .machine) (w .books .standing) (w .server .slots) (w .books .starts) (w .books .dispatches) (w .books .replies) (f .server) (f .books .dispatches) (f .books .replies);
   calls = calls-fresh (w .books .starts) (w .books .dispatches) (w .books .replies) (f .books .starts) (f .books .dispatches) (f .books .replies);
   requests = λ d m. absurd (subst (In d) (f .client-unsent) m);
+  acks = λ d m. absurd (subst (In d) (f .client-unsent) m);
   responses = λ d m. absurd (subst (In d) (f .server-unsent) m);
   completed = λ c m. absurd (subst (In c) (f .books .completions) m);
 }

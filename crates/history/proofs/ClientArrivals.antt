@@ -1,5 +1,5 @@
 -- An arriving PDU keeps what is known of the world: the client puts only fragments of one reply.
-use Prim.Native.Nat.{ℕ, _≤_, _<_}
+use Prim.Native.Nat.{ℕ}
 use mathlib.Core.Bool.{Bool, true, false, false≢true}
 use mathlib.Core.List.{List, []}
 use mathlib.Core.Logic.{_⊎_, inl, inr}
@@ -17,7 +17,7 @@ use Rattle.fragments.specs.Slots.{filled, storing}
 use Rattle.incoming.specs.declared.Incoming.{Incoming}
 use Rattle.incoming.specs.Slots.{contiguous, complete, stored, sound as incomingSound}
 use Rattle.pdu.specs.declared.Header.{Header}
-use Rattle.pdu.specs.Header.{datagram, bodyOf}
+use Rattle.pdu.specs.Header.{bodyOf}
 use Rattle.reader.specs.Reading.{reading}
 use Rattle.writer.proofs.RoundTrip.{body-short}
 use Rattle.grounds.specs.Entry.{lentGround}
@@ -51,9 +51,8 @@ use Rattle.history.proofs.Ordinals.{equal-start}
 use Rattle.history.proofs.More.{current-on}
 use Rattle.history.proofs.Invariant.{ClientHolds, nothing, fragments-of, ClientInv, Inv, clientStep}
 use Rattle.history.proofs.ClientSteps.{GoesOn, goes-on, failed-goes-on, fack-goes-on, working-goes-on, nocall-goes-on}
-use Rattle.history.proofs.ClientSends.{asks, others-sent, planned, none-told}
+use Rattle.history.proofs.ClientSends.{asks, acknowledges, others-known, planned, none-told}
 use Rattle.history.proofs.ListLaws.{tellsLast, completed-more}
-use Rattle.client.specs.HandUp.{handsUp}
 use Rattle.client.proofs.Growing.{hands-joined}
 use Rattle.calls.specs.declared.Notice.{Notice}
 
@@ -214,7 +213,7 @@ module _ (w : World) (inv : Inv w) (o : ℕ) (h : Header) (body : List ℕ) (sta
   row-inv FackEvent j e = other FackEvent j (active-state (w .client .machine .state) (j .row)) (fack-goes-on (w .client .machine) (h .fragment) (active-state (w .client .machine .state) (j .row)))
   row-inv Foreign j e = absurd (false≢true (j .row))
 
--- No row of an arriving PDU sends a request.
+-- No row of an arriving PDU sends a request,
 fack-asks-none : (wanted : Bool) (serial : ℕ) → asks (fackFor wanted serial) ≡ false
 unfolding fackFor choose
 fack-asks-none true serial = refl
@@ -234,16 +233,35 @@ row-asks-none Nocall c h n status = by-count (ltb (c .resends) 5)
 row-asks-none FackEvent c h n status = refl
 row-asks-none Foreign c h n status = refl
 
--- A client that has a number has a call that was started.
-arrived-started : (event : Event) (c : Client) → hasRow event (isActive (c .state)) (isDispatched (c .state)) ≡ true → isQueued (c .state) ≡ false
-unfolding hasRow isQueued
-arrived-started ResponseEvent c e = active-state (c .state) e
-arrived-started Fault c e = active-state (c .state) e
-arrived-started Reject c e = active-state (c .state) e
-arrived-started Working c e = ap isQueued (dispatched-state (c .state) e)
-arrived-started Nocall c e = ap isQueued (dispatched-state (c .state) e)
-arrived-started FackEvent c e = active-state (c .state) e
-arrived-started Foreign c e = absurd (false≢true e)
+-- nor an ack.
+row-acknowledges-none : (event : Event) (c : Client) (h : Header) (n status : ℕ) → acknowledges (arrivalRow event c h n status .send) ≡ false
+unfolding arrivalRow responsePlan putPlan failed accepted workingPlan nocallPlan fackPlan refused choose
+row-acknowledges-none ResponseEvent c h n status = by-fack (wantsFack (h .flags1))
+  where
+    by-fack : (wanted : Bool) → acknowledges (fackFor wanted (h .serial)) ≡ false
+    by-fack true = unfold fackFor choose in refl
+    by-fack false = unfold fackFor choose in refl
+row-acknowledges-none Fault c h n status = refl
+row-acknowledges-none Reject c h n status = refl
+row-acknowledges-none Working c h n status = refl
+row-acknowledges-none Nocall c h n status = by-count (ltb (c .resends) 5)
+  where
+    by-count : (t : Bool) → acknowledges (choose t (accepted (resent c) Nothing Untold) (failed c (Cause 2)) .send) ≡ false
+    by-count true = refl
+    by-count false = refl
+row-acknowledges-none FackEvent c h n status = refl
+row-acknowledges-none Foreign c h n status = refl
+
+-- A PDU that arrives has a row in an active call alone.
+arrived-active : (event : Event) (c : Client) → hasRow event (isActive (c .state)) (isDispatched (c .state)) ≡ true → isActive (c .state) ≡ true
+unfolding hasRow isActive
+arrived-active ResponseEvent c e = e
+arrived-active Fault c e = e
+arrived-active Reject c e = e
+arrived-active Working c e = ap isActive (dispatched-state (c .state) e)
+arrived-active Nocall c e = ap isActive (dispatched-state (c .state) e)
+arrived-active FackEvent c e = e
+arrived-active Foreign c e = absurd (false≢true e)
 
 -- A row that tells "last" leaves all held.
 row-tells : (event : Event) (c : Client) (h : Header) (n status : ℕ) → tellsLast (arrivalRow event c h n status .notice) ≡ true
@@ -294,7 +312,8 @@ client-arrive-inv w p out inv done sent =
     let event = eventOf (r .header .kind) in
     let next = row-inv w inv (p .ordinal) (r .header) body status (j .0 .kept) (buffers .0) (body-short (p .bytes) (j .0 .done))
     (inv .responses p sent .told (j .0 .done)) event (j .1) refl in
-    let begun = arrived-started event c (j .1 .row) in
+    let active = arrived-active event c (j .1 .row) in
+    let begun = active-state (c .state) active in
     subst
     (λ (x : Ground).
     Inv
@@ -303,9 +322,9 @@ client-arrive-inv w p out inv done sent =
     (sym pass)
     (planned w (arrivalRow event c (r .header) n status) [] out
     (storing (arrivalRow event c (r .header) n status .put) (r .header .fragment) body (w .client .slots)) inv next
-    (completed-known w inv (arrivalRow event c (r .header) n status .client)
+    (still event c (r .header) n status begun) (buffers .1) (λ idle. absurd (false≢true (sym idle ∙ active)))
+    (λ e. absurd (false≢true (sym (row-acknowledges-none event c (r .header) n status) ∙ e))) (completed-known w inv (arrivalRow event c (r .header) n status .client)
     (storing (arrivalRow event c (r .header) n status .put) (r .header .fragment) body (w .client .slots)) next (arrivalRow event c (r .header) n status .notice)
     (row-tells event c (r .header) n status))
-    (others-sent (w .client .sent) (Request (w .books .starts)) (lastStart (w .books .starts)) (arrivalRow event c (r .header) n status .client) out (buffers .1) (next .activity)
-    (next .current (still event c (r .header) n status begun) .typed) (inv .requests) (arrivalRow event c (r .header) n status .send) []
-    (row-asks-none event c (r .header) n status)))
+    (others-known (Request (w .books .starts)) (lastStart (w .books .starts)) (arrivalRow event c (r .header) n status .send)
+    (arrivalRow event c (r .header) n status .client) [] (row-asks-none event c (r .header) n status)))

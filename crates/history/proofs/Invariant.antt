@@ -7,8 +7,9 @@ use mathlib.Core.Path.{_≡_, sym, _∙_}
 use lib.ListN.{length}
 use Rattle.incoming.specs.declared.Incoming.{Incoming}
 use Rattle.incoming.specs.Slots.{complete}
+use Rattle.pdu.specs.declared.Header.{Header}
 use Rattle.client_record.specs.declared.Client.{Client}
-use Rattle.client_record.specs.States.{isQueued}
+use Rattle.client_record.specs.States.{isQueued, isActive}
 use Rattle.client_record.specs.Rules.{sound as clientSound}
 use Rattle.client_table.specs.declared.Event.the-variants.{Response as ResponseEvent}
 use Rattle.client_table.specs.Events.{eventOf as clientEventOf}
@@ -19,7 +20,7 @@ use Rattle.server_record.specs.declared.State.the-variants.{Idle as IdleState, 
 use Rattle.server_record.specs.declared.Server.{Server}
 use Rattle.server_record.specs.States.{isFresh}
 use Rattle.server_record.specs.Rules.{sound as serverSound}
-use Rattle.server_rows.specs.declared.Event.the-variants.{Request as RequestEvent}
+use Rattle.server_rows.specs.declared.Event.the-variants.{Request as RequestEvent, Ack as AckEvent}
 use Rattle.server_rows.specs.Events.{eventOf as serverEventOf}
 use Rattle.client.specs.declared.Outcome.{Outcome as ClientOutcome}
 use Rattle.server.specs.declared.Outcome.{Outcome as ServerOutcome}
@@ -155,12 +156,26 @@ IsRequest kind = serverEventOf kind ≡ RequestEvent
 abbrev pub IsResponse : ℕ → Type 0
 IsResponse kind = clientEventOf kind ≡ ResponseEvent
 
+-- What the server takes for an ack.
+abbrev pub IsAck : ℕ → Type 0
+IsAck kind = serverEventOf kind ≡ AckEvent
+
+-- A start that the client is done with: one before its last, or its last where the call is no longer active.
+abbrev pub Ended : Client → List Started → ℕ → Type 0
+Ended c starts k = (isQueued (c .state) ≡ false) × ((k < lastStart starts) ⊎ ((k ≡ lastStart starts) × (isActive (c .state) ≡ false)))
+
+-- What an ack tells: it has the number of its start, and the client is done with that.
+pub record AckOf (c : Client) (starts : List Started) (o : ℕ) (h : Header) (body : List ℕ) : Type 0 where
+  pub number : h .number ≡ bears o
+  pub ended : Ended c starts o
+
 -- All of it.
 pub record Inv (w : World) : Type 0 where
   pub client : ClientInv (w .client .machine) (w .client .slots) (w .books .starts) (w .books .replies)
   pub server : ServerInv (w .server .machine) (w .books .standing) (w .server .slots) (w .books .starts) (w .books .dispatches) (w .books .replies)
   pub calls : CallInv (w .books .starts) (w .books .dispatches) (w .books .replies)
   pub requests : (d : SentPdu) → In d (w .client .sent) → Known IsRequest (Request (w .books .starts)) d
+  pub acks : (d : SentPdu) → In d (w .client .sent) → Known IsAck (AckOf (w .client .machine) (w .books .starts)) d
   pub responses : (d : SentPdu) → In d (w .server .sent) → Known IsResponse (Response (w .books .replies)) d
   pub completed : (c : Completed) → In c (w .books .completions) → WholeReply (w .books .replies) c
 

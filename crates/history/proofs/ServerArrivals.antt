@@ -62,7 +62,7 @@ use Rattle.history.proofs.Network.{Request, Response, read-sized}
 use Rattle.history.proofs.Invariant.{unanswered, hasData, NewTo, ServerInv, Inv, serverStep}
 use Rattle.history.proofs.Ordinals.{newer-start, equal-start}
 use Rattle.history.proofs.ServerSteps.{past, past-called, goes-on, rewinding-goes-on, spent-goes-on, stays-goes-on}
-use Rattle.history.proofs.ServerSends.{answers, ofCall, others-sent, planned}
+use Rattle.history.proofs.ServerSends.{answers, ofCall, pdu-uuids, others-known, planned}
 use Rattle.history.proofs.ServerPuts.{Begins, begun-inv, put-inv}
 
 -- The server takes type 0 alone for a request.
@@ -179,8 +179,8 @@ module _ (w : World) (inv : Inv w) (o : ℕ) (h : Header) (body : List ℕ) (j :
       (sym unput)
       (planned w plan h [] out (w .server .slots) of inv untold
       (subst (λ (n : ℕ). ServerInv (plan .server) n (w .server .slots) (w .books .starts) (w .books .dispatches) (w .books .replies)) (settles equal) server)
-      (others-sent (w .server .sent) (Response (w .books .replies)) o (plan .server) h out room (server .activity) (sized .object) (sized .interface) (inv .responses)
-      (plan .send) [] none typed))
+      (pdu-uuids (plan .send) (plan .server) h (server .activity) sized typed) room
+      (others-known (Response (w .books .replies)) o (plan .send) (plan .server) h [] none))
 
   -- Begin: the request is newer, or repeats an idempotent call.
   begins : rowFor (w .server .machine) h ≡ Begin → (eventOf (h .kind) ≡ RequestEvent) × Begins (w .server .machine) (w .books .standing) o h

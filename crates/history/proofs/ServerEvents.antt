@@ -14,7 +14,6 @@ use Rattle.answers.specs.declared.Ground.the-variants.{Pass}
 use Rattle.calls.specs.declared.Notice.the-variants.{Nothing as Untold}
 use Rattle.calls.specs.declared.Sent.the-variants.{Nothing as Unsent}
 use Rattle.outgoing.specs.Sending.{sendsLast, replied, messageOf}
-use Rattle.pdu.specs.declared.Header.{Header}
 use Rattle.pdu.specs.Header.{blank}
 use Rattle.server_record.specs.declared.Idle.the-variants.{Spent}
 use Rattle.server_record.specs.declared.Reply.{Reply}
@@ -26,7 +25,7 @@ use Rattle.server_record.specs.States.{isFresh}
 use Rattle.server_record.specs.Rules.{sound}
 use Rattle.server_record.specs.Record.{unarmed}
 use Rattle.server_record.proofs.StateLaws.{running-state, replying-state, held-state}
-use Rattle.server_steps.specs.declared.Send.the-variants.{Nothing, Fault as SendFault}
+use Rattle.server_steps.specs.declared.Send.the-variants.{Nothing, Response as SendResponse, Fault as SendFault}
 use Rattle.server_steps.specs.Plan.{accepted, withOutgoing}
 use Rattle.server_steps.specs.Rows.{answered, replyPlan, settled, transmitted, transmitPlan, faultPlan, resendHeld, resendRow, timerRow, timerPlan}
 use Rattle.server_steps.proofs.StepLaws.{replied-sound, transmitted-sound, fault-sound, timer-sound}
@@ -37,15 +36,15 @@ use Rattle.server.proofs.Accepting.{reply-accepted, transmit-accepted, fault-ac
 use Rattle.history.specs.Lists.{In, andThen}
 use Rattle.history.specs.Claim.{DispatchOf}
 use Rattle.history.specs.World.{Replied, World}
-use Rattle.history.specs.Steps.{lastStart, lastDispatched, sentAfter, dispatchesAfter, ofRecord}
+use Rattle.history.specs.Steps.{lastDispatched, sentAfter, dispatchesAfter, ofRecord}
 use Rattle.history.specs.Fairness.{OfLastReply}
 use Rattle.history.proofs.ListLaws.{Within, within-grown, in-added, in-grown, all-grown, last-added}
 use Rattle.history.proofs.Holding.{Single}
 use Rattle.history.proofs.Network.{Response, more-known}
 use Rattle.history.proofs.More.{response-more, whole-reply-more, more-replies, called-on}
-use Rattle.history.proofs.Invariant.{ClientHolds, nothing, fragments-of, ClientInv, unanswered, hasData, NewTo, new-on, ServerInv, IsResponse, Inv, serverStep, replyStep}
+use Rattle.history.proofs.Invariant.{ClientInv, unanswered, hasData, NewTo, new-on, ServerInv, IsResponse, Inv, serverStep, replyStep}
 use Rattle.history.proofs.ServerSteps.{goes-on, settled-goes-on, transmitted-goes-on, resend-goes-on}
-use Rattle.history.proofs.ServerSends.{answers, others-sent, all-single, response-sent, transmitted-counts, planned}
+use Rattle.history.proofs.ServerSends.{answers, record-uuids, others-known, all-single, response-sent, transmitted-counts, planned}
 
 -- Transmit.
 pub server-transmit-inv : (w : World) (message out : List ℕ) → Inv w → transmitting (w .server .machine) message out .outcome .answer ≡ Done
@@ -63,15 +62,17 @@ server-transmit-inv w message out inv done lent =
     let last = sendsLast (s .outgoing) in
     let single = all-single s (w .books .standing) (w .books .starts) (w .books .replies) message k now (inv .server .activity) (inv .server .boot) (j .kept) (j .row) lent in
     let g = transmitted-goes-on last s (w .books .standing) (w .books .replies) state now single in
+    let next =
+    goes-on s (transmitted last s) (w .books .standing) (w .server .slots) (w .books .starts) (w .books .dispatches) (w .books .replies) (inv .server) called
+    (transmitted-sound s (j .kept) (j .row) (j .free)) g in
     subst
     (λ (x : Ground).
     Inv (serverStep w (sending (transmitPlan x s) blank message out .outcome) (sending (transmitPlan x s) blank message out .out) (w .server .slots) (ofRecord w)))
     (sym pass)
-    (planned w (transmitPlan Pass s) blank message out (w .server .slots) (ofRecord w) inv refl
-    (goes-on s (transmitted last s) (w .books .standing) (w .server .slots) (w .books .starts) (w .books .dispatches) (w .books .replies) (inv .server) called
-    (transmitted-sound s (j .kept) (j .row) (j .free)) g)
-    (response-sent s (w .books .standing) (w .books .starts) (w .books .replies) message k now (inv .server .activity) (inv .server .boot) (j .kept) (j .row) lent (transmitted last s) g
-    (transmitted-counts last s .0) (transmitted-counts last s .1) (w .server .sent) out (j .buffer) (inv .responses)))
+    (planned w (transmitPlan Pass s) blank message out (w .server .slots) (ofRecord w) inv refl next
+    (record-uuids (SendResponse (s .outgoing .sent)) (transmitted last s) (next .activity) (rw (g .call) (k .typed))) (j .buffer)
+    (response-sent s (w .books .standing) (w .books .starts) (w .books .replies) message k now (inv .server .activity) (inv .server .boot) (j .kept) (j .row) lent
+    (transmitted last s) g (transmitted-counts last s .0) (transmitted-counts last s .1) blank))
 
 -- Fault.
 pub server-fault-inv : (w : World) (status : ℕ) (out : List ℕ) → Inv w → faulting (w .server .machine) status out .outcome .answer ≡ Done
@@ -93,8 +94,8 @@ server-fault-inv w status out inv done =
     Inv (serverStep w (sending (faultPlan x s status) blank [] out .outcome) (sending (faultPlan x s status) blank [] out .out) (w .server .slots) (ofRecord w)))
     (sym pass)
     (planned w (faultPlan Pass s status) blank [] out (w .server .slots) (ofRecord w) inv refl next
-    (others-sent (w .server .sent) (Response (w .books .replies)) (w .books .standing) t blank out (j .buffer) (next .activity) refl refl (inv .responses) (SendFault status) [] refl
-    (λ e. rw (g .call) (inv .server .called called .typed))))
+    (record-uuids (SendFault status) t (next .activity) (rw (g .call) (inv .server .called called .typed))) (j .buffer)
+    (others-known (Response (w .books .replies)) (w .books .standing) (SendFault status) t blank [] refl))
 
 -- RESEND sends no response, and tells nothing.
 timer-quiet : (s : Server) (reply : Reply) → (answers (resendRow s reply .send) ≡ false) × (resendRow s reply .notice ≡ Untold)
@@ -132,8 +133,8 @@ server-timer-inv w ticket out inv done =
     (λ (x : State). Inv (serverStep w (sending (timerRow x s) blank [] out .outcome) (sending (timerRow x s) blank [] out .out) (w .server .slots) (ofRecord w)))
     (sym (held .is))
     (planned w plan blank [] out (w .server .slots) (ofRecord w) inv (quiet .1) next
-    (others-sent (w .server .sent) (Response (w .books .replies)) (w .books .standing) (plan .server) blank out (j .buffer) (next .activity) refl refl (inv .responses) (plan .send) []
-    (quiet .0) (λ e. rw (g .call) (inv .server .called called .typed)))))
+    (record-uuids (plan .send) (plan .server) (next .activity) (rw (g .call) (inv .server .called called .typed))) (j .buffer)
+    (others-known (Response (w .books .replies)) (w .books .standing) (plan .send) (plan .server) blank [] (quiet .0))))
 
 -- A reply that goes on record.
 module _ (w : World) (inv : Inv w) (n : ℕ) (message : List ℕ) (can : CanReply (w .server .machine) n) (whole : length message ≡ n) where
@@ -236,6 +237,7 @@ module _ (w : World) (inv : Inv w) (n : ℕ) (message : List ℕ) (can : CanRepl
           alike = alike;
         };
     requests = inv .requests;
+    acks = inv .acks;
     responses =
         λ d m.
         more-known IsResponse (Response (w .books .replies)) (Response replies) (response-more (w .books .replies) replies grown) d (inv .responses d m);

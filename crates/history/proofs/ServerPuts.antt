@@ -1,5 +1,5 @@
 -- A request that the server puts keeps what is known of the world: only fragments of its call, dispatched whole.
-use Prim.Native.Nat.{ℕ, _≤_, _<_}
+use Prim.Native.Nat.{ℕ, _≤_}
 use mathlib.Core.Bool.{Bool, true, false, false≢true}
 use mathlib.Core.List.{List, []}
 use mathlib.Core.Logic.{_⊎_, inl, inr}
@@ -10,7 +10,6 @@ use lib.ListN.{length}
 use borrow.Author.Tests.{eqb-true, eqb-false}
 use Rattle.words.specs.Choice.{choose, both}
 use Rattle.flags.specs.Flags.{idempotent, hasFlag}
-use Rattle.fragments.specs.Judgement.{contradicts}
 use Rattle.fragments.specs.Slots.{filled}
 use Rattle.fragments.specs.Joined.{parts}
 use Rattle.fragments.proofs.PartLaws.{parts-joined}
@@ -33,16 +32,17 @@ use Rattle.server_arrivals.specs.Rows.{callOf, begun, withIncoming, putState, p
 use Rattle.server_arrivals.proofs.ArrivalLaws.{put-sound as put-plan-sound}
 use Rattle.server.specs.HandUp.{handsUp}
 use Rattle.server.specs.Machine.{outcomeOf, sending}
+use Rattle.server_steps.specs.declared.Send.{Send}
 use Rattle.history.specs.Lists.{In, andThen}
 use Rattle.history.specs.World.{bears, Started, Dispatched, Replied, World}
 use Rattle.history.specs.Steps.{dispatchesAfter, CallOf, dispatchOf}
 use Rattle.history.specs.Claim.{times}
 use Rattle.history.proofs.ListLaws.{within-grown, in-added, all-grown, last-dispatched, times-same, times-other, times-none}
 use Rattle.history.proofs.Holding.{Buffer, Short, CanPut, cleared-empty, PartOf, Holding, Single, empty-holding, put-holding, put-sound, put-slotted, holding-whole}
-use Rattle.history.proofs.Network.{Request, Response}
+use Rattle.history.proofs.Network.{Request, Response, Known}
 use Rattle.history.proofs.More.{more-dispatches, called-on}
-use Rattle.history.proofs.Invariant.{Collecting, unanswered, NewTo, new-on, ServerInv, CallInv, Inv, serverStep}
-use Rattle.history.proofs.ServerSends.{answers, ofCall, others-sent}
+use Rattle.history.proofs.Invariant.{Collecting, unanswered, NewTo, new-on, ServerInv, CallInv, IsResponse, Inv, serverStep}
+use Rattle.history.proofs.ServerSends.{answers, ofCall, pdu-uuids, sends-known, others-known}
 
 -- A record that has begun keeps its rules.
 begun-sound : (s : Server) (h : Header) → sound (begun s h) ≡ true
@@ -305,13 +305,18 @@ put-inv w inv s o server state h body request short can out room =
       server = known .0;
       calls = known .1;
       requests = inv .requests;
+      acks = inv .acks;
       completed = inv .completed;
       responses =
-          others-sent (w .server .sent) (Response (w .books .replies)) o (putServer-of (complete m)) h out room (known .0 .activity) (request .sized .object)
-          (request .sized .interface) (inv .responses) (fackFor (wantsFack (h .flags1)) (h .serial)) [] (fack-sends (wantsFack (h .flags1)) (h .serial) .0)
-          (λ e. absurd (false≢true (sym (fack-sends (wantsFack (h .flags1)) (h .serial) .1) ∙ e)));
+          sends-known (Known IsResponse (Response (w .books .replies))) send (putServer-of (complete m)) h [] out (w .server .sent) o
+          (pdu-uuids send (putServer-of (complete m)) h (known .0 .activity) (request .sized)
+          (λ e. absurd (false≢true (sym (fack-sends (wantsFack (h .flags1)) (h .serial) .1) ∙ e)))) room (inv .responses)
+          (others-known (Response (w .books .replies)) o send (putServer-of (complete m)) h [] (fack-sends (wantsFack (h .flags1)) (h .serial) .0));
     })
   where
+    send : Send
+    send = fackFor (wantsFack (h .flags1)) (h .serial)
+
     m : Incoming
     m = stored (s .incoming) (h .fragment) (length body) (isLast (h .flags1))
 

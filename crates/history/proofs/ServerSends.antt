@@ -1,11 +1,11 @@
 -- What is known of the datagrams that the server has sent, after each of its steps.
-use Prim.Native.Nat.{ℕ, _+_, _≤_, _<_}
+use Prim.Native.Nat.{ℕ, _+_, _<_}
 use mathlib.Core.Bool.{Bool, true, false, false≢true}
-use mathlib.Core.List.{List, []}
+use mathlib.Core.List.{List, [], _∷_, _++_, append-nil}
 use mathlib.Core.Logic.{_⊎_, inl, inr}
 use mathlib.Core.Path.{_≡_, refl, sym, ap, subst, _∙_}
 use native.Mathlib.Omega.{arith}
-use lib.Dec.{leb, eqb}
+use lib.Dec.{eqb}
 use lib.ListN.{length}
 use borrow.Author.Tests.{eqb-true}
 use Rattle.words.specs.Choice.{choose}
@@ -14,16 +14,16 @@ use Rattle.bodies.specs.Fack.{fackBytes, fackSent as fackFields}
 use Rattle.bodies.specs.Status.{statusBytes}
 use Rattle.calls.specs.declared.Notice.{Notice}
 use Rattle.calls.specs.declared.Notice.the-variants.{Nothing as Untold}
-use Rattle.calls.specs.Sent.{sentHeader, posting}
+use Rattle.calls.specs.Sent.{sentHeader}
 use Rattle.flags.specs.Flags.{idempotent, withFlag}
 use Rattle.facks.specs.Mask.{lastContiguous, maskOf}
 use Rattle.incoming.specs.Slots.{contiguous}
 use Rattle.outgoing.specs.Message.{fragments, fragmentOf, flagsOf}
 use Rattle.outgoing.specs.Sending.{nextSerial, afterSend, hasMessage}
 use Rattle.outgoing.proofs.OutgoingLaws.{fragment-most}
-use Rattle.outgoing.proofs.SendLaws.{message-count-range}
+use Rattle.outgoing.proofs.SendLaws.{message-count-told, message-count-range}
 use Rattle.pdu.specs.declared.Header.{Header}
-use Rattle.pdu.specs.Header.{datagram}
+use Rattle.pdu.specs.Header.{datagram, blank}
 use Rattle.writer.proofs.Returns.{Sized}
 use Rattle.client_table.specs.declared.Event.{Event as ClientEvent}
 use Rattle.client_table.specs.declared.Event.the-variants.{Response as ResponseEvent, Fault as FaultEvent, Reject as RejectEvent, Working as WorkingEvent, Nocall as NocallEvent, Fack as FackEvent, Foreign as ForeignEvent}
@@ -44,15 +44,14 @@ use Rattle.server_steps.specs.declared.Plan.{Plan}
 use Rattle.server_steps.specs.Plan.{withOutgoing}
 use Rattle.server_steps.specs.Rows.{settled, transmitted}
 use Rattle.server.specs.Sending.{replyHeader, echoed, echoHeader, responseSent, faultSent, emptySent, fackSent, sentOut}
-use Rattle.server.specs.HandUp.{handsUp}
 use Rattle.server.specs.Machine.{outcomeOf, sending}
 use Rattle.history.specs.Lists.{In}
 use Rattle.history.specs.World.{Started, Replied, SentPdu, World}
 use Rattle.history.specs.Steps.{sentAfter, dispatchesAfter, CallOf, dispatchOf}
 use Rattle.history.specs.Fairness.{OfLastReply, Typed}
-use Rattle.history.proofs.ListLaws.{all-grown}
+use Rattle.history.proofs.ListLaws.{All, all-appended}
 use Rattle.history.proofs.Holding.{PartOf, Single, flags-last}
-use Rattle.history.proofs.Network.{Response, Known, pduOf, other-known, same-known, posted-sent, call-sized, call-fits}
+use Rattle.history.proofs.Network.{Response, Known, pduOf, other-known, same-known, Uuids, typed-uuids, posted, call-fits}
 use Rattle.history.proofs.Invariant.{CalledStart, CurrentReply, ServerInv, IsResponse, Inv, serverStep}
 use Rattle.history.proofs.ServerSteps.{GoesOn}
 
@@ -87,40 +86,62 @@ isResponse ForeignEvent = false
 not-response : (kind : ℕ) → isResponse (clientEventOf kind) ≡ false → IsResponse kind → ⊥
 not-response kind e k = false≢true (sym e ∙ ap isResponse k)
 
--- What the server has sent besides responses is known not to be one.
-module _ (before : List SentPdu) (P : ℕ → Header → List ℕ → Type 0) (o : ℕ) (s : Server) (h : Header) (out : List ℕ) (room : length out ≡ 1472)
-    (activity : length (s .activity) ≡ 16) (object : length (h .object) ≡ 16) (interface : length (h .interface) ≡ 16)
-    (known : (d : SentPdu) → In d before → Known IsResponse P d) where
-  other-sent : (header : Header) (body : List ℕ) → (IsResponse (header .kind) → ⊥) → Sized header → header .kind ≤ 10 → header .authentication ≡ 0
-      → length body ≤ 1392 → (d : SentPdu)
-      → In d (sentAfter before (posting header body out .sent) (posting header body out .out) o) → Known IsResponse P d
-  other-sent header body other sized small plain short =
-      subst (λ (sent : List SentPdu). (d : SentPdu) → In d sent → Known IsResponse P d)
-      (sym (posted-sent before o header body out sized room small plain short))
-      (all-grown (Known IsResponse P) before (pduOf o (datagram header body)) known (other-known IsResponse P o header body other))
+-- What the server sends, as it stands among what it has sent: nothing, or one PDU of that start; h is the header of the PDU answered.
+abbrev pub serverPdus : ℕ → Send → Server → Header → List ℕ → List SentPdu
+serverPdus o Nothing s h message = []
+serverPdus o (SendResponse f) s h message = pduOf o (datagram (replyHeader 2 (flagsOf (s .outgoing .count) f) f s) (fragmentOf message f)) ∷ []
+serverPdus o (SendFault status) s h message = pduOf o (datagram (replyHeader 3 0 0 s) (statusBytes status)) ∷ []
+serverPdus o Working s h message = pduOf o (datagram (echoHeader 4 0 s h) []) ∷ []
+serverPdus o Nocall s h message = pduOf o (datagram (echoHeader 5 0 s h) []) ∷ []
+serverPdus o (Fack serial) s h message =
+    pduOf o (datagram (echoHeader 9 (lastContiguous (contiguous (s .incoming))) s h) (fackBytes (fackFields serial (maskOf (s .incoming))))) ∷ []
 
-  echo-sized : (kind fragment : ℕ) → Sized (echoHeader kind fragment s h)
-  unfolding echoHeader echoed
-  echo-sized kind fragment = call-sized kind 0 (s .outgoing .serial) (s .activity) (s .boot) (h .number) (echoed h) fragment activity object interface
+-- The UUIDs that it speaks of: those of the record's call, or those of the PDU answered.
+abbrev pub SentUuids : Send → Server → Header → Type 0
+SentUuids send s h = (ofCall send ≡ true → Uuids (s .activity) (s .call)) × Uuids (s .activity) (echoed h)
 
-  -- Whatever is sent but a response: a fault is of a call that was read.
-  pub others-sent : (send : Send) (message : List ℕ) → answers send ≡ false → (ofCall send ≡ true → Typed (s .call)) → (d : SentPdu)
-      → In d (sentAfter before (sentOut send s h message out .sent) (sentOut send s h message out .out) o) → Known IsResponse P d
-  unfolding sentOut sentAfter faultSent emptySent fackSent replyHeader echoHeader sentHeader fackBytes clientEventOf serverEvent choose
-  others-sent Nothing message e typed = known
-  others-sent (SendResponse f) message e typed = absurd (false≢true (sym e))
-  others-sent (SendFault status) message e typed =
-      other-sent (replyHeader 3 0 0 s) (statusBytes status) (not-response 3 refl)
-      (call-sized 3 0 (s .outgoing .serial) (s .activity) (s .boot) (s .number) (s .call) 0 activity (typed refl .object) (typed refl .interface))
-      (omega arith) refl (omega arith)
-  others-sent Working message e typed =
-      other-sent (echoHeader 4 0 s h) [] (not-response 4 refl) (echo-sized 4 0) (omega arith) refl (omega arith)
-  others-sent Nocall message e typed =
-      other-sent (echoHeader 5 0 s h) [] (not-response 5 refl) (echo-sized 5 0) (omega arith) refl (omega arith)
-  others-sent (Fack serial) message e typed =
-      let g = lastContiguous (contiguous (s .incoming)) in
-      other-sent (echoHeader 9 g s h) (fackBytes (fackFields serial (maskOf (s .incoming)))) (not-response 9 refl) (echo-sized 9 g) (omega arith) refl
-      (omega arith)
+-- At an arrival they are those that were read, at any other event those of the record's call.
+pub pdu-uuids : (send : Send) (s : Server) (h : Header) → length (s .activity) ≡ 16 → Sized h → (ofCall send ≡ true → Typed (s .call)) → SentUuids send s h
+unfolding echoed
+pdu-uuids send s h a sized typed = (
+  λ e. typed-uuids (s .activity) (s .call) a (typed e),
+  record { activity-16 = a; object-16 = sized .object; interface-16 = sized .interface },
+)
+
+pub record-uuids : (send : Send) (s : Server) → length (s .activity) ≡ 16 → Typed (s .call) → SentUuids send s blank
+unfolding blank
+record-uuids send s a typed = pdu-uuids send s blank a (record { object = refl; interface = refl; activity = refl }) (λ e. typed)
+
+pub server-sent : (send : Send) (s : Server) (h : Header) (message out : List ℕ) (before : List SentPdu) (o : ℕ) → SentUuids send s h → length out ≡ 1472
+    → sentAfter before (sentOut send s h message out .sent) (sentOut send s h message out .out) o ≡ before ++ serverPdus o send s h message
+unfolding sentOut responseSent faultSent emptySent fackSent replyHeader echoHeader sentAfter fackBytes
+server-sent Nothing s h message out before o z room = sym (append-nil before)
+server-sent (SendResponse f) s h message out before o z room =
+    posted 2 _ _ _ _ _ _ _ (fragmentOf message f) out before o (omega arith) (fragment-most message f) (z .0 refl) room
+server-sent (SendFault status) s h message out before o z room =
+    posted 3 _ _ _ _ _ _ _ (statusBytes status) out before o (omega arith) (omega arith) (z .0 refl) room
+server-sent Working s h message out before o z room = posted 4 _ _ _ _ _ _ _ [] out before o (omega arith) (omega arith) (z .1) room
+server-sent Nocall s h message out before o z room = posted 5 _ _ _ _ _ _ _ [] out before o (omega arith) (omega arith) (z .1) room
+server-sent (Fack serial) s h message out before o z room =
+    posted 9 _ _ _ _ _ _ _ (fackBytes (fackFields serial (maskOf (s .incoming)))) out before o (omega arith) (omega arith) (z .1) room
+
+-- So what is known of all before and of that is known of all then.
+pub sends-known : (K : SentPdu → Type 0) (send : Send) (s : Server) (h : Header) (message out : List ℕ) (before : List SentPdu) (o : ℕ) → SentUuids send s h
+    → length out ≡ 1472 → ((d : SentPdu) → In d before → K d) → All K (serverPdus o send s h message) → (d : SentPdu)
+    → In d (sentAfter before (sentOut send s h message out .sent) (sentOut send s h message out .out) o) → K d
+sends-known K send s h message out before o z room known own d m =
+    all-appended K before (serverPdus o send s h message) known own d (subst (In d) (server-sent send s h message out before o z room) m)
+
+-- Whatever is sent but a response is known not to be one.
+pub others-known : (P : ℕ → Header → List ℕ → Type 0) (o : ℕ) (send : Send) (s : Server) (h : Header) (message : List ℕ) → answers send ≡ false
+    → All (Known IsResponse P) (serverPdus o send s h message)
+unfolding replyHeader echoHeader sentHeader clientEventOf serverEvent choose
+others-known P o Nothing s h message e = tt
+others-known P o (SendResponse f) s h message e = absurd (false≢true (sym e))
+others-known P o (SendFault status) s h message e = (other-known IsResponse P o (replyHeader 3 0 0 s) (statusBytes status) (not-response 3 refl), tt)
+others-known P o Working s h message e = (other-known IsResponse P o (echoHeader 4 0 s h) [] (not-response 4 refl), tt)
+others-known P o Nocall s h message e = (other-known IsResponse P o (echoHeader 5 0 s h) [] (not-response 5 refl), tt)
+others-known P o (Fack serial) s h message e = (other-known IsResponse P o (echoHeader 9 _ s h) _ (not-response 9 refl), tt)
 
 -- A response that transmit sends is a fragment of the reply that is out.
 module _ (s : Server) (standing : ℕ) (starts : List Started) (replies : List Replied) (message : List ℕ) (called : CalledStart s standing starts)
@@ -134,10 +155,7 @@ module _ (s : Server) (standing : ℕ) (starts : List Started) (replies : List R
 
   -- The record's count is that of the reply,
   count-is : s .outgoing .count ≡ fragments (length (now .reply .message))
-  unfolding hasMessage
-  count-is =
-      eqb-true (s .outgoing .count) (fragments (s .outgoing .length)) (both-true (leb (s .outgoing .length) 44544) _ (out-is .0) .1)
-      ∙ ap fragments (sym (now .size))
+  count-is = message-count-told (s .outgoing) (out-is .0) ∙ ap fragments (sym (now .size))
 
   -- so its next fragment is one of it,
   part-sent : PartOf (now .reply .message) (flagsOf (s .outgoing .count) (s .outgoing .sent)) (s .outgoing .sent) (fragmentOf message (s .outgoing .sent))
@@ -176,25 +194,17 @@ module _ (s : Server) (standing : ℕ) (starts : List Started) (replies : List R
       (omega arith) refl (fragment-most message (s .outgoing .sent))
       (record { reply = now .reply; given = now .given; is = now .is; number = called .number; part = part-sent })
 
-  -- What the server has sent after a transmit: responses of the reply too.
-  pub response-sent : (t : Server) → GoesOn s t standing replies → t .outgoing .count ≡ s .outgoing .count → t .outgoing .serial < 65536
-      → (before : List SentPdu) (out : List ℕ) → length out ≡ 1472 → ((x : SentPdu) → In x before → Known IsResponse (Response replies) x) → (x : SentPdu)
-      → In x (sentAfter before (responseSent (s .outgoing .sent) t message out .sent) (responseSent (s .outgoing .sent) t message out .out) standing)
-      → Known IsResponse (Response replies) x
-  unfolding responseSent replyHeader sentHeader
-  response-sent t g count fits before out room known =
-      let body = fragmentOf message (s .outgoing .sent) in
-      let header : replyHeader 2 (flagsOf (t .outgoing .count) (s .outgoing .sent)) (s .outgoing .sent) t ≡ responseHeader (t .outgoing .serial) =
-      rw (g .activity, g .boot, g .number, g .call, count) in
-      subst (λ (sent : List SentPdu). (x : SentPdu) → In x sent → Known IsResponse (Response replies) x)
-      (sym
-      (ap (λ (h : Header). sentAfter before (posting h body out .sent) (posting h body out .out) standing) header
-      ∙ posted-sent before standing (responseHeader (t .outgoing .serial)) body out
-      (call-sized 2 _ (t .outgoing .serial) (s .activity) (s .boot) (s .number) (s .call) (s .outgoing .sent) activity (called .typed .object)
-      (called .typed .interface))
-      room (omega arith) refl (fragment-most message (s .outgoing .sent))))
-      (all-grown (Known IsResponse (Response replies)) before (pduOf standing (datagram (responseHeader (t .outgoing .serial)) body)) known
-      (response-known (t .outgoing .serial) fits))
+  -- So what a server that goes on with the call sends is a response of it.
+  pub response-sent : (t : Server) → GoesOn s t standing replies → t .outgoing .count ≡ s .outgoing .count → t .outgoing .serial < 65536 → (h : Header)
+      → All (Known IsResponse (Response replies)) (serverPdus standing (SendResponse (s .outgoing .sent)) t h message)
+  unfolding replyHeader sentHeader
+  response-sent t g count fits h =
+      let header : responseHeader (t .outgoing .serial) ≡ replyHeader 2 (flagsOf (t .outgoing .count) (s .outgoing .sent)) (s .outgoing .sent) t =
+      rw (g .activity, g .boot, g .number, g .call, count) in (
+        subst (λ (x : Header). Known IsResponse (Response replies) (pduOf standing (datagram x (fragmentOf message (s .outgoing .sent))))) header
+            (response-known (t .outgoing .serial) fits),
+        tt,
+      )
 
 -- After a transmit the count is the same, and the serial within its width.
 settled-counts : (again : Bool) (s : Server) (reply : Reply) → settled again s reply .outgoing ≡ s .outgoing
@@ -213,13 +223,11 @@ transmitted-counts last s = rw (transmitted-sent last s) (refl, omega arith)
 
 -- A world whose server made a step by a plan that tells nothing.
 pub planned : (w : World) (plan : Plan) (h : Header) (message out slots : List ℕ) (of : CallOf) → Inv w → plan .notice ≡ Untold
-    → ServerInv (plan .server) (of .standing) slots (w .books .starts) (w .books .dispatches) (w .books .replies)
-    → ((d : SentPdu)
-    → In d (sentAfter (w .server .sent) (sentOut (plan .send) (plan .server) h message out .sent) (sentOut (plan .send) (plan .server) h message out .out) (of .ordinal))
-    → Known IsResponse (Response (w .books .replies)) d)
+    → ServerInv (plan .server) (of .standing) slots (w .books .starts) (w .books .dispatches) (w .books .replies) → SentUuids (plan .send) (plan .server) h
+    → length out ≡ 1472 → All (Known IsResponse (Response (w .books .replies))) (serverPdus (of .ordinal) (plan .send) (plan .server) h message)
     → Inv (serverStep w (sending plan h message out .outcome) (sending plan h message out .out) slots of)
 unfolding sending outcomeOf dispatchesAfter
-planned w plan h message out slots of inv quiet server responses =
+planned w plan h message out slots of inv quiet server uuids room responses =
     let same : dispatchesAfter (w .books .dispatches) (plan .notice) (dispatchOf of (plan .server) slots) ≡ w .books .dispatches =
     ap (λ (n : Notice). dispatchesAfter (w .books .dispatches) n (dispatchOf of (plan .server) slots)) quiet in
     record {
@@ -227,6 +235,9 @@ planned w plan h message out slots of inv quiet server responses =
       server = rw same server;
       calls = rw same (inv .calls);
       requests = inv .requests;
-      responses = responses;
+      acks = inv .acks;
+      responses =
+          sends-known (Known IsResponse (Response (w .books .replies))) (plan .send) (plan .server) h message out (w .server .sent) (of .ordinal) uuids room
+          (inv .responses) responses;
       completed = inv .completed;
     }

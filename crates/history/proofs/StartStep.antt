@@ -7,18 +7,17 @@ use mathlib.Core.Path.{_≡_, refl, sym, ap, subst, _∙_}
 use native.Mathlib.Omega.{arith}
 use native.Mathlib.Decide.{decLt}
 use lib.ListN.{length, length-append}
-use Rattle.words.specs.Choice.{choose, either}
+use Rattle.words.specs.Choice.{choose}
 use Rattle.answers.specs.declared.Answer.the-variants.{Done}
 use Rattle.answers.specs.declared.Ground.{Ground}
 use Rattle.answers.specs.declared.Ground.the-variants.{Pass}
 use Rattle.calls.specs.declared.Call.{Call}
 use Rattle.calls.specs.declared.Sent.the-variants.{Nothing as Unsent}
-use Rattle.incoming.specs.Slots.{cleared}
 use Rattle.incoming.proofs.SlotLaws.{cleared-length}
 use Rattle.outgoing.specs.Sending.{started as startedMessage, messageOf}
 use Rattle.pdu.specs.declared.Header.{Header}
 use Rattle.client_record.specs.declared.Client.{Client}
-use Rattle.client_record.specs.States.{isQueued}
+use Rattle.client_record.specs.States.{isQueued, isActive}
 use Rattle.client_steps.specs.Plan.{accepted}
 use Rattle.client_steps.specs.Rows.{nextNumber, started, startPlan}
 use Rattle.client_steps.proofs.StepLaws.{started-sound}
@@ -34,7 +33,7 @@ use Rattle.history.proofs.ListLaws.{in-before, within-grown, in-added, 
 use Rattle.history.proofs.Holding.{cleared-empty}
 use Rattle.history.proofs.Network.{Request, more-known}
 use Rattle.history.proofs.More.{request-more, more-starts}
-use Rattle.history.proofs.Invariant.{nothing, ClientInv, ServerInv, CallInv, IsRequest, Inv, startStep}
+use Rattle.history.proofs.Invariant.{nothing, ClientInv, ServerInv, CallInv, IsRequest, IsAck, Ended, AckOf, Inv, startStep}
 
 -- The number of a new start is that of its ordinal.
 module _ (c : Client) (slots : List ℕ) (starts : List Started) (replies : List Replied) (inv : ClientInv c slots starts replies)
@@ -174,6 +173,22 @@ module _ (w : World) (inv : Inv w) (call : Call) (n : ℕ) (message : List ℕ) 
   }
 
   -- and what was sent is known with one start more.
+  -- Acks are of starts that the client is done with, now as before.
+  ended-next : (k : ℕ) → Ended (w .client .machine) (w .books .starts) k → Ended (started (w .client .machine) call n) starts k
+  unfolding started isQueued
+  ended-next k (begun, place) =
+      let now = inv .client .current begun in
+      let some = above (now .start) (now .started) in
+      (refl, inl (by-place place))
+    where
+      by-place : (k < lastStart (w .books .starts)) ⊎ ((k ≡ lastStart (w .books .starts)) × (isActive (w .client .machine .state) ≡ false)) → k < lastStart starts
+      by-place (inl below) = omega (arith, last)
+      by-place (inr own) = let now = inv .client .current begun in omega (arith, last, own .0, above (now .start) (now .started))
+
+  acks-started : (o : ℕ) (h : Header) (body : List ℕ) → AckOf (w .client .machine) (w .books .starts) o h body
+      → AckOf (started (w .client .machine) call n) starts o h body
+  acks-started o h body a = record { number = a .number; ended = ended-next o (a .ended) }
+
   start-inv : Inv (startStep w (outcomeOf (startPlan Pass (w .client .machine) call n) Unsent) (call .idempotent) message)
   unfolding outcomeOf startPlan accepted choose started sentAfter completionsAfter
   start-inv = record {
@@ -184,6 +199,9 @@ module _ (w : World) (inv : Inv w) (call : Call) (n : ℕ) (message : List ℕ) 
         λ d m.
         more-known IsRequest (Request (w .books .starts)) (Request starts)
         (request-more (w .books .starts) starts (within-grown (w .books .starts) start)) d (inv .requests d m);
+    acks =
+        λ d m.
+        more-known IsAck (AckOf (w .client .machine) (w .books .starts)) (AckOf (started (w .client .machine) call n) starts) acks-started d (inv .acks d m);
     responses = inv .responses;
     completed = inv .completed;
   }

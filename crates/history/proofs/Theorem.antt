@@ -1,13 +1,13 @@
 -- The theorem over every list of events.
 use Prim.Native.Nat.{ℕ, _≤_}
-use mathlib.Core.Bool.{Bool, true, false, false≢true}
+use mathlib.Core.Bool.{Bool, true, false}
 use mathlib.Core.List.{List, [], _++_, append-assoc}
 use mathlib.Core.Logic.{_⊎_, inl, inr}
 use mathlib.Core.Path.{_≡_, refl, sym, ap, subst, _∙_}
 use native.Mathlib.Omega.{arith}
 use Rattle.fragments.specs.Joined.{Leads}
 use Rattle.fragments.proofs.BufferLaws.{joined}
-use Rattle.timers.specs.declared.Timer.the-variants.{Off, Armed}
+use Rattle.timers.specs.declared.Timer.the-variants.{Armed}
 use Rattle.timers.proofs.TimerLaws.{ticket-most}
 use Rattle.client_record.specs.declared.State.{State}
 use Rattle.client_record.specs.declared.State.the-variants.{Queued, SendFrags, Dispatched as DispatchedState, ReceiveFrags, AckPending, Complete, Fault}
@@ -21,14 +21,16 @@ use Rattle.server_record.specs.States.{isHeld}
 use Rattle.server_record.specs.declared.State.{State as ServerState}
 use Rattle.server_record.specs.declared.State.the-variants.{Idle, Collect, Running, Replying, Held}
 use Rattle.server_record.proofs.RuleLaws.{resend-off, rules-told as server-rules-told}
-use Rattle.history.specs.World.{World}
-use Rattle.history.specs.Events.{Event, OfClient, OfServer}
+use Rattle.history.specs.Lists.{In}
+use Rattle.history.specs.World.{SentPdu, World}
+use Rattle.history.specs.Events.{Event}
 use Rattle.history.specs.Steps.{lastStart, run}
 use Rattle.history.specs.Fairness.{Fair}
 use Rattle.history.specs.Freshness.{Fresh}
 use Rattle.history.specs.Claim.{AtMostOnce, WholeMessages, replyHandedUp, RepliesToDispatches, LeadsReply, OneReply, WholeReplies, WholeWhereAnswered, OnlyGrows, TimerOf, OnClient, OnServer, timerIn, LateTimers, GoneTickets, waits, confirms, resends, Quiet, Claim}
 use Rattle.history.proofs.Holding.{unheld-joined, holding-leads}
-use Rattle.history.proofs.Invariant.{ClientHolds, nothing, fragments-of, Inv}
+use Rattle.history.proofs.Network.{Known}
+use Rattle.history.proofs.Invariant.{ClientHolds, nothing, fragments-of, IsAck, AckOf, Inv}
 use Rattle.history.proofs.Beginning.{fresh-inv}
 use Rattle.history.proofs.ClientArrivals.{whole-handed}
 use Rattle.history.proofs.Refused.{late-nothing}
@@ -166,3 +168,8 @@ theorem w fresh events fair =
       quiet = quiet (run w events) inv;
       rules = record { client = inv .client .kept; server = inv .server .kept };
     }
+
+-- Beside the claim: an ack that the client has sent has the number of its start, and the client is done with that start.
+pub acks-told : (w : World) → Fresh w → (events : List Event) → Fair w events → (d : SentPdu) → In d (run w events .client .sent)
+    → Known IsAck (AckOf (run w events .client .machine) (run w events .books .starts)) d
+acks-told w fresh events fair = run-inv w events (fresh-inv w fresh) fair .acks

@@ -1,58 +1,29 @@
 -- What each event of the client makes of a world in which every PDU is one that the writer wrote: after these laws only records
 -- are left to compute.
 use Prim.Native.Nat.{ℕ}
-use mathlib.Core.List.{List, [], _∷_, _++_, append-nil}
-use mathlib.Core.Path.{_≡_, sym, _∙_}
-use native.Mathlib.Omega.{arith}
+use mathlib.Core.List.{List, [], _++_}
+use mathlib.Core.Path.{_≡_, _∙_}
 use lib.ListN.{length}
 use Rattle.answers.specs.Number.{numberOf}
 use Rattle.pdu.specs.declared.Header.{Header}
 use Rattle.pdu.specs.Header.{datagram}
 use Rattle.writer.proofs.RoundTrip.{accepted, read-written, body-written}
-use Rattle.bodies.specs.Fack.{fackBytes, fackSent as fackFields}
-use Rattle.incoming.specs.Slots.{contiguous}
-use Rattle.facks.specs.Mask.{lastContiguous, maskOf}
-use Rattle.outgoing.specs.Message.{fragmentOf, flagsOf}
-use Rattle.outgoing.proofs.OutgoingLaws.{fragment-most}
 use Rattle.fragments.specs.Slots.{storing}
 use Rattle.grounds.specs.Entry.{lentGround}
 use Rattle.client_record.specs.declared.Client.{Client}
 use Rattle.client_record.specs.declared.TimerKind.{TimerKind}
 use Rattle.client_table.specs.Local.{transmitGround, timerGround}
-use Rattle.client_steps.specs.declared.Send.{Send}
-use Rattle.client_steps.specs.declared.Send.the-variants.{Nothing, Request, Ping, Ack, Fack}
 use Rattle.client_steps.specs.declared.Plan.{Plan}
 use Rattle.client_steps.specs.Rows.{transmitPlan, timerPlan}
-use Rattle.client.specs.Sending.{pduHeader, requestSent, emptySent, fackSent, sentOut}
 use Rattle.client.specs.Machine.{outcomeOf, sending, transmitting, timing, planOf, acted, arriving}
 use Rattle.calls.specs.declared.Sent.the-variants.{Nothing as Unsent}
-use Rattle.history.specs.World.{SentPdu, World}
-use Rattle.history.specs.Events.{Own, ClientTransmit, ClientArrive, ClientTimer, OfClient, OfServer}
-use Rattle.history.specs.Steps.{lastStart, sentAfter, bytesLent, ownAfter, happens, step, answerTo}
-use Rattle.client.specs.HandUp.{handsUp}
-use Rattle.history.proofs.Network.{pduOf}
+use Rattle.history.specs.World.{World}
+use Rattle.history.specs.Events.{Own, ClientTransmit, ClientArrive, ClientTimer, OfClient}
+use Rattle.history.specs.Steps.{lastStart, bytesLent, ownAfter, happens, step, answerTo}
+use Rattle.history.proofs.Network.{pduOf, Uuids}
+use Rattle.history.proofs.ClientSends.{clientPdus, client-sent}
 use Rattle.history.proofs.Invariant.{clientStep}
-use Rattle.runs.proofs.Stories.{Makes, Uuids, posted, Carried}
-
--- What the client sends, as it stands in the world: nothing, or one PDU.
-abbrev pub clientPdus : ℕ → Send → Client → List ℕ → List SentPdu
-clientPdus o Nothing c message = []
-clientPdus o (Request f) c message = pduOf o (datagram (pduHeader 0 (flagsOf (c .outgoing .count) f) f c) (fragmentOf message f)) ∷ []
-clientPdus o Ping c message = pduOf o (datagram (pduHeader 1 0 0 c) []) ∷ []
-clientPdus o Ack c message = pduOf o (datagram (pduHeader 7 0 0 c) []) ∷ []
-clientPdus o (Fack serial) c message =
-    pduOf o (datagram (pduHeader 9 0 (lastContiguous (contiguous (c .incoming))) c) (fackBytes (fackFields serial (maskOf (c .incoming))))) ∷ []
-
-client-sent : (send : Send) (c : Client) (message out : List ℕ) (before : List SentPdu) (o : ℕ) → Uuids (c .activity) (c .call) → length out ≡ 1472
-    → sentAfter before (sentOut send c message out .sent) (sentOut send c message out .out) o ≡ before ++ clientPdus o send c message
-unfolding sentOut requestSent emptySent fackSent pduHeader sentAfter fackBytes
-client-sent Nothing c message out before o z room = sym (append-nil before)
-client-sent (Request f) c message out before o z room =
-    posted 0 _ _ _ _ _ _ _ (fragmentOf message f) out before o (omega arith) (fragment-most message f) z room
-client-sent Ping c message out before o z room = posted 1 _ _ _ _ _ _ _ [] out before o (omega arith) (omega arith) z room
-client-sent Ack c message out before o z room = posted 7 _ _ _ _ _ _ _ [] out before o (omega arith) (omega arith) z room
-client-sent (Fack serial) c message out before o z room =
-    posted 9 _ _ _ _ _ _ _ (fackBytes (fackFields serial (maskOf (c .incoming)))) out before o (omega arith) (omega arith) z room
+use Rattle.runs.proofs.Stories.{Makes, Carried}
 
 -- The world after a plan of the client.
 abbrev pub clientLeft : World → Plan → List ℕ → List ℕ → World

@@ -31,10 +31,10 @@ use Rattle.server_record.specs.Rules.{sound as serverSound}
 use Rattle.server.specs.HandUp.{handsUp as serverHandsUp}
 use Rattle.history.specs.Fairness.{Typed}
 use Rattle.runs.specs.Runs.{before, activity, called, request, ping, ack, response, working, nocall, asked, askedAgain, answered, answeredAgain, closed, lossy}
-use Rattle.history.proofs.Holding.{empty-holding, holding-whole}
-use Rattle.history.proofs.StartStep.{cleared-none}
+use Rattle.history.proofs.Holding.{cleared-empty, empty-holding, holding-whole}
+use Rattle.history.proofs.Network.{Uuids}
 use Rattle.runs.proofs.Opened.{opened}
-use Rattle.runs.proofs.Stories.{Plays, told, came, over, then, refused, joined, Uuids, Carried, carried}
+use Rattle.runs.proofs.Stories.{Plays, told, came, over, then, refused, joined, Carried, carried}
 use Rattle.runs.proofs.Fragments.{kept, put}
 use Rattle.runs.proofs.ClientTurns.{client-transmits, client-times, client-arrives}
 use Rattle.runs.proofs.ServerTurns.{server-transmits, server-times, server-arrives}
@@ -251,11 +251,11 @@ module _ (message reply clientSlots serverSlots out : List ℕ) (asks : length m
       ∙ holding-whole all v3 message
       (put message 2785 1 asks (s2 1392 .machine .incoming) v2 4
       (put message 2785 0 asks (s1 1 .machine .incoming) v1 4
-      (put message 2785 2 asks cleared serverSlots 6 (empty-holding cleared serverSlots message cleared-none)
-      refl refl serverRoom (omega arith) (omega arith) refl)
-      refl refl v1-long (omega arith) (omega arith) refl)
-      refl refl v2-long (omega arith) (omega arith) refl)
-      refl v3-long refl
+      (put message 2785 2 asks cleared serverSlots 6 (empty-holding cleared serverSlots message serverRoom cleared-empty)
+      refl refl (omega arith) refl refl (omega arith) refl)
+      refl refl (omega arith) refl refl (omega arith) refl)
+      refl refl (omega arith) refl refl (omega arith) refl)
+      refl refl
 
   -- and what the client does, the reply: where "last" is told,
   reply-joined : joinedParts (k15 .machine .incoming) u3 ≡ reply
@@ -264,11 +264,11 @@ module _ (message reply clientSlots serverSlots out : List ℕ) (asks : length m
       holding-whole (k15 .machine .incoming) u3 reply
       (put reply 2786 2 replies (k12 1392 .machine .incoming) u2 6
       (put reply 2786 0 replies (k11 1392 .machine .incoming) u1 4
-      (put reply 2786 1 replies cleared clientSlots 4 (empty-holding cleared clientSlots reply cleared-none)
-      refl refl clientRoom (omega arith) (omega arith) refl)
-      refl refl u1-long (omega arith) (omega arith) refl)
-      refl refl u2-long (omega arith) (omega arith) refl)
-      refl u3-long refl
+      (put reply 2786 1 replies cleared clientSlots 4 (empty-holding cleared clientSlots reply clientRoom cleared-empty)
+      refl refl (omega arith) refl refl (omega arith) refl)
+      refl refl (omega arith) refl refl (omega arith) refl)
+      refl refl (omega arith) refl refl (omega arith) refl)
+      refl refl
 
   reply-told : clientHandsUp (k14 2 .machine) u3 ≡ reply
   unfolding opened

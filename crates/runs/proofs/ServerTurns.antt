@@ -1,62 +1,29 @@
 -- The same of the server.
 use Prim.Native.Nat.{ℕ}
-use mathlib.Core.List.{List, [], _∷_, _++_, append-nil}
-use mathlib.Core.Path.{_≡_, refl, sym, _∙_}
-use native.Mathlib.Omega.{arith}
+use mathlib.Core.List.{List, [], _++_}
+use mathlib.Core.Path.{_≡_, refl, _∙_}
 use lib.ListN.{length}
 use Rattle.answers.specs.declared.Answer.{Answer}
 use Rattle.answers.specs.Number.{numberOf}
 use Rattle.pdu.specs.declared.Header.{Header}
 use Rattle.pdu.specs.Header.{datagram, blank}
 use Rattle.writer.proofs.RoundTrip.{accepted, read-written, body-written}
-use Rattle.bodies.specs.Fack.{fackBytes, fackSent as fackFields}
-use Rattle.bodies.specs.Status.{statusBytes}
-use Rattle.incoming.specs.Slots.{contiguous}
-use Rattle.facks.specs.Mask.{lastContiguous, maskOf}
-use Rattle.outgoing.specs.Message.{fragmentOf, flagsOf}
-use Rattle.outgoing.proofs.OutgoingLaws.{fragment-most}
 use Rattle.grounds.specs.Entry.{lentGround}
 use Rattle.server_record.specs.declared.Server.{Server}
 use Rattle.server_table.specs.Local.{transmitGround, timerGround}
-use Rattle.server_steps.specs.declared.Send.{Send}
-use Rattle.server_steps.specs.declared.Send.the-variants.{Nothing, Response, Fault, Working, Nocall, Fack}
 use Rattle.server_steps.specs.declared.Plan.{Plan}
 use Rattle.server_steps.specs.Rows.{transmitPlan, timerPlan}
-use Rattle.server.specs.Sending.{replyHeader, echoed, echoHeader, responseSent, faultSent, emptySent, fackSent, sentOut}
+use Rattle.server.specs.Sending.{echoed}
 use Rattle.server.specs.Machine.{outcomeOf, sending, transmitting, timing, planOf, acted, arriving}
-use Rattle.server.specs.HandUp.{handsUp}
 use Rattle.fragments.specs.Slots.{storing}
 use Rattle.calls.specs.declared.Sent.the-variants.{Nothing as Unsent}
-use Rattle.history.specs.World.{SentPdu, World}
-use Rattle.history.specs.Events.{Own, ServerTransmit, ServerArrive, ServerTimer, OfClient, OfServer}
-use Rattle.history.specs.Steps.{standingAfter, sentAfter, CallOf, ofRecord, bytesLent, ownAfter, happens, step, answerTo}
-use Rattle.history.proofs.Network.{pduOf}
+use Rattle.history.specs.World.{World}
+use Rattle.history.specs.Events.{Own, ServerTransmit, ServerArrive, ServerTimer, OfServer}
+use Rattle.history.specs.Steps.{standingAfter, CallOf, ofRecord, bytesLent, ownAfter, happens, step, answerTo}
+use Rattle.history.proofs.Network.{pduOf, Uuids}
+use Rattle.history.proofs.ServerSends.{serverPdus, server-sent}
 use Rattle.history.proofs.Invariant.{serverStep}
-use Rattle.runs.proofs.Stories.{Makes, Uuids, posted, Carried}
-
--- What the server sends, as it stands in the world: nothing, or one PDU; h is the header of the PDU answered.
-abbrev pub serverPdus : ℕ → Send → Server → Header → List ℕ → List SentPdu
-serverPdus o Nothing s h message = []
-serverPdus o (Response f) s h message = pduOf o (datagram (replyHeader 2 (flagsOf (s .outgoing .count) f) f s) (fragmentOf message f)) ∷ []
-serverPdus o (Fault status) s h message = pduOf o (datagram (replyHeader 3 0 0 s) (statusBytes status)) ∷ []
-serverPdus o Working s h message = pduOf o (datagram (echoHeader 4 0 s h) []) ∷ []
-serverPdus o Nocall s h message = pduOf o (datagram (echoHeader 5 0 s h) []) ∷ []
-serverPdus o (Fack serial) s h message =
-    pduOf o (datagram (echoHeader 9 (lastContiguous (contiguous (s .incoming))) s h) (fackBytes (fackFields serial (maskOf (s .incoming))))) ∷ []
-
-server-sent : (send : Send) (s : Server) (h : Header) (message out : List ℕ) (before : List SentPdu) (o : ℕ) → Uuids (s .activity) (s .call)
-    → Uuids (s .activity) (echoed h) → length out ≡ 1472
-    → sentAfter before (sentOut send s h message out .sent) (sentOut send s h message out .out) o ≡ before ++ serverPdus o send s h message
-unfolding sentOut responseSent faultSent emptySent fackSent replyHeader echoHeader sentAfter fackBytes
-server-sent Nothing s h message out before o z y room = sym (append-nil before)
-server-sent (Response f) s h message out before o z y room =
-    posted 2 _ _ _ _ _ _ _ (fragmentOf message f) out before o (omega arith) (fragment-most message f) z room
-server-sent (Fault status) s h message out before o z y room =
-    posted 3 _ _ _ _ _ _ _ (statusBytes status) out before o (omega arith) (omega arith) z room
-server-sent Working s h message out before o z y room = posted 4 _ _ _ _ _ _ _ [] out before o (omega arith) (omega arith) y room
-server-sent Nocall s h message out before o z y room = posted 5 _ _ _ _ _ _ _ [] out before o (omega arith) (omega arith) y room
-server-sent (Fack serial) s h message out before o z y room =
-    posted 9 _ _ _ _ _ _ _ (fackBytes (fackFields serial (maskOf (s .incoming)))) out before o (omega arith) (omega arith) y room
+use Rattle.runs.proofs.Stories.{Makes, Carried}
 
 -- The world after a plan of the server.
 abbrev pub serverLeft : World → Plan → Header → List ℕ → List ℕ → CallOf → World
@@ -84,7 +51,7 @@ server-left w plan h message out slots of z y room = λ i. record {
       record {
         machine = plan .server;
         slots = slots;
-        sent = server-sent (plan .send) (plan .server) h message out (w .server .sent) (of .ordinal) z y room i;
+        sent = server-sent (plan .send) (plan .server) h message out (w .server .sent) (of .ordinal) (λ e. z, y) room i;
       };
   books = serverStep w (outcomeOf plan Unsent) [] slots of .books;
 }

@@ -11,17 +11,16 @@ use borrow.Author.Tests.{ltb-true, eqb-false}
 use Rattle.answers.specs.declared.Answer.the-variants.{Done}
 use Rattle.answers.specs.Number.{numberOf}
 use Rattle.pdu.specs.declared.Header.{Header}
-use Rattle.pdu.specs.Header.{datagram}
 use Rattle.writer.proofs.RoundTrip.{Fits}
 use Rattle.calls.specs.declared.Call.{Call}
-use Rattle.calls.specs.Sent.{sentHeader, posting}
-use Rattle.history.specs.Lists.{In, andThen}
+use Rattle.calls.specs.Sent.{sentHeader}
+use Rattle.history.specs.Lists.{In}
 use Rattle.history.specs.World.{SentPdu, World}
-use Rattle.history.specs.Events.{Own, Event, OfClient, OfServer}
-use Rattle.history.specs.Steps.{sentAfter, step, answerTo, run}
+use Rattle.history.specs.Events.{Own, Event}
+use Rattle.history.specs.Steps.{step, answerTo, run}
 use Rattle.history.specs.Fairness.{Typed, FairArrival, Premise, Fair}
 use Rattle.runs.specs.Runs.{Story, eventsOf, numbersOf, answersTo}
-use Rattle.history.proofs.Network.{pduOf, posted-sent, call-sized, call-fits}
+use Rattle.history.proofs.Network.{pduOf, call-fits}
 
 -- The event is answered that number, and leaves that world.
 pub record Makes (w : World) (e : Event) (number : ℕ) (after : World) : Type 0 where
@@ -93,23 +92,6 @@ joined {w} {next} {after} (t ∷ ts) two p q =
       answers = λ i. getD (p .answers i) 0 0 ∷ rest .answers i;
       ends = rest .ends;
     }
-
--- UUIDs of sixteen bytes.
-pub record Uuids (activity : List ℕ) (call : Call) : Type 0 where
-  pub activity-16 : length activity ≡ 16
-  pub object-16 : length (call .object) ≡ 16
-  pub interface-16 : length (call .interface) ≡ 16
-
--- A PDU that is posted stands at the end of what was sent.
-module _ (kind flags1 serial : ℕ) (activity : List ℕ) (boot number : ℕ) (call : Call) (fragment : ℕ) (body out : List ℕ) (before : List SentPdu) (o : ℕ) where
-  pub posted : kind ≤ 10 → length body ≤ 1392 → Uuids activity call → length out ≡ 1472
-      → sentAfter before (posting (sentHeader kind flags1 serial activity boot number call fragment) body out .sent)
-      (posting (sentHeader kind flags1 serial activity boot number call fragment) body out .out) o
-      ≡ andThen before (pduOf o (datagram (sentHeader kind flags1 serial activity boot number call fragment) body))
-  unfolding sentHeader
-  posted known short z room =
-      posted-sent before o (sentHeader kind flags1 serial activity boot number call fragment) body out
-      (call-sized kind flags1 serial activity boot number call fragment (z .activity-16) (z .object-16) (z .interface-16)) room known refl short
 
 -- A PDU that the reader accepts, as it was written.
 pub record Carried (h : Header) (body : List ℕ) : Type 0 where

@@ -25,10 +25,10 @@ use Rattle.server_record.specs.Rules.{sound as serverSound}
 use Rattle.server.specs.HandUp.{handsUp as serverHandsUp}
 use Rattle.history.specs.Fairness.{Typed}
 use Rattle.runs.specs.Runs.{before, activity, asking, question, firstReply, secondReply, questionPdu, pingPdu, clientFackPdu, fackPdu, replyPdu, nocallPdu, runOnce, runAgain, twice}
-use Rattle.history.proofs.Holding.{empty-holding, holding-whole}
-use Rattle.history.proofs.StartStep.{cleared-none}
+use Rattle.history.proofs.Holding.{cleared-empty, empty-holding, holding-whole}
+use Rattle.history.proofs.Network.{Uuids}
 use Rattle.runs.proofs.Opened.{opened}
-use Rattle.runs.proofs.Stories.{Plays, told, came, over, then, refused, joined, Uuids, Carried, carried}
+use Rattle.runs.proofs.Stories.{Plays, told, came, over, then, refused, joined, Carried, carried}
 use Rattle.runs.proofs.Fragments.{put}
 use Rattle.runs.proofs.ClientTurns.{client-transmits, client-times, client-arrives}
 use Rattle.runs.proofs.ServerTurns.{server-transmits, server-arrives}
@@ -155,8 +155,8 @@ module _ (clientSlots serverSlots out : List ℕ) (clientRoom : length clientSlo
   question-whole slots long =
       parts-joined (serverSound (s1 .machine)) (s1 .machine .incoming) (filled 0 question slots) refl
       ∙ holding-whole (s1 .machine .incoming) (filled 0 question slots) question
-      (put question 3 0 refl cleared slots 0 (empty-holding cleared slots question cleared-none) refl refl long (omega arith) (omega arith) refl)
-      refl (filled-length 0 question slots ∙ long) refl
+      (put question 3 0 refl cleared slots 0 (empty-holding cleared slots question long cleared-empty) refl refl (omega arith) refl refl (omega arith) refl)
+      refl refl
 
   -- and what the client does, the second reply.
   pub reply-whole : clientHandsUp (k7 .machine) u1 ≡ secondReply
@@ -164,9 +164,9 @@ module _ (clientSlots serverSlots out : List ℕ) (clientRoom : length clientSlo
   reply-whole =
       hands-joined (k7 .machine) u1 refl
       ∙ holding-whole (k7 .machine .incoming) u1 secondReply
-      (put secondReply 2 0 refl cleared clientSlots 0 (empty-holding cleared clientSlots secondReply cleared-none) refl refl clientRoom (omega arith)
+      (put secondReply 2 0 refl cleared clientSlots 0 (empty-holding cleared clientSlots secondReply clientRoom cleared-empty) refl refl (omega arith) refl refl
       (omega arith) refl)
-      refl u1-long refl
+      refl refl
 
   -- The story, stage by stage.
   plays-once : Plays (world k0 s0 b0) (runOnce out) (world k3 s3 b3)

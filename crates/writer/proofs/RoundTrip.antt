@@ -111,6 +111,15 @@ pub read-written : (h : Header) (body : List ℕ) → Fits h → h .kind ≤ 10 
 read-written h body f k a n =
     subst (λ (g : Header). reading (datagram g body) ≡ accepted g) (spelled-same h (f .sized)) (reading-spelled h body f k a n)
 
+-- the call number whatever the other fields are,
+number-spelled : (h : Header) (body : List ℕ) → h .number < 4294967296 → headerOf true (datagram (spelled h) body) .number ≡ spelled h .number
+unfolding spelled headerOf datagram headerBytes number
+number-spelled h body small = value-bytes 4 true (h .number) small
+
+header-number : (h : Header) (body : List ℕ) → Sized h → h .number < 4294967296 → headerOf true (datagram h body) .number ≡ h .number
+header-number h body z small =
+    subst (λ (g : Header). headerOf true (datagram g body) .number ≡ g .number) (spelled-same h z) (number-spelled h body small)
+
 -- and the body.
 pub body-written : (h : Header) (body : List ℕ) → Sized h → bodyOf (datagram h body) ≡ body
 unfolding bodyOf datagram
@@ -152,6 +161,15 @@ module _ (s : List ℕ) (done : reading s .answer ≡ Done) where
   pub body-short : length (bodyOf s) ≤ 1392
   unfolding bodyOf
   body-short = let known = accepted-readable in rw length-drop (omega arith)
+
+-- A datagram that reads has the call number that was written.
+pub number-written : (h : Header) (body : List ℕ) → Sized h → h .number < 4294967296 → reading (datagram h body) .answer ≡ Done
+    → reading (datagram h body) .header .number ≡ h .number
+number-written h body z small done =
+    ap (λ (r : Reading). r .header .number) (accepted-reading (datagram h body) done)
+    ∙ ap (λ (little : Bool). headerOf little (datagram h body) .number)
+    (subst (λ (g : Header). orderIs 16 (datagram g body) ≡ true) (spelled-same h z) (order-spelled h body .0))
+    ∙ header-number h body z small
 
 -- The pieces of a little-endian header are the parts of the datagram that it was read from.
 module _ (s : List ℕ) (octets : (i : ℕ) → getD s i 0 < 256) where
