@@ -16,7 +16,6 @@ use Rattle.calls.specs.declared.Sent.the-variants.{Nothing}
 use Rattle.timers.specs.declared.Timer.{Timer}
 use Rattle.timers.specs.declared.Timer.the-variants.{Off, Armed}
 use Rattle.timers.specs.Tickets.{armedWith}
-use Rattle.reader.specs.Reading.{reading}
 use Rattle.grounds.specs.Order.{refuseIf, groundOf}
 use Rattle.grounds.proofs.PassLaws.{answer-passes}
 use Rattle.client_record.specs.declared.TimerKind.the-variants.{Wait, Ack}
@@ -148,9 +147,7 @@ replies-same b (Fault status out) t other = refl
 
 -- and the server's record stands where it stood.
 standing-same : (w : World) (e : ServerEvent) (answer : Answer) → (answer ≡ Done → ⊥) → callOf w e answer .standing ≡ w .books .standing
-standing-same w (ServerArrive p lent out) answer other =
-    choose-false (isDone answer) (choose (eqb (reading (p .bytes) .header .kind) 0) (p .ordinal) (w .books .standing)) (w .books .standing)
-    (not-zero answer other)
+standing-same w (ServerArrive p lent out) answer other = choose-false (isDone answer) _ (w .books .standing) (not-zero answer other)
 standing-same w (ServerTransmit message out) answer other = refl
 standing-same w (ServerTimer ticket out) answer other = refl
 standing-same w (Reply n message) answer other = refl

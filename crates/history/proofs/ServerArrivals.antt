@@ -9,7 +9,7 @@ use lib.Dec.{eqb, leb}
 use lib.ListN.{length}
 use borrow.Author.Tests.{eqb-true}
 use Rattle.words.specs.Choice.{choose}
-use Rattle.words.proofs.Tests.{choose-true}
+use Rattle.answers.specs.declared.Answer.{Answer}
 use Rattle.answers.specs.declared.Answer.the-variants.{Done, OldCall, NoRow, Repeated}
 use Rattle.answers.specs.declared.Ground.{Ground}
 use Rattle.answers.specs.declared.Ground.the-variants.{Pass}
@@ -55,7 +55,7 @@ use Rattle.server.proofs.Judging.{CanArrive, begin-fits, put-fits, fack-fits, a
 use Rattle.server.proofs.Accepting.{arrive-accepted}
 use Rattle.history.specs.Lists.{In}
 use Rattle.history.specs.World.{bears, SentPdu, World}
-use Rattle.history.specs.Steps.{isDone, lastStart, standingAfter, CallOf, ofArrival}
+use Rattle.history.specs.Steps.{lastStart, standingAfter, CallOf, ofArrival}
 use Rattle.history.specs.Fairness.{Typed}
 use Rattle.history.proofs.Holding.{Buffer, Short, can-put, can-begin}
 use Rattle.history.proofs.Network.{Request, Response, read-sized}
@@ -105,10 +105,11 @@ module _ (w : World) (inv : Inv w) (o : ℕ) (h : Header) (body : List ℕ) (j :
     (out : List ℕ) (room : length out ≡ 1472) where
   -- Where the record then stands: at a request's start.
   abbrev stands : ℕ
-  stands = choose (eqb (h .kind) 0) o (w .books .standing)
+  stands = standingAfter (w .books .standing) Done (h .kind) o
 
   stands-at : eventOf (h .kind) ≡ RequestEvent → stands ≡ o
-  stands-at e = choose-true (eqb (h .kind) 0) o (w .books .standing) (request-kind (h .kind) e)
+  unfolding choose
+  stands-at e = ap (λ (t : Bool). choose t o (w .books .standing)) (request-kind (h .kind) e)
 
   -- A request is of a start up to the client's last one, and so is the record's call.
   sent-most : Request (w .books .starts) o h body → o ≤ lastStart (w .books .starts)
@@ -303,22 +304,19 @@ server-arrive-inv w p out inv done sent =
     let pass = arrive-accepted s (p .bytes) (w .server .slots) out done in
     let j = arrival-passes s lent r body pass in
     let buffers = lent-passes (length (w .server .slots)) (length out) (j .0 .buffers) in
-    let stands = choose (eqb (r .header .kind) 0) (p .ordinal) (w .books .standing) in
-    let standing : standingAfter (w .books .standing) (arriving s (p .bytes) (w .server .slots) out .outcome .answer) (r .header .kind) (p .ordinal) ≡ stands =
-    choose-true (isDone (arriving s (p .bytes) (w .server .slots) out .outcome .answer)) stands (w .books .standing) (ap isDone done) in
     subst
-    (λ (n : ℕ).
+    (λ (a : Answer).
     Inv
     (serverStep w (arriving s (p .bytes) (w .server .slots) out .outcome) (arriving s (p .bytes) (w .server .slots) out .out)
-    (arriving s (p .bytes) (w .server .slots) out .slots) (record { ordinal = p .ordinal; number = r .header .number; standing = n })))
-    (sym standing)
+    (arriving s (p .bytes) (w .server .slots) out .slots) (ofArrival w p a)))
+    (sym done)
     (subst
     (λ (x : Ground).
     Inv
     (serverStep w (sending (arrivalPlan x s (r .header) (bodyLength body)) (r .header) [] out .outcome)
     (sending (arrivalPlan x s (r .header) (bodyLength body)) (r .header) [] out .out)
     (storing (arrivalPlan x s (r .header) (bodyLength body) .put) (r .header .fragment) body (w .server .slots))
-    (record { ordinal = p .ordinal; number = r .header .number; standing = stands })))
+    (ofArrival w p Done)))
     (sym pass)
     (by-row w inv (p .ordinal) (r .header) body (j .1) (buffers .0) (body-short (p .bytes) (j .0 .done)) (read-sized (p .bytes) (j .0 .done))
     (inv .requests p sent .told (j .0 .done)) out (buffers .1) (rowFor s (r .header)) refl))

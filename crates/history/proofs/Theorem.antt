@@ -149,6 +149,10 @@ theorem w fresh events fair =
     record {
       numbered =
           record {
+            last =
+                λ e.
+                let now = inv .client .current e in
+                record { start = now .start; started = now .started; ordinal = now .is };
             starts = inv .calls .numbered;
             dispatches = inv .calls .called;
             client = λ e. inv .client .current e .number;
