@@ -19,4 +19,5 @@ pub mod ServerPuts
 pub mod ServerArrivals
 pub mod Histories
 pub mod Tickets
+pub mod Facks
 pub mod Theorem

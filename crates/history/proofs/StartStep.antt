@@ -1,11 +1,10 @@
 -- A start keeps what is known of the world.
-use Prim.Native.Nat.{ℕ, _+_, _≤_, _<_, _%_}
+use Prim.Native.Nat.{ℕ, _+_, _≤_, _<_}
 use mathlib.Core.Bool.{Bool, true, false, false≢true}
 use mathlib.Core.List.{List}
 use mathlib.Core.Logic.{_⊎_, inl, inr}
 use mathlib.Core.Path.{_≡_, refl, sym, ap, subst, _∙_}
 use native.Mathlib.Omega.{arith}
-use native.Mathlib.Decide.{decLt}
 use lib.ListN.{length, length-append}
 use Rattle.words.specs.Choice.{choose}
 use Rattle.answers.specs.declared.Answer.the-variants.{Done}
@@ -20,7 +19,7 @@ use Rattle.client_record.specs.declared.Client.{Client}
 use Rattle.client_record.specs.States.{isQueued, isActive}
 use Rattle.client_steps.specs.Plan.{accepted}
 use Rattle.client_steps.specs.Rows.{nextNumber, started, startPlan}
-use Rattle.client_steps.proofs.StepLaws.{started-sound}
+use Rattle.client_steps.proofs.StepLaws.{next-number, started-sound}
 use Rattle.client.specs.Machine.{outcomeOf, starting}
 use Rattle.client.proofs.Judging.{CanStart, start-passes}
 use Rattle.client.proofs.Accepting.{start-accepted}
@@ -38,34 +37,30 @@ use Rattle.history.proofs.Invariant.{nothing, ClientInv, ServerInv, Cal
 -- The number of a new start is that of its ordinal.
 module _ (c : Client) (slots : List ℕ) (starts : List Started) (replies : List Replied) (inv : ClientInv c slots starts replies)
     (below : (s : Started) → In s starts → s .ordinal < length starts) (n : ℕ) (can : CanStart c n) where
+  -- The client's number is a u32 that is not used up, where it has one.
+  next-is : isQueued (c .state) ≡ false → nextNumber false (c .number) ≡ c .number + 1
+  unfolding choose
+  next-is e = next-number false (c .number) (inv .current e .small) (λ q. can .numbered e)
+
   next-small : nextNumber (isQueued (c .state)) (c .number) < 4294967296
   unfolding nextNumber choose
   next-small = by-state (isQueued (c .state))
     where
-      by-state : (t : Bool) → choose t 0 ((c .number + 1) % 4294967296) < 4294967296
-      by-state true = omega arith
-      by-state false = omega arith
+      by-state : (t : Bool) → nextNumber t (c .number) < 4294967296
+      by-state true = unfold nextNumber choose in omega arith
+      by-state false = unfold nextNumber choose in omega arith
 
-  next-number : nextNumber (isQueued (c .state)) (c .number) ≡ bears (length starts)
-  unfolding nextNumber choose
-  next-number = by-state (isQueued (c .state)) refl
+  next-bears : nextNumber (isQueued (c .state)) (c .number) ≡ bears (length starts)
+  next-bears = by-state (isQueued (c .state)) refl
     where
-      by-state : (t : Bool) → isQueued (c .state) ≡ t → choose t 0 ((c .number + 1) % 4294967296) ≡ bears (length starts)
-      by-state true e = sym (ap length (inv .unbegun e))
+      by-state : (t : Bool) → isQueued (c .state) ≡ t → nextNumber t (c .number) ≡ bears (length starts)
+      by-state true e = unfold nextNumber choose in sym (ap length (inv .unbegun e))
       by-state false e =
           let now = inv .current e in
           let number = now .number in
-          let small = now .small in
           let some = below (now .start) (now .started) in
-          let short : c .number < 4294967295 = below-last (c .number) small (can .numbered e) in
+          let next = next-is e in
           omega arith
-        where
-          below-last : (k : ℕ) → k < 4294967296 → (k ≡ 4294967295 → ⊥) → k < 4294967295
-          below-last k p q = by-order (decLt k 4294967295)
-            where
-              by-order : Dec (k < 4294967295) → k < 4294967295
-              by-order (yes h) = h
-              by-order (no h) = absurd (q (omega arith))
 
 -- A start that goes on record.
 module _ (w : World) (inv : Inv w) (call : Call) (n : ℕ) (message : List ℕ) (can : CanStart (w .client .machine) n) (fair : FairStart call n message) where
@@ -88,7 +83,7 @@ module _ (w : World) (inv : Inv w) (call : Call) (n : ℕ) (message : List ℕ) 
   last = let one = more in omega arith
 
   numbered : number ≡ bears (length (w .books .starts))
-  numbered = next-number (w .client .machine) (w .client .slots) (w .books .starts) (w .books .replies) (inv .client) above n can
+  numbered = next-bears (w .client .machine) (w .client .slots) (w .books .starts) (w .books .replies) (inv .client) above n can
 
   -- The client has the new call and holds nothing,
   client-started : ClientInv (started (w .client .machine) call n) (w .client .slots) starts (w .books .replies)

@@ -1,4 +1,4 @@
--- Laws of a fack's number.
+-- What one side tells the other by a fack.
 use Prim.Native.Nat.{ℕ, _+_, _-_, _≤_}
 use mathlib.Core.Bool.{Bool, true, false}
 use mathlib.Core.Path.{_≡_, refl, sym}
