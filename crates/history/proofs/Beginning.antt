@@ -133,7 +133,8 @@ fresh-inv w f = record {
   completed = λ c m. absurd (subst (In c) (f .books .completions) m);
 }
 
--- The records that the library's own functions make are fresh, whatever the activity, the boot value and the ticket counter.
+-- The records that the library's own functions make are fresh, whatever the activity, the boot value and the ticket
+-- counter.
 pub client-record-fresh : (activity : List ℕ) (tickets : ℕ) → length activity ≡ 16 → FreshClient (clientRecord activity tickets)
 unfolding clientRecord noMessage cleared either choose
 client-record-fresh activity tickets known = record {

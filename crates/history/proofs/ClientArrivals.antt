@@ -292,7 +292,8 @@ still Nocall c h n status e = nocall-goes-on c .started
 still FackEvent c h n status e = fack-goes-on c (h .fragment) e .started
 still Foreign c h n status e = e
 
--- An arriving datagram keeps what is known of the world, where the server sent it and the buffer lent is the client's own.
+-- An arriving datagram keeps what is known of the world, where the server sent it and the buffer lent is the
+-- client's own.
 pub client-arrive-inv : (w : World) (p : SentPdu) (out : List ℕ) → Inv w → arriving (w .client .machine) (p .bytes) (w .client .slots) out .outcome .answer ≡ Done
     → In p (w .server .sent)
     → Inv

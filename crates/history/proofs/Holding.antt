@@ -1,5 +1,5 @@
--- What a receiver holds of one message. Of the files of this crate this one alone knows the sizes of document 01, and in which slot
--- a fragment lies.
+-- What a receiver holds of one message. Of the files of this crate this one alone knows the sizes of document 01,
+-- and in which slot a fragment lies.
 use Prim.Native.Nat.{ℕ, zero, suc, _+_, _*_, _<_, _≤_}
 use mathlib.Core.Bool.{Bool, true, false, false≢true, true≢false}
 use mathlib.Core.List.{List, [], _++_}
@@ -311,7 +311,8 @@ module _ (m : Incoming) (slots message : List ℕ) (holds : Holding m slots mess
       unknown Unknown e = refl
       unknown (At k) e = absurd (false≢true (sym (none k) ∙ holds .known k e))
 
--- Of two messages of which one has a single fragment: where a fragment of the other passes 16 and 17, nothing was held.
+-- Of two messages of which one has a single fragment: where a fragment of the other passes 16 and 17, nothing was
+-- held.
 pub other-empty : (m : Incoming) (slots message other : List ℕ) (flags1 f : ℕ) (body : List ℕ) → Holding m slots message
     → PartOf other flags1 f body → CanPut m flags1 f → Single message ⊎ Single other → Empty m
 other-empty m slots message other flags1 f body holds part can (inl one) = single-held m slots message holds one f (isLast flags1) (can .new) (can .fits)

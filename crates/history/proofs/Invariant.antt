@@ -70,7 +70,8 @@ pub record CalledStart (s : Server) (standing : ℕ) (starts : List Started) : T
   pub typed : Typed (s .call)
   pub small : s .number < 4294967296
 
--- In COLLECT the server holds fragments of its call's message, and a call not marked idempotent was not dispatched yet.
+-- In COLLECT the server holds fragments of its call's message, and a call not marked idempotent was not dispatched
+-- yet.
 pub record Collecting (s : Server) (standing : ℕ) (slots : List ℕ) (starts : List Started) (dispatches : List Dispatched) : Type 0 where
   pub start : Started
   pub started : In start starts
@@ -111,7 +112,8 @@ pub record CurrentReply (s : Server) (standing : ℕ) (replies : List Replied) :
   pub size : length (reply .message) ≡ s .outgoing .length
   pub others : (r : Replied) → In r replies → r .ordinal ≡ standing → (r ≡ reply) ⊎ Single (r .message)
 
--- A start may be begun: unless it is marked idempotent it was not dispatched, and every reply to it is a single fragment.
+-- A start may be begun: unless it is marked idempotent it was not dispatched, and every reply to it is a single
+-- fragment.
 pub record Open (starts : List Started) (dispatches : List Dispatched) (replies : List Replied) (k : ℕ) : Type 0 where
   pub first : (t : Started) → In t starts → t .ordinal ≡ k → t .idempotent ≡ false → (d : Dispatched) → In d dispatches → d .ordinal ≡ k → ⊥
   pub single : (r : Replied) → In r replies → r .ordinal ≡ k → Single (r .message)
@@ -179,8 +181,8 @@ pub record Inv (w : World) : Type 0 where
   pub responses : (d : SentPdu) → In d (w .server .sent) → Known IsResponse (Response (w .books .replies)) d
   pub completed : (c : Completed) → In c (w .books .completions) → WholeReply (w .books .replies) c
 
--- The world after a step of the client that is no start, after a start, after a step of the server that is no reply, and after a
--- reply.
+-- The world after a step of the client that is no start, after a start, after a step of the server that is no
+-- reply, and after a reply.
 abbrev pub clientStep : World → ClientOutcome → List ℕ → List ℕ → World
 clientStep w r out slots = clientWorld w (clientTurnOf r out slots) (w .books .starts)
 

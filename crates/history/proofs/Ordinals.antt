@@ -1,5 +1,5 @@
--- What the numbers that starts bear tell of their ordinals: of a PDU of start i, at a record that stands at start j, where n is the
--- client's last start.
+-- What the numbers that starts bear tell of their ordinals: of a PDU of start i, at a record that stands at start
+-- j, where n is the client's last start.
 use Prim.Native.Nat.{ℕ, _≤_, _<_}
 use mathlib.Core.Path.{_≡_}
 use Rattle.history.specs.World.{bears}

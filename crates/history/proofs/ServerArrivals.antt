@@ -31,6 +31,7 @@ use Rattle.server_record.specs.declared.State.{State}
 use Rattle.server_record.specs.declared.Reply.{Reply}
 use Rattle.server_record.specs.declared.Reply.the-variants.{Data, Fault}
 use Rattle.server_record.specs.declared.State.the-variants.{Idle as IdleState, Replying, Held}
+use Rattle.server_record.specs.declared.Server.{Server}
 use Rattle.server_record.specs.States.{isFresh, isRunning, isHeld}
 use Rattle.server_record.specs.Rules.{sound}
 use Rattle.server_record.proofs.StateLaws.{held-state}
@@ -103,6 +104,9 @@ request-kind kind e = by-zero (eqb kind 0) refl (leb kind 1) (eqb kind 7) (eqb k
 module _ (w : World) (inv : Inv w) (o : ℕ) (h : Header) (body : List ℕ) (j : CanArrive (w .server .machine) h) (whole : Buffer (w .server .slots))
     (short : Short body) (sized : Sized h) (known : eventOf (h .kind) ≡ RequestEvent → Request (w .books .starts) o h body)
     (out : List ℕ) (room : length out ≡ 1472) where
+  abbrev s : Server
+  s = w .server .machine
+
   -- Where the record then stands: at a request's start.
   abbrev stands : ℕ
   stands = standingAfter (w .books .standing) Done (h .kind) o
@@ -118,7 +122,7 @@ module _ (w : World) (inv : Inv w) (o : ℕ) (h : Header) (body : List ℕ) (j :
       let is = request .is in
       omega arith
 
-  stood-most : isFresh (w .server .machine .state) ≡ false → w .books .standing ≤ lastStart (w .books .starts)
+  stood-most : isFresh (s .state) ≡ false → w .books .standing ≤ lastStart (w .books .starts)
   stood-most called =
       let k = inv .server .called called in
       let below = inv .calls .below (k .start) (k .started) in
@@ -126,29 +130,29 @@ module _ (w : World) (inv : Inv w) (o : ℕ) (h : Header) (body : List ℕ) (j :
       omega arith
 
   -- A newer request is of a later start,
-  newer-ordinal : Request (w .books .starts) o h body → orderFor (w .server .machine) h ≡ Newer → NewTo (w .server .machine) (w .books .standing) o
+  newer-ordinal : Request (w .books .starts) o h body → orderFor s h ≡ Newer → NewTo s (w .books .standing) o
   unfolding orderFor
-  newer-ordinal request e = by-fresh (isFresh (w .server .machine .state)) refl (newer-told (isFresh (w .server .machine .state)) (w .server .machine .number) (h .number) e)
+  newer-ordinal request e = by-fresh (isFresh (s .state)) refl (newer-told (isFresh (s .state)) (s .number) (h .number) e)
     where
-      by-fresh : (t : Bool) → isFresh (w .server .machine .state) ≡ t → (isFresh (w .server .machine .state) ≡ true) ⊎ (w .server .machine .number < h .number)
-          → NewTo (w .server .machine) (w .books .standing) o
+      by-fresh : (t : Bool) → isFresh (s .state) ≡ t → (isFresh (s .state) ≡ true) ⊎ (s .number < h .number)
+          → NewTo s (w .books .standing) o
       by-fresh true f told = inl f
       by-fresh false f (inl fresh) = inl fresh
       by-fresh false f (inr above) =
           inr
           (newer-start o (w .books .standing) (lastStart (w .books .starts)) (sent-most request) (stood-most f)
-          (subst (λ (n : ℕ). n < bears o) (inv .server .called f .number) (subst (λ (n : ℕ). w .server .machine .number < n) (request .number) above)))
+          (subst (λ (n : ℕ). n < bears o) (inv .server .called f .number) (subst (λ (n : ℕ). s .number < n) (request .number) above)))
 
   -- and an equal one of the start that the record stands at.
-  equal-ordinal : Request (w .books .starts) o h body → orderFor (w .server .machine) h ≡ Equal → w .books .standing ≡ o
+  equal-ordinal : Request (w .books .starts) o h body → orderFor s h ≡ Equal → w .books .standing ≡ o
   unfolding orderFor
   equal-ordinal request e =
-      let told = equal-told (isFresh (w .server .machine .state)) (w .server .machine .number) (h .number) e in
+      let told = equal-told (isFresh (s .state)) (s .number) (h .number) e in
       equal-start o (w .books .standing) (lastStart (w .books .starts)) (sent-most request) (stood-most (told .0))
       (sym (inv .server .called (told .0) .number) ∙ told .1 ∙ request .number)
 
   -- So where no other request than an equal one is taken, the record stands where it stood.
-  settles : (eventOf (h .kind) ≡ RequestEvent → orderFor (w .server .machine) h ≡ Equal) → w .books .standing ≡ stands
+  settles : (eventOf (h .kind) ≡ RequestEvent → orderFor s h ≡ Equal) → w .books .standing ≡ stands
   unfolding choose
   settles equal = by-kind (eqb (h .kind) 0) refl
     where
@@ -171,7 +175,7 @@ module _ (w : World) (inv : Inv w) (o : ℕ) (h : Header) (body : List ℕ) (j :
   -- A plan that puts nothing, tells nothing and sends no response.
   quiet-inv : (plan : Plan) → plan .put ≡ false → plan .notice ≡ Untold → answers (plan .send) ≡ false → (ofCall (plan .send) ≡ true → Typed (plan .server .call))
       → ServerInv (plan .server) (w .books .standing) (w .server .slots) (w .books .starts) (w .books .dispatches) (w .books .replies)
-      → (eventOf (h .kind) ≡ RequestEvent → orderFor (w .server .machine) h ≡ Equal) → Inv (After plan)
+      → (eventOf (h .kind) ≡ RequestEvent → orderFor s h ≡ Equal) → Inv (After plan)
   unfolding storing choose
   quiet-inv plan unput untold none typed server equal =
       subst
@@ -184,62 +188,62 @@ module _ (w : World) (inv : Inv w) (o : ℕ) (h : Header) (body : List ℕ) (j :
       (others-known (Response (w .books .replies)) o (plan .send) (plan .server) h [] none))
 
   -- Begin: the request is newer, or repeats an idempotent call.
-  begins : rowFor (w .server .machine) h ≡ Begin → (eventOf (h .kind) ≡ RequestEvent) × Begins (w .server .machine) (w .books .standing) o h
+  begins : rowFor s h ≡ Begin → (eventOf (h .kind) ≡ RequestEvent) × Begins s (w .books .standing) o h
   unfolding rowFor
   begins e =
-      let told = begin-told (eventOf (h .kind)) (orderFor (w .server .machine) h) (w .server .machine .state) (hasFlag idempotent (h .flags1)) (w .server .machine .call .idempotent) e in
+      let told = begin-told (eventOf (h .kind)) (orderFor s h) (s .state) (hasFlag idempotent (h .flags1)) (s .call .idempotent) e in
       (told .0, by-order (known (told .0)) (told .1))
     where
-      by-order : Request (w .books .starts) o h body → ((orderFor (w .server .machine) h ≡ Newer) × (isRunning (w .server .machine .state) ≡ false))
-          ⊎ ((orderFor (w .server .machine) h ≡ Equal) × (w .server .machine .state ≡ IdleState Repeatable) × (hasFlag idempotent (h .flags1) ≡ true))
-          → Begins (w .server .machine) (w .books .standing) o h
+      by-order : Request (w .books .starts) o h body → ((orderFor s h ≡ Newer) × (isRunning (s .state) ≡ false))
+          ⊎ ((orderFor s h ≡ Equal) × (s .state ≡ IdleState Repeatable) × (hasFlag idempotent (h .flags1) ≡ true))
+          → Begins s (w .books .standing) o h
       by-order request (inl newer) = inl (newer-ordinal request (newer .0))
       by-order request (inr equal) = inr (equal-ordinal request (equal .0), (equal .1, equal .2))
 
-  begin-inv : rowFor (w .server .machine) h ≡ Begin → Inv (After (beginPlan (w .server .machine) h (bodyLength body)))
+  begin-inv : rowFor s h ≡ Begin → Inv (After (beginPlan s h (bodyLength body)))
   unfolding beginPlan requestPlan putPlan storing choose begun
   begin-inv e =
       let b = begins e in
-      let fits = begin-fits (w .server .machine) h j e in
+      let fits = begin-fits s h j e in
       let request = known (b .0) in
-      subst (λ (n : ℕ). Inv (AfterAt (beginPlan (w .server .machine) h (bodyLength body)) n)) (sym (stands-at (b .0)))
-      (put-inv w inv (begun (w .server .machine) h) o
-      (begun-inv (w .server .machine) (w .books .standing) (w .server .slots) (w .books .starts) (w .books .dispatches) (w .books .replies) (inv .server) whole o h body request (b .1)) refl h body request short
+      subst (λ (n : ℕ). Inv (AfterAt (beginPlan s h (bodyLength body)) n)) (sym (stands-at (b .0)))
+      (put-inv w inv (begun s h) o
+      (begun-inv s (w .books .standing) (w .server .slots) (w .books .starts) (w .books .dispatches) (w .books .replies) (inv .server) whole o h body request (b .1)) refl h body request short
       (can-begin (h .flags1) (h .fragment) (fits .0) (fits .1)) out room)
 
   -- Put: the request is of the call that is collected.
-  put-row-inv : rowFor (w .server .machine) h ≡ Put
-      → Inv (After (requestPlan (w .server .machine) (h .flags1) (h .serial) (h .fragment) (bodyLength body)))
+  put-row-inv : rowFor s h ≡ Put
+      → Inv (After (requestPlan s (h .flags1) (h .serial) (h .fragment) (bodyLength body)))
   unfolding requestPlan putPlan storing choose rowFor
   put-row-inv e =
-      let told = put-told (eventOf (h .kind)) (orderFor (w .server .machine) h) (w .server .machine .state) (hasFlag idempotent (h .flags1)) (w .server .machine .call .idempotent) e in
-      let fits = put-fits (w .server .machine) h j e in
+      let told = put-told (eventOf (h .kind)) (orderFor s h) (s .state) (hasFlag idempotent (h .flags1)) (s .call .idempotent) e in
+      let fits = put-fits s h j e in
       let request = known (told .0) in
-      subst (λ (n : ℕ). Inv (AfterAt (requestPlan (w .server .machine) (h .flags1) (h .serial) (h .fragment) (bodyLength body)) n)) (sym (stands-at (told .0)))
-      (put-inv w inv (w .server .machine) o
-      (subst (λ (n : ℕ). ServerInv (w .server .machine) n (w .server .slots) (w .books .starts) (w .books .dispatches) (w .books .replies)) (equal-ordinal request (told .1)) (inv .server))
-      (told .2) h body request short (can-put (w .server .machine .incoming) (h .flags1) (h .fragment) (fits .0) (fits .1) (fits .2)) out room)
+      subst (λ (n : ℕ). Inv (AfterAt (requestPlan s (h .flags1) (h .serial) (h .fragment) (bodyLength body)) n)) (sym (stands-at (told .0)))
+      (put-inv w inv s o
+      (subst (λ (n : ℕ). ServerInv s n (w .server .slots) (w .books .starts) (w .books .dispatches) (w .books .replies)) (equal-ordinal request (told .1)) (inv .server))
+      (told .2) h body request short (can-put (s .incoming) (h .flags1) (h .fragment) (fits .0) (fits .1) (fits .2)) out room)
 
   -- Replay: data is sent again by transmit, a fault at once.
-  replay-inv : (reply : Reply) → w .server .machine .state ≡ Held reply → sound (replayHeld (w .server .machine) reply .server) ≡ true
-      → orderFor (w .server .machine) h ≡ Equal → Inv (After (replayHeld (w .server .machine) reply))
+  replay-inv : (reply : Reply) → s .state ≡ Held reply → sound (replayHeld s reply .server) ≡ true
+      → orderFor s h ≡ Equal → Inv (After (replayHeld s reply))
   unfolding replayHeld accepted isFresh
   replay-inv Data e kept equal =
-      quiet-inv (replayHeld (w .server .machine) Data) refl refl refl (λ x. absurd (false≢true x))
-      (goes-on (w .server .machine) (rewinding (w .server .machine)) (w .books .standing) (w .server .slots) (w .books .starts) (w .books .dispatches) (w .books .replies) (inv .server) (ap isFresh e) kept
-      (rewinding-goes-on (w .server .machine) (w .server .machine) (w .books .standing) (w .books .replies) refl refl refl refl refl refl (inv .server .replying (ap hasData e)))) (λ x. equal)
+      quiet-inv (replayHeld s Data) refl refl refl (λ x. absurd (false≢true x))
+      (goes-on s (rewinding s) (w .books .standing) (w .server .slots) (w .books .starts) (w .books .dispatches) (w .books .replies) (inv .server) (ap isFresh e) kept
+      (rewinding-goes-on s s (w .books .standing) (w .books .replies) refl refl refl refl refl refl (inv .server .replying (ap hasData e)))) (λ x. equal)
   replay-inv (Fault status) e kept equal =
-      quiet-inv (replayHeld (w .server .machine) (Fault status)) refl refl refl (λ x. inv .server .called (ap isFresh e) .typed) (inv .server) (λ x. equal)
+      quiet-inv (replayHeld s (Fault status)) refl refl refl (λ x. inv .server .called (ap isFresh e) .typed) (inv .server) (λ x. equal)
 
-  replay-row-inv : rowFor (w .server .machine) h ≡ Replay → Inv (After (replayPlan (w .server .machine .state) (w .server .machine)))
+  replay-row-inv : rowFor s h ≡ Replay → Inv (After (replayPlan (s .state) s))
   unfolding replayPlan rowFor
   replay-row-inv e =
-      let told = replay-told (eventOf (h .kind)) (orderFor (w .server .machine) h) (w .server .machine .state) (hasFlag idempotent (h .flags1)) (w .server .machine .call .idempotent) e in
-      let held = held-state (w .server .machine .state) (told .1) in
-      let kept = replay-sound (w .server .machine) (inv .server .kept) in
-      subst (λ (x : State). Inv (After (replayPlan x (w .server .machine)))) (sym (held .is))
+      let told = replay-told (eventOf (h .kind)) (orderFor s h) (s .state) (hasFlag idempotent (h .flags1)) (s .call .idempotent) e in
+      let held = held-state (s .state) (told .1) in
+      let kept = replay-sound s (inv .server .kept) in
+      subst (λ (x : State). Inv (After (replayPlan x s))) (sym (held .is))
       (replay-inv (held .reply) (held .is)
-      (subst (λ (x : State). sound (replayPlan x (w .server .machine) .server) ≡ true) (held .is) kept) (told .0))
+      (subst (λ (x : State). sound (replayPlan x s .server) ≡ true) (held .is) kept) (told .0))
 
   -- REPLYING and HELD come past RUNNING.
   replied-past : (x : State) → (x ≡ Replying) ⊎ (isHeld x ≡ true) → (past x ≡ true) × (unanswered x ≡ false)
@@ -247,28 +251,28 @@ module _ (w : World) (inv : Inv w) (o : ℕ) (h : Header) (body : List ℕ) (j :
   replied-past x (inr e) = let held = held-state x e in (ap past (held .is), ap unanswered (held .is))
 
   -- Fack: only what is acknowledged moves.
-  fack-inv : rowFor (w .server .machine) h ≡ Acknowledge → Inv (After (fackPlan (w .server .machine) (h .fragment)))
+  fack-inv : rowFor s h ≡ Acknowledge → Inv (After (fackPlan s (h .fragment)))
   unfolding fackPlan accepted withOutgoing acknowledgedTo rowFor
   fack-inv e =
-      let told = acknowledge-told (eventOf (h .kind)) (orderFor (w .server .machine) h) (w .server .machine .state) (hasFlag idempotent (h .flags1)) (w .server .machine .call .idempotent) e in
-      let later = replied-past (w .server .machine .state) (told .2) in
-      quiet-inv (fackPlan (w .server .machine) (h .fragment)) refl refl refl (λ x. absurd (false≢true x))
-      (goes-on (w .server .machine) (fackPlan (w .server .machine) (h .fragment) .server) (w .books .standing) (w .server .slots) (w .books .starts) (w .books .dispatches) (w .books .replies) (inv .server)
-      (past-called (w .server .machine .state) (later .0)) (fack-sound (w .server .machine) (inv .server .kept) (h .fragment) (fack-fits (w .server .machine) h j e))
-      (stays-goes-on (w .server .machine) (fackPlan (w .server .machine) (h .fragment) .server) (w .books .standing) (w .books .replies) refl refl refl refl refl refl refl (later .0)
+      let told = acknowledge-told (eventOf (h .kind)) (orderFor s h) (s .state) (hasFlag idempotent (h .flags1)) (s .call .idempotent) e in
+      let later = replied-past (s .state) (told .2) in
+      quiet-inv (fackPlan s (h .fragment)) refl refl refl (λ x. absurd (false≢true x))
+      (goes-on s (fackPlan s (h .fragment) .server) (w .books .standing) (w .server .slots) (w .books .starts) (w .books .dispatches) (w .books .replies) (inv .server)
+      (past-called (s .state) (later .0)) (fack-sound s (inv .server .kept) (h .fragment) (fack-fits s h j e))
+      (stays-goes-on s (fackPlan s (h .fragment) .server) (w .books .standing) (w .books .replies) refl refl refl refl refl refl refl (later .0)
       (λ u. absurd (false≢true (sym (later .1) ∙ u))) (inv .server .replying))) (λ x. told .1)
 
   -- Ack: the call is spent.
-  ack-inv : rowFor (w .server .machine) h ≡ Finish → Inv (After (ackPlan (w .server .machine)))
+  ack-inv : rowFor s h ≡ Finish → Inv (After (ackPlan s))
   unfolding ackPlan accepted rowFor
   ack-inv e =
-      let told = finish-told (eventOf (h .kind)) (orderFor (w .server .machine) h) (w .server .machine .state) (hasFlag idempotent (h .flags1)) (w .server .machine .call .idempotent) e in
-      let later = replied-past (w .server .machine .state) (told .2) in
-      quiet-inv (ackPlan (w .server .machine)) refl refl refl (λ x. absurd (false≢true x))
-      (goes-on (w .server .machine) (ackPlan (w .server .machine) .server) (w .books .standing) (w .server .slots) (w .books .starts) (w .books .dispatches) (w .books .replies) (inv .server)
-      (past-called (w .server .machine .state) (later .0)) (ack-sound (w .server .machine) (inv .server .kept)) (spent-goes-on (w .server .machine) (w .books .standing) (w .books .replies))) (λ x. told .0)
+      let told = finish-told (eventOf (h .kind)) (orderFor s h) (s .state) (hasFlag idempotent (h .flags1)) (s .call .idempotent) e in
+      let later = replied-past (s .state) (told .2) in
+      quiet-inv (ackPlan s) refl refl refl (λ x. absurd (false≢true x))
+      (goes-on s (ackPlan s .server) (w .books .standing) (w .server .slots) (w .books .starts) (w .books .dispatches) (w .books .replies) (inv .server)
+      (past-called (s .state) (later .0)) (ack-sound s (inv .server .kept)) (spent-goes-on s (w .books .standing) (w .books .replies))) (λ x. told .0)
 
-  by-row : (row : Row) → rowFor (w .server .machine) h ≡ row → Inv (After (arrivalRow row (w .server .machine) h (bodyLength body)))
+  by-row : (row : Row) → rowFor s h ≡ row → Inv (After (arrivalRow row s h (bodyLength body)))
   unfolding arrivalRow workingPlan nocallPlan accepted oldGround rowGround rowFor
   by-row Old e = absurd (refusal-stops OldCall (subst (λ (x : Row). oldGround x ≡ Pass) e (j .old)))
   by-row Missing e = absurd (refusal-stops NoRow (subst (λ (x : Row). rowGround x ≡ Pass) e (j .row)))
@@ -276,19 +280,20 @@ module _ (w : World) (inv : Inv w) (o : ℕ) (h : Header) (body : List ℕ) (j :
   by-row Begin e = begin-inv e
   by-row Put e = put-row-inv e
   by-row Working e =
-      quiet-inv (workingPlan (w .server .machine)) refl refl refl (λ x. absurd (false≢true x)) (inv .server)
-      (λ x. working-told (eventOf (h .kind)) (orderFor (w .server .machine) h) (w .server .machine .state) (hasFlag idempotent (h .flags1)) (w .server .machine .call .idempotent) e)
+      quiet-inv (workingPlan s) refl refl refl (λ x. absurd (false≢true x)) (inv .server)
+      (λ x. working-told (eventOf (h .kind)) (orderFor s h) (s .state) (hasFlag idempotent (h .flags1)) (s .call .idempotent) e)
   by-row Nocall e =
-      quiet-inv (nocallPlan (w .server .machine)) refl refl refl (λ x. absurd (false≢true x)) (inv .server)
+      quiet-inv (nocallPlan s) refl refl refl (λ x. absurd (false≢true x)) (inv .server)
       (λ x.
       absurd
       (no-ping
-      (sym (nocall-told (eventOf (h .kind)) (orderFor (w .server .machine) h) (w .server .machine .state) (hasFlag idempotent (h .flags1)) (w .server .machine .call .idempotent) e) ∙ x)))
+      (sym (nocall-told (eventOf (h .kind)) (orderFor s h) (s .state) (hasFlag idempotent (h .flags1)) (s .call .idempotent) e) ∙ x)))
   by-row Replay e = replay-row-inv e
   by-row Acknowledge e = fack-inv e
   by-row Finish e = ack-inv e
 
--- An arriving datagram keeps what is known of the world, where the client sent it and the buffer lent is the server's own.
+-- An arriving datagram keeps what is known of the world, where the client sent it and the buffer lent is the
+-- server's own.
 pub server-arrive-inv : (w : World) (p : SentPdu) (out : List ℕ) → Inv w → arriving (w .server .machine) (p .bytes) (w .server .slots) out .outcome .answer ≡ Done
     → In p (w .client .sent)
     → Inv

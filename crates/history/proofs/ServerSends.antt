@@ -86,7 +86,8 @@ isResponse ForeignEvent = false
 not-response : (kind : ℕ) → isResponse (clientEventOf kind) ≡ false → IsResponse kind → ⊥
 not-response kind e k = false≢true (sym e ∙ ap isResponse k)
 
--- What the server sends, as it stands among what it has sent: nothing, or one PDU of that start; h is the header of the PDU answered.
+-- What the server sends, as it stands among what it has sent: nothing, or one PDU of that start; h is the header of
+-- the PDU answered.
 abbrev pub serverPdus : ℕ → Send → Server → Header → List ℕ → List SentPdu
 serverPdus o Nothing s h message = []
 serverPdus o (SendResponse f) s h message = pduOf o (datagram (replyHeader 2 (flagsOf (s .outgoing .count) f) f s) (fragmentOf message f)) ∷ []

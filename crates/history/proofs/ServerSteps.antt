@@ -47,8 +47,8 @@ past-called Running e = refl
 past-called Replying e = refl
 past-called (Held reply) e = refl
 
--- A server that goes on with its call past RUNNING: the call stays; one that could be answered again was answered by single
--- fragments, and one that replies with data has that reply.
+-- A server that goes on with its call past RUNNING: the call stays; one that could be answered again was answered
+-- by single fragments, and one that replies with data has that reply.
 pub record GoesOn (s t : Server) (standing : ℕ) (replies : List Replied) : Type 0 where
   pub activity : t .activity ≡ s .activity
   pub boot : t .boot ≡ s .boot

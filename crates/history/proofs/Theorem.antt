@@ -173,7 +173,8 @@ theorem w fresh events fair =
       rules = record { client = inv .client .kept; server = inv .server .kept };
     }
 
--- Beside the claim: an ack that the client has sent has the number of its start, and the client is done with that start.
+-- Beside the claim: an ack that the client has sent has the number of its start, and the client is done with that
+-- start.
 pub acks-told : (w : World) → Fresh w → (events : List Event) → Fair w events → (d : SentPdu) → In d (run w events .client .sent)
     → Known IsAck (AckOf (run w events .client .machine) (run w events .books .starts)) d
 acks-told w fresh events fair = run-inv w events (fresh-inv w fresh) fair .acks

@@ -10,16 +10,17 @@ pub data Lent : Type 0 where
   Own : Lent
   Other : List ℕ → Lent
 
--- A start has the call, a length and, beside what is handed in, the message that it is for; a transmit the message lent and the
--- PDU buffer; an arrival the datagram, with the start that it is of, the slot buffer and the PDU buffer; a timer its kind, its
--- ticket and the PDU buffer.
+-- A start has the call, a length and, beside what is handed in, the message that it is for; a transmit the message
+-- lent and the PDU buffer; an arrival the datagram, with the start that it is of, the slot buffer and the PDU
+-- buffer; a timer its kind, its ticket and the PDU buffer.
 pub data ClientEvent : Type 0 where
   Start : Call → ℕ → List ℕ → ClientEvent
   ClientTransmit : List ℕ → List ℕ → ClientEvent
   ClientArrive : SentPdu → Lent → List ℕ → ClientEvent
   ClientTimer : TimerKind → ℕ → List ℕ → ClientEvent
 
--- A reply has a length and the message that it is for; a fault its status and the PDU buffer; the others are as the client's.
+-- A reply has a length and the message that it is for; a fault its status and the PDU buffer; the others are as the
+-- client's.
 pub data ServerEvent : Type 0 where
   ServerArrive : SentPdu → Lent → List ℕ → ServerEvent
   ServerTransmit : List ℕ → List ℕ → ServerEvent

@@ -17,7 +17,8 @@ OfLastStart starts message = OfLast (λ s. message ≡ s .message) starts
 abbrev pub OfLastReply : List Replied → List ℕ → Type 0
 OfLastReply replies message = OfLast (λ r. message ≡ r .message) replies
 
--- A call as its type has it: UUIDs of 16 bytes, a u32, a u16. The definitions take any number, the functions only these.
+-- A call as its type has it: UUIDs of 16 bytes, a u32, a u16. The definitions take any number, the functions only
+-- these.
 pub record Typed (call : Call) : Type 0 where
   pub object : length (call .object) ≡ 16
   pub interface : length (call .interface) ≡ 16
@@ -29,13 +30,14 @@ pub record FairStart (call : Call) (n : ℕ) (message : List ℕ) : Type 0 where
   pub typed : Typed call
   pub whole : length message ≡ n
 
--- A PDU that arrives was sent by the other side earlier, of the start that is named, and the slot buffer lent is the side's own.
+-- A PDU that arrives was sent by the other side earlier, of the start that is named, and the slot buffer lent is
+-- the side's own.
 pub record FairArrival (sent : List SentPdu) (p : SentPdu) (lent : Lent) : Type 0 where
   pub earlier : In p sent
   pub own : lent ≡ Own
 
--- What is owed by an event that is answered 0. That a reply has a message of its length is document 01's word; the claim does not
--- need it, since a message of another length is refused at every transmit.
+-- What is owed by an event that is answered 0. That a reply has a message of its length is document 01's word; the
+-- claim does not need it, since a message of another length is refused at every transmit.
 abbrev pub ClientPremise : World → ClientEvent → Type 0
 ClientPremise w (Start call n message) = FairStart call n message
 ClientPremise w (ClientTransmit message out) = OfLastStart (w .books .starts) message

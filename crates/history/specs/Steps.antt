@@ -1,5 +1,5 @@
--- What an event gives, and what it makes of the world. Each side steps by the definition that the contract of its public function
--- cites.
+-- What an event gives, and what it makes of the world. Each side steps by the definition that the contract of its
+-- public function cites.
 use Prim.Native.Nat.{ℕ, _-_}
 use mathlib.Core.Bool.{Bool}
 use mathlib.Core.List.{List, [], _∷_}
@@ -31,7 +31,8 @@ use Rattle.history.specs.Events.{Lent, Own, Other, ClientEvent, ServerEv
 abbrev pub isDone : Answer → Bool
 isDone a = eqb (numberOf a) 0
 
--- The bytes of the slot buffer that is lent, and the side's own buffer after the event left those bytes in the one lent.
+-- The bytes of the slot buffer that is lent, and the side's own buffer after the event left those bytes in the one
+-- lent.
 unfoldable pub bytesLent : Lent → List ℕ → List ℕ
 bytesLent Own own = own
 bytesLent (Other bytes) own = bytes
@@ -40,7 +41,8 @@ unfoldable pub ownAfter : Lent → List ℕ → List ℕ → List ℕ
 ownAfter Own own left = left
 ownAfter (Other bytes) own left = own
 
--- What a side has sent: the PDU that `calls::sent_bytes` gives of the buffer that was lent for it, of the start with that ordinal.
+-- What a side has sent: the PDU that `calls::sent_bytes` gives of the buffer that was lent for it, of the start
+-- with that ordinal.
 unfoldable pub sentAfter : List SentPdu → Sent → List ℕ → ℕ → List SentPdu
 sentAfter before Nothing out ordinal = before
 sentAfter before (Pdu n) out ordinal = andThen before (record { ordinal = ordinal; bytes = sentBytes (Pdu n) out })
@@ -79,8 +81,8 @@ lastDispatched [] = 0
 lastDispatched (d ∷ []) = d .ordinal
 lastDispatched (d ∷ (e ∷ ds)) = lastDispatched (e ∷ ds)
 
--- What an event makes of its side: the answer, what the stub is told, what is sent, what is left in the PDU buffer (start and reply
--- are lent none), the machine's record after it and the side's slot buffer.
+-- What an event makes of its side: the answer, what the stub is told, what is sent, what is left in the PDU buffer
+-- (start and reply are lent none), the machine's record after it and the side's slot buffer.
 pub record Turn (Machine : Type 0) : Type 0 where
   pub answer : Answer
   pub notice : Notice
@@ -91,7 +93,8 @@ pub record Turn (Machine : Type 0) : Type 0 where
 
 -- The client's: from what its definitions give, by the buffers after it.
 abbrev pub clientTurnOf : ClientOutcome → List ℕ → List ℕ → Turn Client
-clientTurnOf r out slots = record { answer = r .answer; notice = r .notice; sent = r .sent; out = out; machine = r .client; slots = slots }
+clientTurnOf r out slots =
+    record { answer = r .answer; notice = r .notice; sent = r .sent; out = out; machine = r .client; slots = slots }
 
 abbrev pub clientStepped : Side Client → Step ClientOutcome → Turn Client
 clientStepped c s = clientTurnOf (s .outcome) (s .out) (c .slots)
@@ -102,12 +105,14 @@ clientArrived c lent a = clientTurnOf (a .outcome) (a .out) (ownAfter lent (c .s
 abbrev pub clientTurn : Side Client → ClientEvent → Turn Client
 clientTurn c (Start call n message) = clientTurnOf (starting (c .machine) call n) [] (c .slots)
 clientTurn c (ClientTransmit message out) = clientStepped c (clientTransmitting (c .machine) message out)
-clientTurn c (ClientArrive p lent out) = clientArrived c lent (clientArriving (c .machine) (p .bytes) (bytesLent lent (c .slots)) out)
+clientTurn c (ClientArrive p lent out) =
+    clientArrived c lent (clientArriving (c .machine) (p .bytes) (bytesLent lent (c .slots)) out)
 clientTurn c (ClientTimer kind ticket out) = clientStepped c (clientTiming (c .machine) kind ticket out)
 
 -- The server's.
 abbrev pub serverTurnOf : ServerOutcome → List ℕ → List ℕ → Turn Server
-serverTurnOf r out slots = record { answer = r .answer; notice = r .notice; sent = r .sent; out = out; machine = r .server; slots = slots }
+serverTurnOf r out slots =
+    record { answer = r .answer; notice = r .notice; sent = r .sent; out = out; machine = r .server; slots = slots }
 
 abbrev pub serverStepped : Side Server → Step ServerOutcome → Turn Server
 serverStepped s t = serverTurnOf (t .outcome) (t .out) (s .slots)
@@ -116,7 +121,8 @@ abbrev pub serverArrived : Side Server → Lent → Arrival ServerOutcome → Tu
 serverArrived s lent a = serverTurnOf (a .outcome) (a .out) (ownAfter lent (s .slots) (a .slots))
 
 abbrev pub serverTurn : Side Server → ServerEvent → Turn Server
-serverTurn s (ServerArrive p lent out) = serverArrived s lent (serverArriving (s .machine) (p .bytes) (bytesLent lent (s .slots)) out)
+serverTurn s (ServerArrive p lent out) =
+    serverArrived s lent (serverArriving (s .machine) (p .bytes) (bytesLent lent (s .slots)) out)
 serverTurn s (ServerTransmit message out) = serverStepped s (serverTransmitting (s .machine) message out)
 serverTurn s (ServerTimer ticket out) = serverStepped s (serverTiming (s .machine) ticket out)
 serverTurn s (Reply n message) = serverTurnOf (replying (s .machine) n) [] (s .slots)
@@ -124,9 +130,11 @@ serverTurn s (Fault status out) = serverStepped s (faulting (s .machine) status 
 
 -- A side after a turn; what it sent is of the start with that ordinal.
 abbrev pub sideAfter : {Machine : Type 0} → Side Machine → Turn Machine → ℕ → Side Machine
-sideAfter side t ordinal = record { machine = t .machine; slots = t .slots; sent = sentAfter (side .sent) (t .sent) (t .out) ordinal }
+sideAfter side t ordinal =
+    record { machine = t .machine; slots = t .slots; sent = sentAfter (side .sent) (t .sent) (t .out) ordinal }
 
--- A start goes on the books, where it is answered 0: as many were before it, and it has the number that the client then has.
+-- A start goes on the books, where it is answered 0: as many were before it, and it has the number that the client
+-- then has.
 abbrev pub startedAfter : List Started → Turn Client → Bool → List ℕ → List Started
 startedAfter before t idempotent message =
     choose (isDone (t .answer))
@@ -141,7 +149,8 @@ startsAfter before (ClientTimer kind ticket out) t = before
 
 -- A reply goes on the books, where it is answered 0: it is given to the start last dispatched.
 abbrev pub repliedAfter : List Replied → Turn Server → ℕ → List ℕ → List Replied
-repliedAfter before t ordinal message = choose (isDone (t .answer)) (andThen before (record { ordinal = ordinal; message = message })) before
+repliedAfter before t ordinal message =
+    choose (isDone (t .answer)) (andThen before (record { ordinal = ordinal; message = message })) before
 
 abbrev pub repliesAfter : Books → ServerEvent → Turn Server → List Replied
 repliesAfter b (ServerArrive p lent out) t = b .replies
@@ -150,8 +159,8 @@ repliesAfter b (ServerTimer ticket out) t = b .replies
 repliesAfter b (Reply n message) t = repliedAfter (b .replies) t (lastDispatched (b .dispatches)) message
 repliesAfter b (Fault status out) t = b .replies
 
--- What a turn of the server is of: the start and the number of what it sends or dispatches, and where the record stands after it.
--- An arrival is of the PDU that arrives, any other of the record.
+-- What a turn of the server is of: the start and the number of what it sends or dispatches, and where the record
+-- stands after it. An arrival is of the PDU that arrives, any other of the record.
 pub record CallOf : Type 0 where
   pub ordinal : ℕ
   pub number : ℕ
@@ -181,7 +190,8 @@ completionOf starts c slots = record { ordinal = lastStart starts; bytes = clien
 abbrev pub dispatchOf : CallOf → Server → List ℕ → Dispatched
 dispatchOf of s slots = record { ordinal = of .ordinal; number = of .number; bytes = serverHandsUp s slots }
 
--- The world after a turn of the client, with the starts then: what it sends and what it tells complete is of the last start.
+-- The world after a turn of the client, with the starts then: what it sends and what it tells complete is of the
+-- last start.
 abbrev pub clientWorld : World → Turn Client → List Started → World
 clientWorld w t starts = record {
   client = sideAfter (w .client) t (lastStart starts);

@@ -1,5 +1,5 @@
--- What each event of the client makes of a world in which every PDU is one that the writer wrote: after these laws only records
--- are left to compute.
+-- What each event of the client makes of a world in which every PDU is one that the writer wrote: after these laws
+-- only records are left to compute.
 use Prim.Native.Nat.{ℕ}
 use mathlib.Core.List.{List, [], _++_}
 use mathlib.Core.Path.{_≡_, _∙_}

@@ -112,8 +112,8 @@ module _ (message reply clientSlots serverSlots out : List ℕ) (asks : length m
       (ofFirst (nocall ∷ working ∷ response reply 0 1 ∷ response reply 1 2 ∷ response reply 2 3
       ∷ response reply 0 4 ∷ response reply 1 5 ∷ response reply 2 6 ∷ []))
 
-  -- The client's side: state, fragments sent, serial, what is held, the counts of WAIT and of resends, tickets, WAIT, ACK; its slot
-  -- buffer and how many PDUs it has sent.
+  -- The client's side: state, fragments sent, serial, what is held, the counts of WAIT and of resends, tickets,
+  -- WAIT, ACK; its slot buffer and how many PDUs it has sent.
   abbrev clientAt : ClientState → ℕ → ℕ → Incoming → ℕ → ℕ → ℕ → Timer → Timer → List ℕ → ℕ → Side Client
   clientAt state sent serial incoming waits resends tickets wait ack slots pdus = record {
     machine = clientIn called state (sends 2785 3 sent 0 serial) incoming waits resends tickets wait ack;
@@ -121,7 +121,8 @@ module _ (message reply clientSlots serverSlots out : List ℕ) (asks : length m
     sent = clientSent pdus;
   }
 
-  -- The server's side: state, message sent, what is held, tickets, RESEND; its slot buffer and how many PDUs it has sent.
+  -- The server's side: state, message sent, what is held, tickets, RESEND; its slot buffer and how many PDUs it has
+  -- sent.
   abbrev serverAt : ServerState → Outgoing → Incoming → ℕ → Timer → List ℕ → ℕ → Side Server
   serverAt state outgoing incoming tickets resend slots pdus = record {
     machine = serverIn called state outgoing incoming tickets resend;

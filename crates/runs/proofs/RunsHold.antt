@@ -41,8 +41,8 @@ ran fresh plays told handed = record {
   hands-up = ap replyHandedUp (plays .ends) ∙ handed;
 }
 
--- The first, for every request of 2,785 bytes and every reply of 2,786: the call is COMPLETE and the server spent, there is one
--- dispatch, of the whole request, and the client hands up the whole reply.
+-- The first, for every request of 2,785 bytes and every reply of 2,786: the call is COMPLETE and the server spent,
+-- there is one dispatch, of the whole request, and the client hands up the whole reply.
 pub lossy-ran : (message reply clientSlots serverSlots out : List ℕ) → length message ≡ 2785 → length reply ≡ 2786 → length clientSlots ≡ 44544
     → length serverSlots ≡ 44544 → length out ≡ 1472
     → Ran (before clientSlots serverSlots) (lossy message reply out) Complete (Idle Spent) (record { ordinal = 0; number = 0; bytes = message } ∷ []) reply
@@ -62,8 +62,8 @@ unfolding exampleMessage exampleReply
 example-ran =
     lossy-ran exampleMessage exampleReply (zeros 44544) (zeros 44544) (zeros 1472) refl refl (zeros-long 44544) (zeros-long 44544) (zeros-long 1472)
 
--- The second: the call is COMPLETE and the server repeatable, there are two dispatches, each of the whole request, and the client
--- hands up the reply to the second.
+-- The second: the call is COMPLETE and the server repeatable, there are two dispatches, each of the whole request,
+-- and the client hands up the reply to the second.
 pub twice-ran : (clientSlots serverSlots out : List ℕ) → length clientSlots ≡ 44544 → length serverSlots ≡ 44544 → length out ≡ 1472
     → Ran (before clientSlots serverSlots) (twice out) Complete (Idle Repeatable)
     (record { ordinal = 0; number = 0; bytes = question } ∷ record { ordinal = 0; number = 0; bytes = question } ∷ []) secondReply

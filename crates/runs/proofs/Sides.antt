@@ -45,7 +45,8 @@ nothing = holds missing missing missing Unknown
 abbrev pub sends : ℕ → ℕ → ℕ → ℕ → ℕ → Outgoing
 sends length count sent acknowledged serial = record { length = length; count = count; sent = sent; acknowledged = acknowledged; serial = serial }
 
--- The client in call 0: its state, the message sent, what is held, the counts of WAIT and of resends, the tickets and the timers.
+-- The client in call 0: its state, the message sent, what is held, the counts of WAIT and of resends, the tickets
+-- and the timers.
 abbrev pub clientIn : Call → ClientState → Outgoing → Incoming → ℕ → ℕ → ℕ → Timer → Timer → Client
 clientIn call state outgoing incoming waits resends tickets wait ack = record {
   state = state;
