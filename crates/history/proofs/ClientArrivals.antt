@@ -12,7 +12,6 @@ use Rattle.answers.specs.declared.Answer.the-variants.{Done}
 use Rattle.answers.specs.declared.Ground.{Ground}
 use Rattle.bodies.specs.Status.{statusReading}
 use Rattle.calls.specs.declared.Notice.the-variants.{Nothing as Untold, Fault as FaultNotice, Reject as RejectNotice, Cause}
-use Rattle.flags.specs.Flags.{idempotent}
 use Rattle.fragments.specs.Slots.{filled, storing}
 use Rattle.incoming.specs.declared.Incoming.{Incoming}
 use Rattle.incoming.specs.Slots.{contiguous, complete, stored, sound as incomingSound}
@@ -117,17 +116,17 @@ notice-told true count e = refl
 notice-told false count e = absurd (false≢true e)
 
 -- After a response the call was started.
-put-started : (all idempotent : Bool) (c : Client) (m : Incoming) → isQueued (withIncoming (putRecord all idempotent c) m .state) ≡ false
+put-started : (all mark : Bool) (c : Client) (m : Incoming) → isQueued (withIncoming (putRecord all mark c) m .state) ≡ false
 unfolding withIncoming putRecord waiting ackPending unarmed choose isQueued
 put-started true true c m = refl
 put-started true false c m = refl
-put-started false idempotent c m = refl
+put-started false mark c m = refl
 
 -- Only one that completes its reply ends the call.
-put-ends : (all idempotent : Bool) (c : Client) (m : Incoming) → hasReply (withIncoming (putRecord all idempotent c) m .state) ≡ true → all ≡ true
+put-ends : (all mark : Bool) (c : Client) (m : Incoming) → hasReply (withIncoming (putRecord all mark c) m .state) ≡ true → all ≡ true
 unfolding withIncoming putRecord waiting ackPending unarmed choose
-put-ends true idempotent c m e = refl
-put-ends false idempotent c m e = absurd (false≢true e)
+put-ends true mark c m e = refl
+put-ends false mark c m e = absurd (false≢true e)
 
 -- The rest of the record stays.
 pub record SameCall (c d : Client) : Type 0 where
@@ -136,11 +135,11 @@ pub record SameCall (c d : Client) : Type 0 where
   pub call : d .call ≡ c .call
   pub size : d .outgoing .length ≡ c .outgoing .length
 
-put-same : (all idempotent : Bool) (c : Client) (m : Incoming) → SameCall c (withIncoming (putRecord all idempotent c) m)
+put-same : (all mark : Bool) (c : Client) (m : Incoming) → SameCall c (withIncoming (putRecord all mark c) m)
 unfolding withIncoming putRecord waiting ackPending unarmed choose
 put-same true true c m = record { activity = refl; number = refl; call = refl; size = refl }
 put-same true false c m = record { activity = refl; number = refl; call = refl; size = refl }
-put-same false idempotent c m = record { activity = refl; number = refl; call = refl; size = refl }
+put-same false mark c m = record { activity = refl; number = refl; call = refl; size = refl }
 
 -- The row of an arriving PDU that passed: what is known of the client stays known.
 module _ (w : World) (inv : Inv w) (o : ℕ) (h : Header) (body : List ℕ) (status : ℕ) (kept : sound (w .client .machine) ≡ true) (whole : Buffer (w .client .slots))
