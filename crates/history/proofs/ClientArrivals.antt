@@ -42,7 +42,7 @@ use Rattle.client.proofs.Accepting.{arrive-accepted}
 use Rattle.client.proofs.Keeping.{row-sound}
 use Rattle.history.specs.Lists.{In}
 use Rattle.history.specs.World.{Started, Completed, Replied, SentPdu, World}
-use Rattle.history.specs.Steps.{lastStart, completionsAfter, completionOf}
+use Rattle.history.specs.Steps.{lastStart, completionsAfter, completionEntry}
 use Rattle.history.specs.Claim.{WholeReply, hasReply}
 use Rattle.history.proofs.Holding.{Buffer, Slotted, Short, CanPut, can-put, PartOf, unheld-unfinished, holding-whole, Holding, Single, empty-holding, put-holding, put-slotted, other-empty}
 use Rattle.history.proofs.Network.{Request, Response}
@@ -77,10 +77,10 @@ module _ (ordinal : ℕ) (m : Incoming) (slots : List ℕ) (replies : List Repli
 
 -- Where all is held, what is handed up is the whole of one reply,
 pub whole-handed : (c : Client) (slots : List ℕ) (starts : List Started) (replies : List Replied) → ClientInv c slots starts replies → complete (c .incoming) ≡ true
-    → WholeReply replies (completionOf starts c slots)
+    → WholeReply replies (completionEntry starts c slots)
 whole-handed c slots starts replies inv all = by-state (isQueued (c .state)) refl
   where
-    by-holds : ClientHolds (lastStart starts) (c .incoming) slots replies → WholeReply replies (completionOf starts c slots)
+    by-holds : ClientHolds (lastStart starts) (c .incoming) slots replies → WholeReply replies (completionEntry starts c slots)
     by-holds (nothing e) = absurd (false≢true (sym (unheld-unfinished (c .incoming) (e .none)) ∙ all))
     by-holds (fragments-of r m n h) =
         record {
@@ -92,22 +92,22 @@ whole-handed c slots starts replies inv all = by-state (isQueued (c .state)) ref
               ∙ holding-whole (c .incoming) slots (r .message) h (rules-told c (inv .kept) .incoming) all;
         }
 
-    by-state : (queued : Bool) → isQueued (c .state) ≡ queued → WholeReply replies (completionOf starts c slots)
+    by-state : (queued : Bool) → isQueued (c .state) ≡ queued → WholeReply replies (completionEntry starts c slots)
     by-state true e = absurd (false≢true (sym (unheld-unfinished (c .incoming) (inv .unasked e)) ∙ all))
     by-state false e = by-holds (inv .holds e)
 
 -- so it is where "last" is told of such a record.
 completed-known : (w : World) → Inv w → (c : Client) (slots : List ℕ) → ClientInv c slots (w .books .starts) (w .books .replies) → (notice : Notice)
     → (tellsLast notice ≡ true → complete (c .incoming) ≡ true) → (x : Completed)
-    → In x (completionsAfter (w .books .completions) notice (completionOf (w .books .starts) c slots)) → WholeReply (w .books .replies) x
+    → In x (completionsAfter (w .books .completions) notice (completionEntry (w .books .starts) c slots)) → WholeReply (w .books .replies) x
 completed-known w inv c slots next notice all = by-notice (tellsLast notice) refl
   where
-    by-notice : (t : Bool) → tellsLast notice ≡ t → (x : Completed) → In x (completionsAfter (w .books .completions) notice (completionOf (w .books .starts) c slots))
+    by-notice : (t : Bool) → tellsLast notice ≡ t → (x : Completed) → In x (completionsAfter (w .books .completions) notice (completionEntry (w .books .starts) c slots))
         → WholeReply (w .books .replies) x
     by-notice true e =
-        completed-more (WholeReply (w .books .replies)) (w .books .completions) notice (completionOf (w .books .starts) c slots) (inv .completed)
+        completed-more (WholeReply (w .books .replies)) (w .books .completions) notice (completionEntry (w .books .starts) c slots) (inv .completed)
         (whole-handed c slots (w .books .starts) (w .books .replies) next (all e))
-    by-notice false e = none-told w inv notice (completionOf (w .books .starts) c slots) e
+    by-notice false e = none-told w inv notice (completionEntry (w .books .starts) c slots) e
 
 -- A response tells "last" where all is held.
 notice-told : (all : Bool) (count : ℕ) → tellsLast (putNotice all count) ≡ true → all ≡ true
@@ -149,8 +149,8 @@ module _ (w : World) (inv : Inv w) (o : ℕ) (h : Header) (body : List ℕ) (sta
   mine from begun e =
       let run = inv .calls .replied (from .reply) (from .given) in
       let of = inv .calls .whole (run .dispatch) (run .dispatched) in
-      let below = inv .calls .below (of .0) (of .1 .0) in
-      let same : of .0 .ordinal ≡ o = of .1 .1 .0 ∙ run .same ∙ from .is in
+      let below = inv .calls .below (of .start) (of .started) in
+      let same : of .start .ordinal ≡ o = of .ordinal ∙ run .same ∙ from .is in
       let number = inv .client .current begun .number in
       from .is
       ∙ sym (equal-start o (lastStart (w .books .starts)) (lastStart (w .books .starts)) (omega arith) (omega arith) (sym number ∙ e ∙ from .number))

@@ -77,9 +77,9 @@ pub record OneMore (before after : List Started) : Type 0 where
 
 -- A start that is answered 0 is on record then,
 start-more : (w : World) (call : Call) (n : ℕ) (message : List ℕ) → starting (w .client .machine) call n .answer ≡ Done
-    → OneMore (w .books .starts) (startStep w (starting (w .client .machine) call n) (call .idempotent) message .books .starts)
+    → OneMore (w .books .starts) (startStep w (starting (w .client .machine) call n) call message .books .starts)
 start-more w call n message done =
-    let new : Started = record { ordinal = length (w .books .starts); number = starting (w .client .machine) call n .client .number; idempotent = call .idempotent; message = message } in
+    let new : Started = record { ordinal = length (w .books .starts); number = starting (w .client .machine) call n .client .number; call = call; message = message } in
     record { start = new; is = choose-true (isDone (starting (w .client .machine) call n .answer)) (andThen (w .books .starts) new) (w .books .starts) (ap isDone done) }
 
 -- and no other event changes the starts.

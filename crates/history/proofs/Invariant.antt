@@ -5,6 +5,7 @@ use mathlib.Core.List.{List, []}
 use mathlib.Core.Logic.{_⊎_, inl, inr}
 use mathlib.Core.Path.{_≡_, sym, _∙_}
 use lib.ListN.{length}
+use Rattle.calls.specs.declared.Call.{Call}
 use Rattle.incoming.specs.declared.Incoming.{Incoming}
 use Rattle.incoming.specs.Slots.{complete}
 use Rattle.pdu.specs.declared.Header.{Header}
@@ -24,9 +25,9 @@ use Rattle.server_rows.specs.declared.Event.the-variants.{Request as RequestEve
 use Rattle.server_rows.specs.Events.{eventOf as serverEventOf}
 use Rattle.client.specs.declared.Outcome.{Outcome as ClientOutcome}
 use Rattle.server.specs.declared.Outcome.{Outcome as ServerOutcome}
-use Rattle.history.specs.Lists.{In}
-use Rattle.history.specs.World.{bears, Started, Dispatched, Replied, Completed, SentPdu, World}
-use Rattle.history.specs.Steps.{lastStart, lastDispatched, clientTurnOf, serverTurnOf, startedAfter, repliedAfter, CallOf, ofRecord, clientWorld, serverWorld}
+use Rattle.history.specs.Lists.{In, OfLast}
+use Rattle.history.specs.World.{callNumber, Started, Dispatched, Replied, Completed, SentPdu, World}
+use Rattle.history.specs.Steps.{dispatchEntry, lastStart, lastDispatched, clientTurnOf, serverTurnOf, startedAfter, repliedAfter, Subject, ofRecord, clientWorld, serverWorld}
 use Rattle.history.specs.Fairness.{OfLastStart, OfLastReply, Typed}
 use Rattle.history.specs.Claim.{times, DispatchOf, WholeReply, hasReply}
 use Rattle.history.proofs.Holding.{Slotted, Unheld, Holding, Empty, Single}
@@ -37,8 +38,8 @@ pub record CurrentStart (c : Client) (starts : List Started) : Type 0 where
   pub start : Started
   pub started : In start starts
   pub is : start .ordinal ≡ lastStart starts
-  pub number : c .number ≡ bears (lastStart starts)
-  pub mark : start .idempotent ≡ c .call .idempotent
+  pub number : c .number ≡ callNumber (lastStart starts)
+  pub call : start .call ≡ c .call
   pub message : (m : List ℕ) → OfLastStart starts m → m ≡ start .message
   pub size : length (start .message) ≡ c .outgoing .length
   pub typed : Typed (c .call)
@@ -65,8 +66,8 @@ pub record CalledStart (s : Server) (standing : ℕ) (starts : List Started) : T
   pub start : Started
   pub started : In start starts
   pub is : start .ordinal ≡ standing
-  pub number : s .number ≡ bears standing
-  pub mark : start .idempotent ≡ s .call .idempotent
+  pub number : s .number ≡ callNumber standing
+  pub call : start .call ≡ s .call
   pub typed : Typed (s .call)
   pub small : s .number < 4294967296
 
@@ -79,10 +80,15 @@ pub record Collecting (s : Server) (standing : ℕ) (slots : List ℕ) (starts :
   pub holding : Holding (s .incoming) slots (start .message)
   pub first : s .call .idempotent ≡ false → (d : Dispatched) → In d dispatches → d .ordinal ≡ standing → ⊥
 
--- In RUNNING the last dispatch is the server's call.
-pub record LastRun (standing : ℕ) (dispatches : List Dispatched) : Type 0 where
+-- The dispatch that a record and its slot buffer give.
+abbrev pub entryOf : Server → ℕ → List ℕ → Dispatched
+entryOf s standing slots = dispatchEntry (record { ordinal = standing; number = s .number; standing = standing }) s slots
+
+-- In RUNNING the last dispatch is the server's call, as the record and the slot buffer have it.
+pub record LastRun (s : Server) (standing : ℕ) (slots : List ℕ) (dispatches : List Dispatched) : Type 0 where
   pub last : lastDispatched dispatches ≡ standing
   pub ran : DispatchOf dispatches standing
+  pub entry : OfLast (λ d. d ≡ entryOf s standing slots) dispatches
 
 -- Where a reply can still be given to the server's start: COLLECT, RUNNING, IDLE repeatable.
 abbrev pub unanswered : State → Bool
@@ -115,7 +121,7 @@ pub record CurrentReply (s : Server) (standing : ℕ) (replies : List Replied) :
 -- A start may be begun: unless it is marked idempotent it was not dispatched, and every reply to it is a single
 -- fragment.
 pub record Open (starts : List Started) (dispatches : List Dispatched) (replies : List Replied) (k : ℕ) : Type 0 where
-  pub first : (t : Started) → In t starts → t .ordinal ≡ k → t .idempotent ≡ false → (d : Dispatched) → In d dispatches → d .ordinal ≡ k → ⊥
+  pub first : (t : Started) → In t starts → t .ordinal ≡ k → t .call .idempotent ≡ false → (d : Dispatched) → In d dispatches → d .ordinal ≡ k → ⊥
   pub single : (r : Replied) → In r replies → r .ordinal ≡ k → Single (r .message)
 
 -- The starts that are newer to a server.
@@ -136,18 +142,26 @@ pub record ServerInv (s : Server) (standing : ℕ) (slots : List ℕ) (starts : 
   pub takes : (k : ℕ) → NewTo s standing k → Open starts dispatches replies k
   pub called : isFresh (s .state) ≡ false → CalledStart s standing starts
   pub collecting : s .state ≡ Collect → Collecting s standing slots starts dispatches
-  pub running : s .state ≡ Running → LastRun standing dispatches
+  pub running : s .state ≡ Running → LastRun s standing slots dispatches
   pub single : unanswered (s .state) ≡ true → (r : Replied) → In r replies → r .ordinal ≡ standing → Single (r .message)
   pub replying : hasData (s .state) ≡ true → CurrentReply s standing replies
 
--- What is known of the calls on record.
+-- A dispatch is of a start, with its call data and its whole message.
+pub record DispatchedStart (starts : List Started) (d : Dispatched) : Type 0 where
+  pub start : Started
+  pub started : In start starts
+  pub ordinal : start .ordinal ≡ d .ordinal
+  pub call : d .call ≡ start .call
+  pub whole : d .bytes ≡ start .message
+
+-- What is known of the calls on the books.
 pub record CallInv (starts : List Started) (dispatches : List Dispatched) (replies : List Replied) : Type 0 where
   pub unique : (s t : Started) → In s starts → In t starts → s .ordinal ≡ t .ordinal → s ≡ t
   pub below : (s : Started) → In s starts → s .ordinal < length starts
-  pub numbered : (s : Started) → In s starts → s .number ≡ bears (s .ordinal)
-  pub once : (s : Started) → In s starts → s .idempotent ≡ false → times (s .ordinal) dispatches ≤ 1
-  pub whole : (d : Dispatched) → In d dispatches → (s : Started) × (In s starts × ((s .ordinal ≡ d .ordinal) × (d .bytes ≡ s .message)))
-  pub called : (d : Dispatched) → In d dispatches → d .number ≡ bears (d .ordinal)
+  pub numbered : (s : Started) → In s starts → s .number ≡ callNumber (s .ordinal)
+  pub once : (s : Started) → In s starts → s .call .idempotent ≡ false → times (s .ordinal) dispatches ≤ 1
+  pub whole : (d : Dispatched) → In d dispatches → DispatchedStart starts d
+  pub called : (d : Dispatched) → In d dispatches → d .number ≡ callNumber (d .ordinal)
   pub replied : (r : Replied) → In r replies → DispatchOf dispatches (r .ordinal)
   pub alike : (r t : Replied) → In r replies → In t replies → r .ordinal ≡ t .ordinal → (r ≡ t) ⊎ (Single (r .message) ⊎ Single (t .message))
 
@@ -168,7 +182,7 @@ Ended c starts k = (isQueued (c .state) ≡ false) × ((k < lastStart starts) �
 
 -- What an ack tells: it has the number of its start, and the client is done with that.
 pub record AckOf (c : Client) (starts : List Started) (o : ℕ) (h : Header) (body : List ℕ) : Type 0 where
-  pub number : h .number ≡ bears o
+  pub number : h .number ≡ callNumber o
   pub ended : Ended c starts o
 
 -- All of it.
@@ -186,12 +200,12 @@ pub record Inv (w : World) : Type 0 where
 abbrev pub clientStep : World → ClientOutcome → List ℕ → List ℕ → World
 clientStep w r out slots = clientWorld w (clientTurnOf r out slots) (w .books .starts)
 
-abbrev pub startStep : World → ClientOutcome → Bool → List ℕ → World
-startStep w r idempotent message =
+abbrev pub startStep : World → ClientOutcome → Call → List ℕ → World
+startStep w r call message =
     let t = clientTurnOf r [] (w .client .slots) in
-    clientWorld w t (startedAfter (w .books .starts) t idempotent message)
+    clientWorld w t (startedAfter (w .books .starts) t call message)
 
-abbrev pub serverStep : World → ServerOutcome → List ℕ → List ℕ → CallOf → World
+abbrev pub serverStep : World → ServerOutcome → List ℕ → List ℕ → Subject → World
 serverStep w r out slots of = serverWorld w (serverTurnOf r out slots) of (w .books .replies)
 
 abbrev pub replyStep : World → ServerOutcome → List ℕ → World

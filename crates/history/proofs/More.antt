@@ -3,7 +3,6 @@ use Prim.Native.Nat.{ℕ}
 use mathlib.Core.List.{List}
 use mathlib.Core.Path.{_≡_, sym, ap, _∙_}
 use lib.ListN.{length}
-use Rattle.calls.specs.declared.Call.{Call}
 use Rattle.incoming.specs.declared.Incoming.{Incoming}
 use Rattle.pdu.specs.declared.Header.{Header}
 use Rattle.client_record.specs.declared.Client.{Client}
@@ -12,7 +11,7 @@ use Rattle.history.specs.World.{Started, Dispatched, Replied, Completed}
 use Rattle.history.specs.Claim.{DispatchOf, WholeReply}
 use Rattle.history.proofs.ListLaws.{Within}
 use Rattle.history.proofs.Network.{Request, Response}
-use Rattle.history.proofs.Invariant.{CurrentStart, ClientHolds, nothing, fragments-of, ClientInv, CalledStart, Collecting, Open, NewTo, ServerInv}
+use Rattle.history.proofs.Invariant.{CurrentStart, ClientHolds, nothing, fragments-of, ClientInv, CalledStart, Collecting, Open, NewTo, ServerInv, DispatchedStart}
 
 -- More starts: of a request,
 module _ (starts more : List Started) (within : Within starts more) where
@@ -22,13 +21,18 @@ module _ (starts more : List Started) (within : Within starts more) where
     started = within (r .start) (r .started);
     is = r .is;
     number = r .number;
-    mark = r .mark;
+    call = r .call;
     part = r .part;
     sized = r .sized;
     version = r .version;
     small = r .small;
     operation = r .operation;
   }
+
+  -- of a dispatch,
+  pub whole-more : (d : Dispatched) → DispatchedStart starts d → DispatchedStart more d
+  whole-more d from =
+      record { start = from .start; started = within (from .start) (from .started); ordinal = from .ordinal; call = from .call; whole = from .whole }
 
   -- of the server's call,
   called-more : (s : Server) (standing : ℕ) → CalledStart s standing starts → CalledStart s standing more
@@ -37,7 +41,7 @@ module _ (starts more : List Started) (within : Within starts more) where
     started = within (k .start) (k .started);
     is = k .is;
     number = k .number;
-    mark = k .mark;
+    call = k .call;
     typed = k .typed;
     small = k .small;
   }
@@ -110,7 +114,7 @@ current-on c d starts number call size now = record {
   started = now .started;
   is = now .is;
   number = number ∙ now .number;
-  mark = now .mark ∙ sym (ap (λ (x : Call). x .idempotent) call);
+  call = now .call ∙ sym call;
   message = now .message;
   size = now .size ∙ sym size;
   typed = rw call (now .typed);
@@ -125,7 +129,7 @@ called-on s t standing starts number call k = record {
   started = k .started;
   is = k .is;
   number = number ∙ k .number;
-  mark = k .mark ∙ sym (ap (λ (x : Call). x .idempotent) call);
+  call = k .call ∙ sym call;
   typed = rw call (k .typed);
   small = rw number (k .small);
 }

@@ -2,13 +2,13 @@
 -- j, where n is the client's last start.
 use Prim.Native.Nat.{ℕ, _≤_, _<_}
 use mathlib.Core.Path.{_≡_}
-use Rattle.history.specs.World.{bears}
+use Rattle.history.specs.World.{callNumber}
 
 module _ (i j n : ℕ) (sent : i ≤ n) (stood : j ≤ n) where
   -- A number that is newer is of a later start,
-  pub newer-start : bears j < bears i → j < i
+  pub newer-start : callNumber j < callNumber i → j < i
   newer-start above = above
 
   -- and an equal one of the same.
-  pub equal-start : bears j ≡ bears i → j ≡ i
+  pub equal-start : callNumber j ≡ callNumber i → j ≡ i
   equal-start same = same

@@ -30,7 +30,7 @@ use Rattle.server.proofs.Accepting.{timer-accepted as server-timer-accepted}
 use Rattle.server.proofs.Refusals.{reply-refused, transmit-refused as server-transmit-refused, fault-refused, timer-refused as server-timer-refused, arrive-refused as server-arrive-refused}
 use Rattle.history.specs.World.{Started, Side, Books, World}
 use Rattle.history.specs.Events.{Lent, Own, Other, ClientEvent, ServerEvent, Event, Start, ClientTransmit, ClientArrive, ClientTimer, ServerArrive, ServerTransmit, ServerTimer, Reply, Fault, OfClient, OfServer}
-use Rattle.history.specs.Steps.{isDone, bytesLent, ownAfter, sentAfter, lastStart, dispatchesAfter, completionsAfter, lastDispatched, Turn, clientTurn, serverTurn, sideAfter, startsAfter, repliesAfter, callOf, completionOf, dispatchOf, happens, answerTo, noticeOf, leftIn, step}
+use Rattle.history.specs.Steps.{isDone, bytesLent, ownAfter, sentAfter, lastStart, dispatchesAfter, completionsAfter, lastDispatched, Turn, clientTurn, serverTurn, sideAfter, startsAfter, repliesAfter, subjectOf, completionEntry, dispatchEntry, happens, answerTo, noticeOf, leftIn, step}
 use Rattle.history.specs.Lists.{andThen}
 use Rattle.history.specs.Claim.{TimerOf, OnClient, OnServer, timerIn, timerEvent, ChangesNothing}
 
@@ -129,7 +129,7 @@ side-same side out t ordinal u = λ i. record {
 starts-same : (before : List Started) (e : ClientEvent) (t : Turn Client) → (t .answer ≡ Done → ⊥) → startsAfter before e t ≡ before
 starts-same before (Start call n message) t other =
     choose-false (isDone (t .answer))
-    (andThen before (record { ordinal = length before; number = t .machine .number; idempotent = call .idempotent; message = message })) before
+    (andThen before (record { ordinal = length before; number = t .machine .number; call = call; message = message })) before
     (not-zero (t .answer) other)
 starts-same before (ClientTransmit message out) t other = refl
 starts-same before (ClientArrive p lent out) t other = refl
@@ -146,7 +146,7 @@ replies-same b (Reply n message) t other =
 replies-same b (Fault status out) t other = refl
 
 -- and the server's record stands where it stood.
-standing-same : (w : World) (e : ServerEvent) (answer : Answer) → (answer ≡ Done → ⊥) → callOf w e answer .standing ≡ w .books .standing
+standing-same : (w : World) (e : ServerEvent) (answer : Answer) → (answer ≡ Done → ⊥) → subjectOf w e answer .standing ≡ w .books .standing
 standing-same w (ServerArrive p lent out) answer other = choose-false (isDone answer) _ (w .books .standing) (not-zero answer other)
 standing-same w (ServerTransmit message out) answer other = refl
 standing-same w (ServerTimer ticket out) answer other = refl
@@ -168,21 +168,21 @@ refused-same w (OfClient e) other =
             starts = starts-same (w .books .starts) e t other i;
             dispatches = w .books .dispatches;
             replies = w .books .replies;
-            completions = completionsAfter (w .books .completions) (u .notice i) (completionOf starts (t .machine) (t .slots));
+            completions = completionsAfter (w .books .completions) (u .notice i) (completionEntry starts (t .machine) (t .slots));
             standing = w .books .standing;
           };
     }
 refused-same w (OfServer e) other =
     let t = serverTurn (w .server) e in
     let u = server-refused (w .server) e other in
-    let of = callOf w e (t .answer) in
+    let of = subjectOf w e (t .answer) in
     λ i. record {
       client = w .client;
       server = side-same (w .server) (serverBuffer e) t (of .ordinal) u i;
       books =
           record {
             starts = w .books .starts;
-            dispatches = dispatchesAfter (w .books .dispatches) (u .notice i) (dispatchOf of (t .machine) (t .slots));
+            dispatches = dispatchesAfter (w .books .dispatches) (u .notice i) (dispatchEntry of (t .machine) (t .slots));
             replies = replies-same (w .books) e t other i;
             completions = w .books .completions;
             standing = standing-same w e (t .answer) other i;

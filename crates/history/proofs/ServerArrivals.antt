@@ -55,8 +55,8 @@ use Rattle.server.specs.Machine.{sending, planOf, acted, arriving}
 use Rattle.server.proofs.Judging.{CanArrive, begin-fits, put-fits, fack-fits, arrival-passes}
 use Rattle.server.proofs.Accepting.{arrive-accepted}
 use Rattle.history.specs.Lists.{In}
-use Rattle.history.specs.World.{bears, SentPdu, World}
-use Rattle.history.specs.Steps.{lastStart, standingAfter, CallOf, ofArrival}
+use Rattle.history.specs.World.{callNumber, SentPdu, World}
+use Rattle.history.specs.Steps.{lastStart, standingAfter, Subject, ofArrival}
 use Rattle.history.specs.Fairness.{Typed}
 use Rattle.history.proofs.Holding.{Buffer, Short, can-put, can-begin}
 use Rattle.history.proofs.Network.{Request, Response, read-sized}
@@ -141,7 +141,7 @@ module _ (w : World) (inv : Inv w) (o : ℕ) (h : Header) (body : List ℕ) (j :
       by-fresh false f (inr above) =
           inr
           (newer-start o (w .books .standing) (lastStart (w .books .starts)) (sent-most request) (stood-most f)
-          (subst (λ (n : ℕ). n < bears o) (inv .server .called f .number) (subst (λ (n : ℕ). s .number < n) (request .number) above)))
+          (subst (λ (n : ℕ). n < callNumber o) (inv .server .called f .number) (subst (λ (n : ℕ). s .number < n) (request .number) above)))
 
   -- and an equal one of the start that the record stands at.
   equal-ordinal : Request (w .books .starts) o h body → orderFor s h ≡ Equal → w .books .standing ≡ o
@@ -169,7 +169,7 @@ module _ (w : World) (inv : Inv w) (o : ℕ) (h : Header) (body : List ℕ) (j :
   abbrev After : Plan → World
   After plan = AfterAt plan stands
 
-  abbrev of : CallOf
+  abbrev of : Subject
   of = record { ordinal = o; number = h .number; standing = stands }
 
   -- A plan that puts nothing, tells nothing and sends no response.

@@ -9,6 +9,7 @@ use lib.Dec.{eqb}
 use lib.ListN.{length}
 use borrow.Author.Tests.{eqb-true, eqb-false}
 use Rattle.words.specs.Choice.{choose, both}
+use Rattle.calls.specs.declared.Call.{Call}
 use Rattle.flags.specs.Flags.{idempotent, hasFlag}
 use Rattle.fragments.specs.Slots.{filled}
 use Rattle.fragments.specs.Joined.{parts}
@@ -34,14 +35,14 @@ use Rattle.server.specs.HandUp.{handsUp}
 use Rattle.server.specs.Machine.{outcomeOf, sending}
 use Rattle.server_steps.specs.declared.Send.{Send}
 use Rattle.history.specs.Lists.{In, andThen}
-use Rattle.history.specs.World.{bears, Started, Dispatched, Replied, World}
-use Rattle.history.specs.Steps.{dispatchesAfter, CallOf, dispatchOf}
+use Rattle.history.specs.World.{callNumber, Started, Dispatched, Replied, World}
+use Rattle.history.specs.Steps.{dispatchesAfter, Subject, dispatchEntry}
 use Rattle.history.specs.Claim.{times}
-use Rattle.history.proofs.ListLaws.{within-grown, in-added, all-grown, last-dispatched, times-same, times-other, times-none}
+use Rattle.history.proofs.ListLaws.{within-grown, added-last, in-added, all-grown, last-dispatched, times-same, times-other, times-none}
 use Rattle.history.proofs.Holding.{Buffer, Short, CanPut, cleared-empty, PartOf, Holding, Single, empty-holding, put-holding, put-sound, put-slotted, holding-whole}
 use Rattle.history.proofs.Network.{Request, Response, Known}
 use Rattle.history.proofs.More.{more-dispatches, called-on}
-use Rattle.history.proofs.Invariant.{Collecting, unanswered, NewTo, new-on, ServerInv, CallInv, IsResponse, Inv, serverStep}
+use Rattle.history.proofs.Invariant.{entryOf, DispatchedStart, Collecting, unanswered, NewTo, new-on, ServerInv, CallInv, IsResponse, Inv, serverStep}
 use Rattle.history.proofs.ServerSends.{answers, ofCall, pdu-uuids, sends-known, others-known}
 
 -- A record that has begun keeps its rules.
@@ -69,7 +70,8 @@ module _ (s : Server) (standing : ℕ) (slots : List ℕ) (starts : List Started
 
   -- A call not marked idempotent was not dispatched before it begins,
   first-time : Begins s standing o h → hasFlag idempotent (h .flags1) ≡ false → (d : Dispatched) → In d dispatches → d .ordinal ≡ o → ⊥
-  first-time (inl newer) e d m n = inv .takes o newer .first (request .start) (request .started) (request .is) (sym (request .mark) ∙ e) d m n
+  unfolding callOf
+  first-time (inl newer) e d m n = inv .takes o newer .first (request .start) (request .started) (request .is) (sym (ap (λ (x : Call). x .idempotent) (request .call)) ∙ e) d m n
   first-time (inr equal) e d m n = false≢true (sym e ∙ equal .1 .1)
 
   -- and every reply to one that begins again was a single fragment.
@@ -92,7 +94,7 @@ module _ (s : Server) (standing : ℕ) (slots : List ℕ) (starts : List Started
           started = request .started;
           is = request .is;
           number = request .number;
-          mark = sym (request .mark);
+          call = sym (request .call);
           typed =
               record {
                 object = request .sized .object;
@@ -182,7 +184,17 @@ module _ (s : Server) (o : ℕ) (slots : List ℕ) (starts : List Started) (disp
 
   -- All is held: it is dispatched.
   abbrev dispatch : List ℕ → Dispatched
-  dispatch bytes = record { ordinal = o; number = h .number; bytes = bytes }
+  dispatch bytes = record { ordinal = o; number = h .number; call = s .call; bytes = bytes }
+
+  -- It is what the record and the slot buffer give then.
+  entry-is : dispatch (handsUp (putServer true) (filled (h .fragment) body slots)) ≡ entryOf (putServer true) o (filled (h .fragment) body slots)
+  unfolding withIncoming unarmed putState choose isFresh
+  entry-is = λ i. record {
+    ordinal = o;
+    number = (request .number ∙ sym (inv .called (ap isFresh state) .number)) i;
+    call = s .call;
+    bytes = handsUp (putServer true) (filled (h .fragment) body slots);
+  }
 
   -- What is newer to it is another start.
   above-other : (n : ℕ) → NewTo (putServer true) o n → o ≡ n → ⊥
@@ -190,10 +202,10 @@ module _ (s : Server) (o : ℕ) (slots : List ℕ) (starts : List Started) (disp
   above-other n (inl fresh) e = false≢true fresh
   above-other n (inr above) e = omega arith
 
-  runs : (bytes : List ℕ) → sound (putServer true) ≡ true
+  runs : (bytes : List ℕ) → bytes ≡ handsUp (putServer true) (filled (h .fragment) body slots) → sound (putServer true) ≡ true
       → ServerInv (putServer true) o (filled (h .fragment) body slots) starts (andThen dispatches (dispatch bytes)) replies
   unfolding withIncoming unarmed putState choose isFresh isRunning
-  runs bytes kept =
+  runs bytes handed kept =
       let called : isFresh (s .state) ≡ false = ap isFresh state in
       let k = inv .called called in
       record {
@@ -217,20 +229,23 @@ module _ (s : Server) (o : ℕ) (slots : List ℕ) (starts : List Started) (disp
             record {
               last = last-dispatched dispatches (dispatch bytes);
               ran = record { dispatch = dispatch bytes; dispatched = in-added dispatches (dispatch bytes); same = refl };
+              entry =
+                  added-last (λ (d : Dispatched). d ≡ entryOf (putServer true) o (filled (h .fragment) body slots)) dispatches (dispatch bytes)
+                  (ap dispatch handed ∙ entry-is);
             };
         single = λ e. inv .single (ap unanswered state);
         replying = λ e. absurd (false≢true e);
       }
 
-  -- The call's mark is that of its start,
-  call-mark : (t : Started) → In t starts → t .ordinal ≡ o → t .idempotent ≡ s .call .idempotent
+  -- The record's call data is that of its start,
+  call-is : (t : Started) → In t starts → t .ordinal ≡ o → t .call ≡ s .call
   unfolding isFresh
-  call-mark t m e =
+  call-is t m e =
       let k = inv .called (ap isFresh state) in
-      ap (λ (x : Started). x .idempotent) (calls .unique t (k .start) m (k .started) (e ∙ sym (k .is))) ∙ k .mark
+      ap (λ (x : Started). x .call) (calls .unique t (k .start) m (k .started) (e ∙ sym (k .is))) ∙ k .call
 
   -- so a start not marked idempotent is dispatched once,
-  dispatched-once : (bytes : List ℕ) (t : Started) → In t starts → t .idempotent ≡ false → times (t .ordinal) (andThen dispatches (dispatch bytes)) ≤ 1
+  dispatched-once : (bytes : List ℕ) (t : Started) → In t starts → t .call .idempotent ≡ false → times (t .ordinal) (andThen dispatches (dispatch bytes)) ≤ 1
   dispatched-once bytes t m mark = by-ordinal (eqb (t .ordinal) o) refl
     where
       by-ordinal : (x : Bool) → eqb (t .ordinal) o ≡ x → times (t .ordinal) (andThen dispatches (dispatch bytes)) ≤ 1
@@ -238,7 +253,7 @@ module _ (s : Server) (o : ℕ) (slots : List ℕ) (starts : List Started) (disp
           let same : t .ordinal ≡ o = eqb-true (t .ordinal) o e in
           let none : times (t .ordinal) dispatches ≡ 0 =
           times-none dispatches (t .ordinal)
-          (λ d k n. collecting .first (sym (call-mark t m same) ∙ mark) d k (n ∙ same)) in
+          (λ d k n. collecting .first (sym (ap (λ (x : Call). x .idempotent) (call-is t m same)) ∙ mark) d k (n ∙ same)) in
           let one = times-same dispatches (dispatch bytes) (t .ordinal) same in
           omega arith
       by-ordinal false e =
@@ -253,9 +268,15 @@ module _ (s : Server) (o : ℕ) (slots : List ℕ) (starts : List Started) (disp
     numbered = calls .numbered;
     once = dispatched-once bytes;
     whole =
-        all-grown (λ (d : Dispatched). (t : Started) × (In t starts × ((t .ordinal ≡ d .ordinal) × (d .bytes ≡ t .message)))) dispatches (dispatch bytes)
-        (calls .whole) (collecting .start, (collecting .started, (collecting .is, all)));
-    called = all-grown (λ (d : Dispatched). d .number ≡ bears (d .ordinal)) dispatches (dispatch bytes) (calls .called) (request .number);
+        all-grown (DispatchedStart starts) dispatches (dispatch bytes) (calls .whole)
+        (record {
+          start = collecting .start;
+          started = collecting .started;
+          ordinal = collecting .is;
+          call = sym (call-is (collecting .start) (collecting .started) (collecting .is));
+          whole = all;
+        });
+    called = all-grown (λ (d : Dispatched). d .number ≡ callNumber (d .ordinal)) dispatches (dispatch bytes) (calls .called) (request .number);
     replied =
         λ r m.
         more-dispatches dispatches (andThen dispatches (dispatch bytes)) (within-grown dispatches (dispatch bytes)) (r .ordinal) (calls .replied r m);
@@ -270,7 +291,7 @@ module _ (s : Server) (o : ℕ) (slots : List ℕ) (starts : List Started) (disp
   unfolding putNotice dispatchesAfter choose withIncoming
   put-known true e kept =
       let bytes = handsUp (putServer true) (filled (h .fragment) body slots) in
-      (runs bytes kept, calls-dispatched bytes (handed-whole (putServer true) kept refl e))
+      (runs bytes refl kept, calls-dispatched bytes (handed-whole (putServer true) kept refl e))
   put-known false e kept = (collects kept, calls)
 
 -- A fack is no response, and does not speak of the record's call.
@@ -280,7 +301,7 @@ fack-sends true serial = (refl, refl)
 fack-sends false serial = (refl, refl)
 
 -- A request that is taken is of its start, and the record then stands there.
-abbrev pub ofRequest : ℕ → Header → CallOf
+abbrev pub ofRequest : ℕ → Header → Subject
 ofRequest o h = record { ordinal = o; number = h .number; standing = o }
 
 -- A world whose server put a request.
@@ -291,7 +312,7 @@ pub put-inv : (w : World) → Inv w → (s : Server) (o : ℕ) → ServerInv s o
     (serverStep w (sending (requestPlan s (h .flags1) (h .serial) (h .fragment) (bodyLength body)) h [] out .outcome)
     (sending (requestPlan s (h .flags1) (h .serial) (h .fragment) (bodyLength body)) h [] out .out)
     (filled (h .fragment) body (w .server .slots)) (ofRequest o h))
-unfolding requestPlan putPlan sending outcomeOf
+unfolding requestPlan putPlan sending outcomeOf withIncoming unarmed
 put-inv w inv s o server state h body request short can out room =
     subst
     (λ (n : ℕ).
@@ -332,7 +353,7 @@ put-inv w inv s o server state h body request short can out room =
     dispatches : List Dispatched
     dispatches =
         dispatchesAfter (w .books .dispatches) (putNotice (complete m))
-        (dispatchOf (ofRequest o h) (putServer-of (complete m)) (filled (h .fragment) body (w .server .slots)))
+        (dispatchEntry (ofRequest o h) (putServer-of (complete m)) (filled (h .fragment) body (w .server .slots)))
 
     known : ServerInv (putServer-of (complete m)) o (filled (h .fragment) body (w .server .slots)) (w .books .starts) dispatches (w .books .replies)
         × CallInv (w .books .starts) dispatches (w .books .replies)

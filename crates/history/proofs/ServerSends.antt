@@ -47,7 +47,7 @@ use Rattle.server.specs.Sending.{replyHeader, echoed, echoHeader, responseSent,
 use Rattle.server.specs.Machine.{outcomeOf, sending}
 use Rattle.history.specs.Lists.{In}
 use Rattle.history.specs.World.{Started, Replied, SentPdu, World}
-use Rattle.history.specs.Steps.{sentAfter, dispatchesAfter, CallOf, dispatchOf}
+use Rattle.history.specs.Steps.{sentAfter, dispatchesAfter, Subject, dispatchEntry}
 use Rattle.history.specs.Fairness.{OfLastReply, Typed}
 use Rattle.history.proofs.ListLaws.{All, all-appended}
 use Rattle.history.proofs.Holding.{PartOf, Single, flags-last}
@@ -223,14 +223,14 @@ unfolding afterSend nextSerial
 transmitted-counts last s = rw (transmitted-sent last s) (refl, omega arith)
 
 -- A world whose server made a step by a plan that tells nothing.
-pub planned : (w : World) (plan : Plan) (h : Header) (message out slots : List ℕ) (of : CallOf) → Inv w → plan .notice ≡ Untold
+pub planned : (w : World) (plan : Plan) (h : Header) (message out slots : List ℕ) (of : Subject) → Inv w → plan .notice ≡ Untold
     → ServerInv (plan .server) (of .standing) slots (w .books .starts) (w .books .dispatches) (w .books .replies) → SentUuids (plan .send) (plan .server) h
     → length out ≡ 1472 → All (Known IsResponse (Response (w .books .replies))) (serverPdus (of .ordinal) (plan .send) (plan .server) h message)
     → Inv (serverStep w (sending plan h message out .outcome) (sending plan h message out .out) slots of)
 unfolding sending outcomeOf dispatchesAfter
 planned w plan h message out slots of inv quiet server uuids room responses =
-    let same : dispatchesAfter (w .books .dispatches) (plan .notice) (dispatchOf of (plan .server) slots) ≡ w .books .dispatches =
-    ap (λ (n : Notice). dispatchesAfter (w .books .dispatches) n (dispatchOf of (plan .server) slots)) quiet in
+    let same : dispatchesAfter (w .books .dispatches) (plan .notice) (dispatchEntry of (plan .server) slots) ≡ w .books .dispatches =
+    ap (λ (n : Notice). dispatchesAfter (w .books .dispatches) n (dispatchEntry of (plan .server) slots)) quiet in
     record {
       client = inv .client;
       server = rw same server;

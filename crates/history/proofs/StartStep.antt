@@ -24,14 +24,14 @@ use Rattle.client.specs.Machine.{outcomeOf, starting}
 use Rattle.client.proofs.Judging.{CanStart, start-passes}
 use Rattle.client.proofs.Accepting.{start-accepted}
 use Rattle.history.specs.Lists.{In, andThen}
-use Rattle.history.specs.World.{bears, Started, Dispatched, Replied, World}
+use Rattle.history.specs.World.{callNumber, Started, Dispatched, Replied, World}
 use Rattle.history.specs.Steps.{lastStart, sentAfter, completionsAfter}
 use Rattle.history.specs.Fairness.{FairStart}
 use Rattle.history.specs.Claim.{times}
 use Rattle.history.proofs.ListLaws.{in-before, within-grown, in-added, in-grown, all-grown, last-added, times-none}
 use Rattle.history.proofs.Holding.{cleared-empty}
 use Rattle.history.proofs.Network.{Request, more-known}
-use Rattle.history.proofs.More.{request-more, more-starts}
+use Rattle.history.proofs.More.{request-more, whole-more, more-starts}
 use Rattle.history.proofs.Invariant.{nothing, ClientInv, ServerInv, CallInv, IsRequest, IsAck, Ended, AckOf, Inv, startStep}
 
 -- The number of a new start is that of its ordinal.
@@ -50,10 +50,10 @@ module _ (c : Client) (slots : List ℕ) (starts : List Started) (replies : List
       by-state true = unfold nextNumber choose in omega arith
       by-state false = unfold nextNumber choose in omega arith
 
-  next-bears : nextNumber (isQueued (c .state)) (c .number) ≡ bears (length starts)
-  next-bears = by-state (isQueued (c .state)) refl
+  next-callNumber : nextNumber (isQueued (c .state)) (c .number) ≡ callNumber (length starts)
+  next-callNumber = by-state (isQueued (c .state)) refl
     where
-      by-state : (t : Bool) → isQueued (c .state) ≡ t → nextNumber t (c .number) ≡ bears (length starts)
+      by-state : (t : Bool) → isQueued (c .state) ≡ t → nextNumber t (c .number) ≡ callNumber (length starts)
       by-state true e = unfold nextNumber choose in sym (ap length (inv .unbegun e))
       by-state false e =
           let now = inv .current e in
@@ -68,7 +68,7 @@ module _ (w : World) (inv : Inv w) (call : Call) (n : ℕ) (message : List ℕ) 
   number = nextNumber (isQueued (w .client .machine .state)) (w .client .machine .number)
 
   abbrev start : Started
-  start = record { ordinal = length (w .books .starts); number = number; idempotent = call .idempotent; message = message }
+  start = record { ordinal = length (w .books .starts); number = number; call = call; message = message }
 
   abbrev starts : List Started
   starts = andThen (w .books .starts) start
@@ -82,8 +82,8 @@ module _ (w : World) (inv : Inv w) (call : Call) (n : ℕ) (message : List ℕ) 
   last : length (w .books .starts) ≡ lastStart starts
   last = let one = more in omega arith
 
-  numbered : number ≡ bears (length (w .books .starts))
-  numbered = next-bears (w .client .machine) (w .client .slots) (w .books .starts) (w .books .replies) (inv .client) above n can
+  numbered : number ≡ callNumber (length (w .books .starts))
+  numbered = next-callNumber (w .client .machine) (w .client .slots) (w .books .starts) (w .books .replies) (inv .client) above n can
 
   -- The client has the new call and holds nothing,
   client-started : ClientInv (started (w .client .machine) call n) (w .client .slots) starts (w .books .replies)
@@ -99,8 +99,8 @@ module _ (w : World) (inv : Inv w) (call : Call) (n : ℕ) (message : List ℕ) 
           start = start;
           started = in-added (w .books .starts) start;
           is = last;
-          number = numbered ∙ ap bears last;
-          mark = refl;
+          number = numbered ∙ ap callNumber last;
+          call = refl;
           message = λ m. last-added (λ (s : Started). m ≡ s .message) (w .books .starts) start;
           size = fair .whole;
           typed = fair .typed;
@@ -115,8 +115,8 @@ module _ (w : World) (inv : Inv w) (call : Call) (n : ℕ) (message : List ℕ) 
   undispatched : (d : Dispatched) → In d (w .books .dispatches) → d .ordinal ≡ length (w .books .starts) → ⊥
   undispatched d m e =
       let from = inv .calls .whole d m in
-      let below = above (from .0) (from .1 .0) in
-      let same : from .0 .ordinal ≡ d .ordinal = from .1 .1 .0 in
+      let below = above (from .start) (from .started) in
+      let same = from .ordinal in
       omega arith
 
   -- the server's call is still one that was started,
@@ -128,7 +128,7 @@ module _ (w : World) (inv : Inv w) (call : Call) (n : ℕ) (message : List ℕ) 
       let before = inv .server .takes k new in
       record {
         first =
-            all-grown (λ (t : Started). t .ordinal ≡ k → t .idempotent ≡ false → (d : Dispatched) → In d (w .books .dispatches) → d .ordinal ≡ k → ⊥)
+            all-grown (λ (t : Started). t .ordinal ≡ k → t .call .idempotent ≡ false → (d : Dispatched) → In d (w .books .dispatches) → d .ordinal ≡ k → ⊥)
             (w .books .starts) start (before .first) (λ e i d m n. undispatched d m (n ∙ sym e));
         single = before .single;
       })
@@ -154,14 +154,11 @@ module _ (w : World) (inv : Inv w) (call : Call) (n : ℕ) (message : List ℕ) 
     unique = unique;
     below =
         all-grown (λ (s : Started). s .ordinal < length starts) (w .books .starts) start (λ s m. omega (arith, above s m, more)) (omega (arith, more));
-    numbered = all-grown (λ (s : Started). s .number ≡ bears (s .ordinal)) (w .books .starts) start (inv .calls .numbered) numbered;
+    numbered = all-grown (λ (s : Started). s .number ≡ callNumber (s .ordinal)) (w .books .starts) start (inv .calls .numbered) numbered;
     once =
-        all-grown (λ (s : Started). s .idempotent ≡ false → times (s .ordinal) (w .books .dispatches) ≤ 1) (w .books .starts) start (inv .calls .once)
+        all-grown (λ (s : Started). s .call .idempotent ≡ false → times (s .ordinal) (w .books .dispatches) ≤ 1) (w .books .starts) start (inv .calls .once)
         (λ e. let none = times-none (w .books .dispatches) (length (w .books .starts)) undispatched in omega arith);
-    whole =
-        λ d m.
-        let from = inv .calls .whole d m in
-        (from .0, (in-before (w .books .starts) (from .0) start (from .1 .0), from .1 .1));
+    whole = λ d m. whole-more (w .books .starts) starts (within-grown (w .books .starts) start) d (inv .calls .whole d m);
     called = inv .calls .called;
     replied = inv .calls .replied;
     alike = inv .calls .alike;
@@ -184,7 +181,7 @@ module _ (w : World) (inv : Inv w) (call : Call) (n : ℕ) (message : List ℕ) 
       → AckOf (started (w .client .machine) call n) starts o h body
   acks-started o h body a = record { number = a .number; ended = ended-next o (a .ended) }
 
-  start-inv : Inv (startStep w (outcomeOf (startPlan Pass (w .client .machine) call n) Unsent) (call .idempotent) message)
+  start-inv : Inv (startStep w (outcomeOf (startPlan Pass (w .client .machine) call n) Unsent) call message)
   unfolding outcomeOf startPlan accepted choose started sentAfter completionsAfter
   start-inv = record {
     client = client-started;
@@ -203,9 +200,9 @@ module _ (w : World) (inv : Inv w) (call : Call) (n : ℕ) (message : List ℕ) 
 
 -- A start that is answered 0 keeps what is known of the world.
 pub started-inv : (w : World) (call : Call) (n : ℕ) (message : List ℕ) → Inv w → starting (w .client .machine) call n .answer ≡ Done → FairStart call n message
-    → Inv (startStep w (starting (w .client .machine) call n) (call .idempotent) message)
+    → Inv (startStep w (starting (w .client .machine) call n) call message)
 unfolding starting
 started-inv w call n message inv done fair =
     let pass = start-accepted (w .client .machine) call n done in
-    subst (λ (g : Ground). Inv (startStep w (outcomeOf (startPlan g (w .client .machine) call n) Unsent) (call .idempotent) message)) (sym pass)
+    subst (λ (g : Ground). Inv (startStep w (outcomeOf (startPlan g (w .client .machine) call n) Unsent) call message)) (sym pass)
     (start-inv w inv call n message (start-passes (w .client .machine) n pass) fair)

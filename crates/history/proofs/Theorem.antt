@@ -1,6 +1,6 @@
 -- The theorem over every list of events.
 use Prim.Native.Nat.{ℕ, _≤_}
-use mathlib.Core.Bool.{Bool, true, false}
+use mathlib.Core.Bool.{Bool, true, false, false≢true}
 use mathlib.Core.List.{List, [], _++_, append-assoc}
 use mathlib.Core.Logic.{_⊎_, inl, inr}
 use mathlib.Core.Path.{_≡_, refl, sym, ap, subst, _∙_}
@@ -27,7 +27,7 @@ use Rattle.history.specs.Events.{Event}
 use Rattle.history.specs.Steps.{lastStart, run}
 use Rattle.history.specs.Fairness.{Fair}
 use Rattle.history.specs.Freshness.{Fresh}
-use Rattle.history.specs.Claim.{AtMostOnce, WholeMessages, replyHandedUp, RepliesToDispatches, LeadsReply, OneReply, WholeReplies, WholeWhereAnswered, OnlyGrows, TimerOf, OnClient, OnServer, timerIn, LateTimers, GoneTickets, waits, confirms, resends, Quiet, Claim}
+use Rattle.history.specs.Claim.{AtMostOnce, WholeMessages, replyHandedUp, RepliesToDispatches, LeadsReply, OneReply, WholeReplies, WholeWhereAnswered, OnlyGrows, TimerOf, OnClient, OnServer, timerIn, LateTimers, GoneTickets, namesWait, namesAck, namesResend, Quiet, runs, WholeWhereRunning, Claim}
 use Rattle.history.proofs.Holding.{unheld-joined, holding-leads}
 use Rattle.history.proofs.Network.{Known}
 use Rattle.history.proofs.Invariant.{ClientHolds, nothing, fragments-of, IsAck, AckOf, Inv}
@@ -70,11 +70,12 @@ module _ (w : World) (inv : Inv w) where
   whole-messages d m =
       let from = inv .calls .whole d m in
       record {
-        start = from .0;
-        started = from .1 .0;
-        ordinal = from .1 .1 .0;
-        whole = from .1 .1 .1;
-        only = λ other k n. inv .calls .unique other (from .0) k (from .1 .0) (n ∙ sym (from .1 .1 .0));
+        start = from .start;
+        started = from .started;
+        ordinal = from .ordinal;
+        call = from .call;
+        whole = from .whole;
+        only = λ other k n. inv .calls .unique other (from .start) k (from .started) (n ∙ sym (from .ordinal));
       }
 
   -- A timer is armed only in the states that name it.
@@ -85,7 +86,7 @@ module _ (w : World) (inv : Inv w) where
     resend = λ e. resend-off (w .server .machine) (inv .server .kept) (sym (named-resend (w .server .machine .state)) ∙ e);
   }
     where
-      named-wait : (s : State) → waits s ≡ isWaiting s
+      named-wait : (s : State) → namesWait s ≡ isWaiting s
       named-wait Queued = unfold isWaiting in refl
       named-wait SendFrags = unfold isWaiting in refl
       named-wait DispatchedState = unfold isWaiting in refl
@@ -94,7 +95,7 @@ module _ (w : World) (inv : Inv w) where
       named-wait Complete = unfold isWaiting in refl
       named-wait Fault = unfold isWaiting in refl
 
-      named-ack : (s : State) → confirms s ≡ isAckPending s
+      named-ack : (s : State) → namesAck s ≡ isAckPending s
       named-ack Queued = unfold isAckPending in refl
       named-ack SendFrags = unfold isAckPending in refl
       named-ack DispatchedState = unfold isAckPending in refl
@@ -103,12 +104,20 @@ module _ (w : World) (inv : Inv w) where
       named-ack Complete = unfold isAckPending in refl
       named-ack Fault = unfold isAckPending in refl
 
-      named-resend : (s : ServerState) → resends s ≡ isHeld s
+      named-resend : (s : ServerState) → namesResend s ≡ isHeld s
       named-resend (Idle idle) = unfold isHeld in refl
       named-resend Collect = unfold isHeld in refl
       named-resend Running = unfold isHeld in refl
       named-resend Replying = unfold isHeld in refl
       named-resend (Held reply) = unfold isHeld in refl
+
+-- RUNNING alone runs.
+running-is : (s : ServerState) → runs s ≡ true → s ≡ Running
+running-is (Idle idle) e = absurd (false≢true e)
+running-is Collect e = absurd (false≢true e)
+running-is Running e = refl
+running-is Replying e = absurd (false≢true e)
+running-is (Held reply) e = absurd (false≢true e)
 
 -- An armed ticket is at most the counter of its side.
 armed-in-most : (w : World) → Inv w → (timer : TimerOf) (ticket : ℕ) → timerIn w timer ≡ Armed ticket → ticket ≤ counterOf w timer
@@ -142,7 +151,7 @@ only-grows w events fair before after split same =
 
 -- After every fair list of events of a fresh world the claim holds.
 pub theorem : (w : World) → Fresh w → (events : List Event) → Fair w events → Claim w events
-unfolding AtMostOnce RepliesToDispatches WholeReplies WholeWhereAnswered LateTimers
+unfolding AtMostOnce WholeWhereRunning RepliesToDispatches WholeReplies WholeWhereAnswered LateTimers
 theorem w fresh events fair =
     let start = fresh-inv w fresh in
     let inv = run-inv w events start fair in
@@ -160,6 +169,7 @@ theorem w fresh events fair =
           };
       once = inv .calls .once;
       whole = whole-messages (run w events) inv;
+      running = λ e. let r = inv .server .running (running-is (run w events .server .machine .state) e) in record { ran = r .ran; last = r .entry };
       replied = inv .calls .replied;
       reply = one-reply (run w events) inv;
       complete = inv .completed;

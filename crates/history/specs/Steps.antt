@@ -8,6 +8,7 @@ use lib.ListN.{length}
 use Rattle.words.specs.Choice.{choose}
 use Rattle.answers.specs.declared.Answer.{Answer}
 use Rattle.answers.specs.Number.{numberOf}
+use Rattle.calls.specs.declared.Call.{Call}
 use Rattle.calls.specs.declared.Notice.{Notice}
 use Rattle.calls.specs.declared.Notice.the-variants.{Nothing as Untold, Last, Count, Fault as FaultNotice, Reject, Cause, Dispatch}
 use Rattle.calls.specs.declared.Sent.{Sent}
@@ -135,14 +136,14 @@ sideAfter side t ordinal =
 
 -- A start goes on the books, where it is answered 0: as many were before it, and it has the number that the client
 -- then has.
-abbrev pub startedAfter : List Started → Turn Client → Bool → List ℕ → List Started
-startedAfter before t idempotent message =
+abbrev pub startedAfter : List Started → Turn Client → Call → List ℕ → List Started
+startedAfter before t call message =
     choose (isDone (t .answer))
-    (andThen before (record { ordinal = length before; number = t .machine .number; idempotent = idempotent; message = message }))
+    (andThen before (record { ordinal = length before; number = t .machine .number; call = call; message = message }))
     before
 
 abbrev pub startsAfter : List Started → ClientEvent → Turn Client → List Started
-startsAfter before (Start call n message) t = startedAfter before t (call .idempotent) message
+startsAfter before (Start call n message) t = startedAfter before t call message
 startsAfter before (ClientTransmit message out) t = before
 startsAfter before (ClientArrive p lent out) t = before
 startsAfter before (ClientTimer kind ticket out) t = before
@@ -161,34 +162,35 @@ repliesAfter b (Fault status out) t = b .replies
 
 -- What a turn of the server is of: the start and the number of what it sends or dispatches, and where the record
 -- stands after it. An arrival is of the PDU that arrives, any other of the record.
-pub record CallOf : Type 0 where
+pub record Subject : Type 0 where
   pub ordinal : ℕ
   pub number : ℕ
   pub standing : ℕ
 
-abbrev pub ofRecord : World → CallOf
+abbrev pub ofRecord : World → Subject
 ofRecord w = record { ordinal = w .books .standing; number = w .server .machine .number; standing = w .books .standing }
 
-abbrev pub ofArrival : World → SentPdu → Answer → CallOf
+abbrev pub ofArrival : World → SentPdu → Answer → Subject
 ofArrival w p answer = record {
   ordinal = p .ordinal;
   number = reading (p .bytes) .header .number;
   standing = standingAfter (w .books .standing) answer (reading (p .bytes) .header .kind) (p .ordinal);
 }
 
-abbrev pub callOf : World → ServerEvent → Answer → CallOf
-callOf w (ServerArrive p lent out) answer = ofArrival w p answer
-callOf w (ServerTransmit message out) answer = ofRecord w
-callOf w (ServerTimer ticket out) answer = ofRecord w
-callOf w (Reply n message) answer = ofRecord w
-callOf w (Fault status out) answer = ofRecord w
+abbrev pub subjectOf : World → ServerEvent → Answer → Subject
+subjectOf w (ServerArrive p lent out) answer = ofArrival w p answer
+subjectOf w (ServerTransmit message out) answer = ofRecord w
+subjectOf w (ServerTimer ticket out) answer = ofRecord w
+subjectOf w (Reply n message) answer = ofRecord w
+subjectOf w (Fault status out) answer = ofRecord w
 
 -- What the stub has when it is told "last", and what it has when it is told "dispatch": what is then handed up.
-abbrev pub completionOf : List Started → Client → List ℕ → Completed
-completionOf starts c slots = record { ordinal = lastStart starts; bytes = clientHandsUp c slots }
+abbrev pub completionEntry : List Started → Client → List ℕ → Completed
+completionEntry starts c slots = record { ordinal = lastStart starts; bytes = clientHandsUp c slots }
 
-abbrev pub dispatchOf : CallOf → Server → List ℕ → Dispatched
-dispatchOf of s slots = record { ordinal = of .ordinal; number = of .number; bytes = serverHandsUp s slots }
+abbrev pub dispatchEntry : Subject → Server → List ℕ → Dispatched
+dispatchEntry of s slots =
+    record { ordinal = of .ordinal; number = of .number; call = s .call; bytes = serverHandsUp s slots }
 
 -- The world after a turn of the client, with the starts then: what it sends and what it tells complete is of the
 -- last start.
@@ -201,20 +203,20 @@ clientWorld w t starts = record {
         starts = starts;
         dispatches = w .books .dispatches;
         replies = w .books .replies;
-        completions = completionsAfter (w .books .completions) (t .notice) (completionOf starts (t .machine) (t .slots));
+        completions = completionsAfter (w .books .completions) (t .notice) (completionEntry starts (t .machine) (t .slots));
         standing = w .books .standing;
       };
 }
 
 -- The world after a turn of the server, with what it is of and the replies then.
-abbrev pub serverWorld : World → Turn Server → CallOf → List Replied → World
+abbrev pub serverWorld : World → Turn Server → Subject → List Replied → World
 serverWorld w t of replies = record {
   client = w .client;
   server = sideAfter (w .server) t (of .ordinal);
   books =
       record {
         starts = w .books .starts;
-        dispatches = dispatchesAfter (w .books .dispatches) (t .notice) (dispatchOf of (t .machine) (t .slots));
+        dispatches = dispatchesAfter (w .books .dispatches) (t .notice) (dispatchEntry of (t .machine) (t .slots));
         replies = replies;
         completions = w .books .completions;
         standing = of .standing;
@@ -237,7 +239,7 @@ happens w (OfClient e) =
     (clientWorld w (clientTurn (w .client) e) (startsAfter (w .books .starts) e (clientTurn (w .client) e)))
 happens w (OfServer e) =
     happened (serverTurn (w .server) e)
-    (serverWorld w (serverTurn (w .server) e) (callOf w e (serverTurn (w .server) e .answer))
+    (serverWorld w (serverTurn (w .server) e) (subjectOf w e (serverTurn (w .server) e .answer))
     (repliesAfter (w .books) e (serverTurn (w .server) e)))
 
 -- The answer, the notice, what is left in the PDU buffer, and the world after it.

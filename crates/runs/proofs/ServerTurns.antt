@@ -19,14 +19,14 @@ use Rattle.fragments.specs.Slots.{storing}
 use Rattle.calls.specs.declared.Sent.the-variants.{Nothing as Unsent}
 use Rattle.history.specs.World.{World}
 use Rattle.history.specs.Events.{Own, ServerTransmit, ServerArrive, ServerTimer, OfServer}
-use Rattle.history.specs.Steps.{standingAfter, CallOf, ofRecord, bytesLent, ownAfter, happens, step, answerTo}
+use Rattle.history.specs.Steps.{standingAfter, Subject, ofRecord, bytesLent, ownAfter, happens, step, answerTo}
 use Rattle.history.proofs.Network.{pduOf, Uuids}
 use Rattle.history.proofs.ServerSends.{serverPdus, server-sent}
 use Rattle.history.proofs.Invariant.{serverStep}
 use Rattle.runs.proofs.Stories.{Makes, Carried}
 
 -- The world after a plan of the server.
-abbrev pub serverLeft : World → Plan → Header → List ℕ → List ℕ → CallOf → World
+abbrev pub serverLeft : World → Plan → Header → List ℕ → List ℕ → Subject → World
 serverLeft w plan h message slots of = record {
   client = w .client;
   server =
@@ -38,10 +38,10 @@ serverLeft w plan h message slots of = record {
   books = serverStep w (outcomeOf plan Unsent) [] slots of .books;
 }
 
-abbrev serverDone : World → Plan → Header → List ℕ → List ℕ → List ℕ → CallOf → World
+abbrev serverDone : World → Plan → Header → List ℕ → List ℕ → List ℕ → Subject → World
 serverDone w plan h message out slots of = serverStep w (sending plan h message out .outcome) (sending plan h message out .out) slots of
 
-server-left : (w : World) (plan : Plan) (h : Header) (message out slots : List ℕ) (of : CallOf) → Uuids (plan .server .activity) (plan .server .call)
+server-left : (w : World) (plan : Plan) (h : Header) (message out slots : List ℕ) (of : Subject) → Uuids (plan .server .activity) (plan .server .call)
     → Uuids (plan .server .activity) (echoed h) → length out ≡ 1472
     → serverDone w plan h message out slots of ≡ serverLeft w plan h message slots of
 unfolding sending outcomeOf
@@ -67,7 +67,7 @@ abbrev pub serverArrival : Server → Header → List ℕ → Plan
 serverArrival s h body = planOf s (lentGround 44544 1472) (accepted h) body
 
 -- What the arrival of a PDU with that header is of.
-abbrev ofHeader : World → ℕ → Header → Answer → CallOf
+abbrev ofHeader : World → ℕ → Header → Answer → Subject
 ofHeader w o h answer = record { ordinal = o; number = h .number; standing = standingAfter (w .books .standing) answer (h .kind) o }
 
 module _ (w : World) (out : List ℕ) (room : length out ≡ 1472) where
