@@ -31,7 +31,8 @@ use Rattle.client_record.proofs.RuleLaws.{rules-told}
 use Rattle.client_table.specs.declared.Event.{Event}
 use Rattle.client_table.specs.declared.Event.the-variants.{Response as ResponseEvent, Fault, Reject, Working, Nocall, Fack as FackEvent, Foreign}
 use Rattle.client_table.specs.Events.{eventOf, byEvent, hasRow}
-use Rattle.client_steps.specs.declared.Send.the-variants.{Nothing}
+use Rattle.client_steps.specs.declared.Send.{Send}
+use Rattle.client_steps.specs.declared.Send.the-variants.{Nothing, Request as SendRequest, Ping, Ack, Fack}
 use Rattle.client_steps.specs.Plan.{refused, accepted, failed}
 use Rattle.client_arrivals.specs.Rows.{putNotice, fackPlan, putRecord, withIncoming, fackFor, putPlan, responsePlan, workingPlan, resent, nocallPlan}
 use Rattle.client_arrivals.specs.Table.{arrivalRow, arrivalPlan}
@@ -45,6 +46,7 @@ use Rattle.history.specs.World.{Started, Completed, Replied, SentPdu, Wo
 use Rattle.history.specs.Steps.{lastStart, completionsAfter, completionEntry}
 use Rattle.history.specs.Claim.{WholeReply, hasReply}
 use Rattle.history.proofs.Holding.{Buffer, Slotted, Short, CanPut, can-put, PartOf, unheld-unfinished, holding-whole, Holding, Single, empty-holding, put-holding, put-slotted, other-empty}
+use Rattle.history.proofs.Types.{IsResponse, response-kind}
 use Rattle.history.proofs.Network.{Request, Response}
 use Rattle.history.proofs.Ordinals.{equal-start}
 use Rattle.history.proofs.More.{current-on}
@@ -143,7 +145,7 @@ put-same false mark c m = record { activity = refl; number = refl; call = refl; 
 
 -- The row of an arriving PDU that passed: what is known of the client stays known.
 module _ (w : World) (inv : Inv w) (o : ℕ) (h : Header) (body : List ℕ) (status : ℕ) (kept : sound (w .client .machine) ≡ true) (whole : Buffer (w .client .slots))
-    (short : Short body) (known : eventOf (h .kind) ≡ ResponseEvent → Response (w .books .replies) o h body) where
+    (short : Short body) (known : IsResponse (h .kind) → Response (w .books .replies) o h body) where
   -- A response that has the client's number is of its last start.
   mine : (from : Response (w .books .replies) o h body) → isQueued (w .client .machine .state) ≡ false → w .client .machine .number ≡ h .number → from .reply .ordinal ≡ lastStart (w .books .starts)
   mine from begun e =
@@ -165,7 +167,7 @@ module _ (w : World) (inv : Inv w) (o : ℕ) (h : Header) (body : List ℕ) (sta
       let m = stored (c .incoming) (h .fragment) (bodyLength body) (isLast (h .flags1)) in
       let begun = active-state (c .state) (j .row) in
       let same = put-same (complete m) (c .call .idempotent) c m in
-      let from = known e in
+      let from = known (response-kind (h .kind) e) in
       let number = fragment-passes (h .flags1) (h .fragment) (j .number) in
       let new = put-passes (c .incoming) (h .fragment) (isLast (h .flags1)) (j .fits) in
       record {
@@ -212,44 +214,38 @@ module _ (w : World) (inv : Inv w) (o : ℕ) (h : Header) (body : List ℕ) (sta
   row-inv FackEvent j e = other FackEvent j (active-state (w .client .machine .state) (j .row)) (fack-goes-on (w .client .machine) (h .fragment) (active-state (w .client .machine .state) (j .row)))
   row-inv Foreign j e = absurd (false≢true (j .row))
 
--- No row of an arriving PDU sends a request,
-fack-asks-none : (wanted : Bool) (serial : ℕ) → asks (fackFor wanted serial) ≡ false
-unfolding fackFor choose
-fack-asks-none true serial = refl
-fack-asks-none false serial = refl
+-- A row of an arriving PDU sends nothing or a fack, so no request and no ack.
+abbrev sendsFack : Send → Bool
+sendsFack Nothing = true
+sendsFack (SendRequest f) = false
+sendsFack Ping = false
+sendsFack Ack = false
+sendsFack (Fack serial) = true
 
-row-asks-none : (event : Event) (c : Client) (h : Header) (n status : ℕ) → asks (arrivalRow event c h n status .send) ≡ false
-unfolding arrivalRow responsePlan putPlan failed accepted workingPlan nocallPlan fackPlan refused choose
-row-asks-none ResponseEvent c h n status = fack-asks-none (wantsFack (h .flags1)) (h .serial)
-row-asks-none Fault c h n status = refl
-row-asks-none Reject c h n status = refl
-row-asks-none Working c h n status = refl
-row-asks-none Nocall c h n status = by-count (ltb (c .resends) 5)
-  where
-    by-count : (t : Bool) → asks (choose t (accepted (resent c) Nothing Untold) (failed c (Cause 2)) .send) ≡ false
-    by-count true = refl
-    by-count false = refl
-row-asks-none FackEvent c h n status = refl
-row-asks-none Foreign c h n status = refl
+fack-alone : (send : Send) → sendsFack send ≡ true → (asks send ≡ false) × (acknowledges send ≡ false)
+fack-alone Nothing e = (refl, refl)
+fack-alone (SendRequest f) e = absurd (false≢true e)
+fack-alone Ping e = absurd (false≢true e)
+fack-alone Ack e = absurd (false≢true e)
+fack-alone (Fack serial) e = (refl, refl)
 
--- nor an ack.
-row-acknowledges-none : (event : Event) (c : Client) (h : Header) (n status : ℕ) → acknowledges (arrivalRow event c h n status .send) ≡ false
+row-sends : (event : Event) (c : Client) (h : Header) (n status : ℕ) → sendsFack (arrivalRow event c h n status .send) ≡ true
 unfolding arrivalRow responsePlan putPlan failed accepted workingPlan nocallPlan fackPlan refused choose
-row-acknowledges-none ResponseEvent c h n status = by-fack (wantsFack (h .flags1))
+row-sends ResponseEvent c h n status = by-fack (wantsFack (h .flags1))
   where
-    by-fack : (wanted : Bool) → acknowledges (fackFor wanted (h .serial)) ≡ false
+    by-fack : (wanted : Bool) → sendsFack (fackFor wanted (h .serial)) ≡ true
     by-fack true = unfold fackFor choose in refl
     by-fack false = unfold fackFor choose in refl
-row-acknowledges-none Fault c h n status = refl
-row-acknowledges-none Reject c h n status = refl
-row-acknowledges-none Working c h n status = refl
-row-acknowledges-none Nocall c h n status = by-count (ltb (c .resends) 5)
+row-sends Fault c h n status = refl
+row-sends Reject c h n status = refl
+row-sends Working c h n status = refl
+row-sends Nocall c h n status = by-count (ltb (c .resends) 5)
   where
-    by-count : (t : Bool) → acknowledges (choose t (accepted (resent c) Nothing Untold) (failed c (Cause 2)) .send) ≡ false
+    by-count : (t : Bool) → sendsFack (choose t (accepted (resent c) Nothing Untold) (failed c (Cause 2)) .send) ≡ true
     by-count true = refl
     by-count false = refl
-row-acknowledges-none FackEvent c h n status = refl
-row-acknowledges-none Foreign c h n status = refl
+row-sends FackEvent c h n status = refl
+row-sends Foreign c h n status = refl
 
 -- A PDU that arrives has a row in an active call alone.
 arrived-active : (event : Event) (c : Client) → hasRow event (isActive (c .state)) (isDispatched (c .state)) ≡ true → isActive (c .state) ≡ true
@@ -314,6 +310,7 @@ client-arrive-inv w p out inv done sent =
     (inv .responses p sent .told (j .0 .done)) event (j .1) refl in
     let active = arrived-active event c (j .1 .row) in
     let begun = active-state (c .state) active in
+    let sends = fack-alone (arrivalRow event c (r .header) n status .send) (row-sends event c (r .header) n status) in
     subst
     (λ (x : Ground).
     Inv
@@ -323,8 +320,8 @@ client-arrive-inv w p out inv done sent =
     (planned w (arrivalRow event c (r .header) n status) [] out
     (storing (arrivalRow event c (r .header) n status .put) (r .header .fragment) body (w .client .slots)) inv next
     (still event c (r .header) n status begun) (buffers .1) (λ idle. absurd (false≢true (sym idle ∙ active)))
-    (λ e. absurd (false≢true (sym (row-acknowledges-none event c (r .header) n status) ∙ e))) (completed-known w inv (arrivalRow event c (r .header) n status .client)
+    (λ e. absurd (false≢true (sym (sends .1) ∙ e))) (completed-known w inv (arrivalRow event c (r .header) n status .client)
     (storing (arrivalRow event c (r .header) n status .put) (r .header .fragment) body (w .client .slots)) next (arrivalRow event c (r .header) n status .notice)
     (row-tells event c (r .header) n status))
     (others-known (Request (w .books .starts)) (lastStart (w .books .starts)) (arrivalRow event c (r .header) n status .send)
-    (arrivalRow event c (r .header) n status .client) [] (row-asks-none event c (r .header) n status)))
+    (arrivalRow event c (r .header) n status .client) [] (sends .0)))

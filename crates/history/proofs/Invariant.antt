@@ -12,8 +12,6 @@ use Rattle.pdu.specs.declared.Header.{Header}
 use Rattle.client_record.specs.declared.Client.{Client}
 use Rattle.client_record.specs.States.{isQueued, isActive}
 use Rattle.client_record.specs.Rules.{sound as clientSound}
-use Rattle.client_table.specs.declared.Event.the-variants.{Response as ResponseEvent}
-use Rattle.client_table.specs.Events.{eventOf as clientEventOf}
 use Rattle.server_record.specs.declared.Idle.the-variants.{Fresh, Spent, Repeatable}
 use Rattle.server_record.specs.declared.Reply.the-variants.{Data, Fault}
 use Rattle.server_record.specs.declared.State.{State}
@@ -21,8 +19,6 @@ use Rattle.server_record.specs.declared.State.the-variants.{Idle as IdleState, 
 use Rattle.server_record.specs.declared.Server.{Server}
 use Rattle.server_record.specs.States.{isFresh}
 use Rattle.server_record.specs.Rules.{sound as serverSound}
-use Rattle.server_rows.specs.declared.Event.the-variants.{Request as RequestEvent, Ack as AckEvent}
-use Rattle.server_rows.specs.Events.{eventOf as serverEventOf}
 use Rattle.client.specs.declared.Outcome.{Outcome as ClientOutcome}
 use Rattle.server.specs.declared.Outcome.{Outcome as ServerOutcome}
 use Rattle.history.specs.Lists.{In, OfLast}
@@ -31,6 +27,7 @@ use Rattle.history.specs.Steps.{dispatchEntry, lastStart, lastDispatched
 use Rattle.history.specs.Fairness.{OfLastStart, OfLastReply, Typed}
 use Rattle.history.specs.Claim.{times, DispatchOf, WholeReply, hasReply}
 use Rattle.history.proofs.Holding.{Slotted, Unheld, Holding, Empty, Single}
+use Rattle.history.proofs.Types.{IsRequest, IsAck, IsResponse}
 use Rattle.history.proofs.Network.{Request, Response, Known}
 
 -- The client's call is the last start.
@@ -164,17 +161,6 @@ pub record CallInv (starts : List Started) (dispatches : List Dispatched) (repli
   pub called : (d : Dispatched) → In d dispatches → d .number ≡ callNumber (d .ordinal)
   pub replied : (r : Replied) → In r replies → DispatchOf dispatches (r .ordinal)
   pub alike : (r t : Replied) → In r replies → In t replies → r .ordinal ≡ t .ordinal → (r ≡ t) ⊎ (Single (r .message) ⊎ Single (t .message))
-
--- What the server takes for a request, and the client for a response.
-abbrev pub IsRequest : ℕ → Type 0
-IsRequest kind = serverEventOf kind ≡ RequestEvent
-
-abbrev pub IsResponse : ℕ → Type 0
-IsResponse kind = clientEventOf kind ≡ ResponseEvent
-
--- What the server takes for an ack.
-abbrev pub IsAck : ℕ → Type 0
-IsAck kind = serverEventOf kind ≡ AckEvent
 
 -- A start that the client is done with: one before its last, or its last where the call is no longer active.
 abbrev pub Ended : Client → List Started → ℕ → Type 0

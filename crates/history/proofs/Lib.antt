@@ -2,6 +2,7 @@
 pub mod ListLaws
 pub mod Holding
 pub mod Ordinals
+pub mod Types
 pub mod Network
 pub mod Invariant
 pub mod More

@@ -1,7 +1,7 @@
 -- What is known stays known when more is on the books, and when the record goes on with its call.
 use Prim.Native.Nat.{ℕ}
 use mathlib.Core.List.{List}
-use mathlib.Core.Path.{_≡_, sym, ap, _∙_}
+use mathlib.Core.Path.{_≡_, sym, _∙_}
 use lib.ListN.{length}
 use Rattle.incoming.specs.declared.Incoming.{Incoming}
 use Rattle.pdu.specs.declared.Header.{Header}

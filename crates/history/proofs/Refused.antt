@@ -22,15 +22,18 @@ use Rattle.client_record.specs.declared.TimerKind.the-variants.{Wait, Ack}
 use Rattle.client_table.specs.Local.{namedTimer}
 use Rattle.client.proofs.Judging.{timer-passes as client-timer-passes}
 use Rattle.client.proofs.Accepting.{timer-accepted as client-timer-accepted}
-use Rattle.client.proofs.Refusals.{start-refused, transmit-refused as client-transmit-refused, timer-refused as client-timer-refused, arrive-refused as client-arrive-refused}
+use Rattle.client.proofs.Refusals.{StepUntouched as ClientStepUntouched, start-refused, transmit-refused as client-transmit-refused, timer-refused as client-timer-refused, arrive-refused as client-arrive-refused}
+use Rattle.calls.specs.Events.{Step}
 use Rattle.client_record.specs.declared.Client.{Client}
+use Rattle.client.specs.declared.Outcome.{Outcome as ClientOutcome}
 use Rattle.server_record.specs.declared.Server.{Server}
+use Rattle.server.specs.declared.Outcome.{Outcome as ServerOutcome}
 use Rattle.server.proofs.Judging.{timer-passes as server-timer-passes}
 use Rattle.server.proofs.Accepting.{timer-accepted as server-timer-accepted}
-use Rattle.server.proofs.Refusals.{reply-refused, transmit-refused as server-transmit-refused, fault-refused, timer-refused as server-timer-refused, arrive-refused as server-arrive-refused}
+use Rattle.server.proofs.Refusals.{StepUntouched as ServerStepUntouched, reply-refused, transmit-refused as server-transmit-refused, fault-refused, timer-refused as server-timer-refused, arrive-refused as server-arrive-refused}
 use Rattle.history.specs.World.{Started, Side, Books, World}
 use Rattle.history.specs.Events.{Lent, Own, Other, ClientEvent, ServerEvent, Event, Start, ClientTransmit, ClientArrive, ClientTimer, ServerArrive, ServerTransmit, ServerTimer, Reply, Fault, OfClient, OfServer}
-use Rattle.history.specs.Steps.{isDone, bytesLent, ownAfter, sentAfter, lastStart, dispatchesAfter, completionsAfter, lastDispatched, Turn, clientTurn, serverTurn, sideAfter, startsAfter, repliesAfter, subjectOf, completionEntry, dispatchEntry, happens, answerTo, noticeOf, leftIn, step}
+use Rattle.history.specs.Steps.{isDone, bytesLent, ownAfter, sentAfter, lastStart, dispatchesAfter, completionsAfter, lastDispatched, Turn, clientStepped, clientTurn, serverStepped, serverTurn, sideAfter, startsAfter, repliesAfter, subjectOf, completionEntry, dispatchEntry, happens, answerTo, noticeOf, leftIn, step}
 use Rattle.history.specs.Lists.{andThen}
 use Rattle.history.specs.Claim.{TimerOf, OnClient, OnServer, timerIn, timerEvent, ChangesNothing}
 
@@ -71,14 +74,22 @@ pub record Untouched {Machine : Type 0} (side : Side Machine) (out : List ℕ) (
   pub notice : t .notice ≡ Untold
   pub buffer : t .out ≡ out
 
+-- What its machine leaves untouched is such a turn: the client,
+client-step-same : (c : Side Client) (out : List ℕ) (s : Step ClientOutcome) → ClientStepUntouched (c .machine) out s → Untouched c out (clientStepped c s)
+client-step-same c out s u =
+    record { machine = u .outcome .client; slots = refl; sent = u .outcome .sent; notice = u .outcome .notice; buffer = u .buffer }
+
+-- and the server.
+server-step-same : (s : Side Server) (out : List ℕ) (t : Step ServerOutcome) → ServerStepUntouched (s .machine) out t → Untouched s out (serverStepped s t)
+server-step-same s out t u =
+    record { machine = u .outcome .server; slots = refl; sent = u .outcome .sent; notice = u .outcome .notice; buffer = u .buffer }
+
 -- Every event that is not answered 0 is such: the client's,
 pub client-refused : (c : Side Client) (e : ClientEvent) → (clientTurn c e .answer ≡ Done → ⊥) → Untouched c (clientBuffer e) (clientTurn c e)
 client-refused c (Start call n message) other =
     let same = start-refused (c .machine) call n other in
     record { machine = same .client; slots = refl; sent = same .sent; notice = same .notice; buffer = refl }
-client-refused c (ClientTransmit message out) other =
-    let same = client-transmit-refused (c .machine) message out other in
-    record { machine = same .outcome .client; slots = refl; sent = same .outcome .sent; notice = same .outcome .notice; buffer = same .buffer }
+client-refused c (ClientTransmit message out) other = client-step-same c out _ (client-transmit-refused (c .machine) message out other)
 client-refused c (ClientArrive p lent out) other =
     let same = client-arrive-refused (c .machine) (p .bytes) (bytesLent lent (c .slots)) out other in
     record {
@@ -88,9 +99,7 @@ client-refused c (ClientArrive p lent out) other =
       notice = same .outcome .notice;
       buffer = same .buffer;
     }
-client-refused c (ClientTimer kind ticket out) other =
-    let same = client-timer-refused (c .machine) kind ticket out other in
-    record { machine = same .outcome .client; slots = refl; sent = same .outcome .sent; notice = same .outcome .notice; buffer = same .buffer }
+client-refused c (ClientTimer kind ticket out) other = client-step-same c out _ (client-timer-refused (c .machine) kind ticket out other)
 
 -- and the server's.
 pub server-refused : (s : Side Server) (e : ServerEvent) → (serverTurn s e .answer ≡ Done → ⊥) → Untouched s (serverBuffer e) (serverTurn s e)
@@ -103,18 +112,12 @@ server-refused s (ServerArrive p lent out) other =
       notice = same .outcome .notice;
       buffer = same .buffer;
     }
-server-refused s (ServerTransmit message out) other =
-    let same = server-transmit-refused (s .machine) message out other in
-    record { machine = same .outcome .server; slots = refl; sent = same .outcome .sent; notice = same .outcome .notice; buffer = same .buffer }
-server-refused s (ServerTimer ticket out) other =
-    let same = server-timer-refused (s .machine) ticket out other in
-    record { machine = same .outcome .server; slots = refl; sent = same .outcome .sent; notice = same .outcome .notice; buffer = same .buffer }
+server-refused s (ServerTransmit message out) other = server-step-same s out _ (server-transmit-refused (s .machine) message out other)
+server-refused s (ServerTimer ticket out) other = server-step-same s out _ (server-timer-refused (s .machine) ticket out other)
 server-refused s (Reply n message) other =
     let same = reply-refused (s .machine) n other in
     record { machine = same .server; slots = refl; sent = same .sent; notice = same .notice; buffer = refl }
-server-refused s (Fault status out) other =
-    let same = fault-refused (s .machine) status out other in
-    record { machine = same .outcome .server; slots = refl; sent = same .outcome .sent; notice = same .outcome .notice; buffer = same .buffer }
+server-refused s (Fault status out) other = server-step-same s out _ (fault-refused (s .machine) status out other)
 
 -- Such a turn leaves its side,
 side-same : {Machine : Type 0} (side : Side Machine) (out : List ℕ) (t : Turn Machine) (ordinal : ℕ) → Untouched side out t → sideAfter side t ordinal ≡ side

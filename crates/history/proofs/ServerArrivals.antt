@@ -5,7 +5,7 @@ use mathlib.Core.List.{List, []}
 use mathlib.Core.Logic.{_⊎_, inl, inr}
 use mathlib.Core.Path.{_≡_, refl, sym, ap, subst, _∙_}
 use native.Mathlib.Omega.{arith}
-use lib.Dec.{eqb, leb}
+use lib.Dec.{eqb}
 use lib.ListN.{length}
 use borrow.Author.Tests.{eqb-true}
 use Rattle.words.specs.Choice.{choose}
@@ -35,12 +35,10 @@ use Rattle.server_record.specs.declared.Server.{Server}
 use Rattle.server_record.specs.States.{isFresh, isRunning, isHeld}
 use Rattle.server_record.specs.Rules.{sound}
 use Rattle.server_record.proofs.StateLaws.{held-state}
-use Rattle.server_rows.specs.declared.Event.{Event}
-use Rattle.server_rows.specs.declared.Event.the-variants.{Request as RequestEvent, Ping as PingEvent, Ack as AckEvent, Fack as FackEvent, Foreign as ForeignEvent}
 use Rattle.server_rows.specs.declared.Order.the-variants.{Equal, Newer}
 use Rattle.server_rows.specs.declared.Row.{Row}
 use Rattle.server_rows.specs.declared.Row.the-variants.{Old, Missing, Repeat, Begin, Put, Working, Nocall, Replay, Acknowledge, Finish}
-use Rattle.server_rows.specs.Events.{eventOf, clientEvent}
+use Rattle.server_rows.specs.Events.{eventOf}
 use Rattle.server_rows.specs.Rows.{orderFor, rowFor}
 use Rattle.server_table.specs.Arrival.{oldGround, rowGround}
 use Rattle.server_rows.proofs.TableLaws.{newer-told, equal-told, begin-told, put-told, working-told, nocall-told, replay-told, acknowledge-told, finish-told}
@@ -61,48 +59,15 @@ use Rattle.history.specs.Fairness.{Typed}
 use Rattle.history.proofs.Holding.{Buffer, Short, can-put, can-begin}
 use Rattle.history.proofs.Network.{Request, Response, read-sized}
 use Rattle.history.proofs.Invariant.{unanswered, hasData, NewTo, ServerInv, Inv, serverStep}
+use Rattle.history.proofs.Types.{IsRequest, kind-request, request-kind, no-ping}
 use Rattle.history.proofs.Ordinals.{newer-start, equal-start}
 use Rattle.history.proofs.ServerSteps.{past, past-called, goes-on, rewinding-goes-on, spent-goes-on, stays-goes-on}
 use Rattle.history.proofs.ServerSends.{answers, ofCall, pdu-uuids, others-known, planned}
 use Rattle.history.proofs.ServerPuts.{Begins, begun-inv, put-inv}
 
--- The server takes type 0 alone for a request.
-abbrev isPing : Event → Bool
-isPing RequestEvent = false
-isPing PingEvent = true
-isPing AckEvent = false
-isPing FackEvent = false
-isPing ForeignEvent = false
-
-no-ping : PingEvent ≡ RequestEvent → ⊥
-no-ping e = false≢true (sym (ap isPing e))
-
-kind-request : (kind : ℕ) → eqb kind 0 ≡ true → eventOf kind ≡ RequestEvent
-unfolding eventOf clientEvent choose
-kind-request kind e = ap eventOf (eqb-true kind 0 e)
-
-request-kind : (kind : ℕ) → eventOf kind ≡ RequestEvent → eqb kind 0 ≡ true
-unfolding eventOf clientEvent choose
-request-kind kind e = by-zero (eqb kind 0) refl (leb kind 1) (eqb kind 7) (eqb kind 9) e
-  where
-    isRequest : Event → Bool
-    isRequest RequestEvent = true
-    isRequest PingEvent = false
-    isRequest AckEvent = false
-    isRequest FackEvent = false
-    isRequest ForeignEvent = false
-
-    by-zero : (t : Bool) → eqb kind 0 ≡ t → (a b c : Bool)
-        → choose a (choose t RequestEvent PingEvent) (choose b AckEvent (choose c FackEvent ForeignEvent)) ≡ RequestEvent → t ≡ true
-    by-zero true z a b c q = refl
-    by-zero false z true b c q = absurd (false≢true (ap isRequest q))
-    by-zero false z false true c q = absurd (false≢true (ap isRequest q))
-    by-zero false z false false true q = absurd (false≢true (ap isRequest q))
-    by-zero false z false false false q = absurd (false≢true (ap isRequest q))
-
 -- The row of an arriving PDU that passed.
 module _ (w : World) (inv : Inv w) (o : ℕ) (h : Header) (body : List ℕ) (j : CanArrive (w .server .machine) h) (whole : Buffer (w .server .slots))
-    (short : Short body) (sized : Sized h) (known : eventOf (h .kind) ≡ RequestEvent → Request (w .books .starts) o h body)
+    (short : Short body) (sized : Sized h) (known : IsRequest (h .kind) → Request (w .books .starts) o h body)
     (out : List ℕ) (room : length out ≡ 1472) where
   abbrev s : Server
   s = w .server .machine
@@ -111,9 +76,9 @@ module _ (w : World) (inv : Inv w) (o : ℕ) (h : Header) (body : List ℕ) (j :
   abbrev stands : ℕ
   stands = standingAfter (w .books .standing) Done (h .kind) o
 
-  stands-at : eventOf (h .kind) ≡ RequestEvent → stands ≡ o
+  stands-at : IsRequest (h .kind) → stands ≡ o
   unfolding choose
-  stands-at e = ap (λ (t : Bool). choose t o (w .books .standing)) (request-kind (h .kind) e)
+  stands-at e = ap (λ (k : ℕ). standingAfter (w .books .standing) Done k o) e
 
   -- A request is of a start up to the client's last one, and so is the record's call.
   sent-most : Request (w .books .starts) o h body → o ≤ lastStart (w .books .starts)
@@ -152,12 +117,12 @@ module _ (w : World) (inv : Inv w) (o : ℕ) (h : Header) (body : List ℕ) (j :
       (sym (inv .server .called (told .0) .number) ∙ told .1 ∙ request .number)
 
   -- So where no other request than an equal one is taken, the record stands where it stood.
-  settles : (eventOf (h .kind) ≡ RequestEvent → orderFor s h ≡ Equal) → w .books .standing ≡ stands
+  settles : (IsRequest (h .kind) → orderFor s h ≡ Equal) → w .books .standing ≡ stands
   unfolding choose
   settles equal = by-kind (eqb (h .kind) 0) refl
     where
       by-kind : (t : Bool) → eqb (h .kind) 0 ≡ t → w .books .standing ≡ choose t o (w .books .standing)
-      by-kind true e = let is = kind-request (h .kind) e in equal-ordinal (known is) (equal is)
+      by-kind true e = let is = eqb-true (h .kind) 0 e in equal-ordinal (known is) (equal is)
       by-kind false e = refl
 
   -- The world after a plan for it, by where the record then stands.
@@ -175,7 +140,7 @@ module _ (w : World) (inv : Inv w) (o : ℕ) (h : Header) (body : List ℕ) (j :
   -- A plan that puts nothing, tells nothing and sends no response.
   quiet-inv : (plan : Plan) → plan .put ≡ false → plan .notice ≡ Untold → answers (plan .send) ≡ false → (ofCall (plan .send) ≡ true → Typed (plan .server .call))
       → ServerInv (plan .server) (w .books .standing) (w .server .slots) (w .books .starts) (w .books .dispatches) (w .books .replies)
-      → (eventOf (h .kind) ≡ RequestEvent → orderFor s h ≡ Equal) → Inv (After plan)
+      → (IsRequest (h .kind) → orderFor s h ≡ Equal) → Inv (After plan)
   unfolding storing choose
   quiet-inv plan unput untold none typed server equal =
       subst
@@ -188,11 +153,12 @@ module _ (w : World) (inv : Inv w) (o : ℕ) (h : Header) (body : List ℕ) (j :
       (others-known (Response (w .books .replies)) o (plan .send) (plan .server) h [] none))
 
   -- Begin: the request is newer, or repeats an idempotent call.
-  begins : rowFor s h ≡ Begin → (eventOf (h .kind) ≡ RequestEvent) × Begins s (w .books .standing) o h
+  begins : rowFor s h ≡ Begin → IsRequest (h .kind) × Begins s (w .books .standing) o h
   unfolding rowFor
   begins e =
       let told = begin-told (eventOf (h .kind)) (orderFor s h) (s .state) (hasFlag idempotent (h .flags1)) (s .call .idempotent) e in
-      (told .0, by-order (known (told .0)) (told .1))
+      let is = request-kind (h .kind) (told .0) in
+      (is, by-order (known is) (told .1))
     where
       by-order : Request (w .books .starts) o h body → ((orderFor s h ≡ Newer) × (isRunning (s .state) ≡ false))
           ⊎ ((orderFor s h ≡ Equal) × (s .state ≡ IdleState Repeatable) × (hasFlag idempotent (h .flags1) ≡ true))
@@ -218,8 +184,9 @@ module _ (w : World) (inv : Inv w) (o : ℕ) (h : Header) (body : List ℕ) (j :
   put-row-inv e =
       let told = put-told (eventOf (h .kind)) (orderFor s h) (s .state) (hasFlag idempotent (h .flags1)) (s .call .idempotent) e in
       let fits = put-fits s h j e in
-      let request = known (told .0) in
-      subst (λ (n : ℕ). Inv (AfterAt (requestPlan s (h .flags1) (h .serial) (h .fragment) (bodyLength body)) n)) (sym (stands-at (told .0)))
+      let is = request-kind (h .kind) (told .0) in
+      let request = known is in
+      subst (λ (n : ℕ). Inv (AfterAt (requestPlan s (h .flags1) (h .serial) (h .fragment) (bodyLength body)) n)) (sym (stands-at is))
       (put-inv w inv s o
       (subst (λ (n : ℕ). ServerInv s n (w .server .slots) (w .books .starts) (w .books .dispatches) (w .books .replies)) (equal-ordinal request (told .1)) (inv .server))
       (told .2) h body request short (can-put (s .incoming) (h .flags1) (h .fragment) (fits .0) (fits .1) (fits .2)) out room)
@@ -287,7 +254,7 @@ module _ (w : World) (inv : Inv w) (o : ℕ) (h : Header) (body : List ℕ) (j :
       (λ x.
       absurd
       (no-ping
-      (sym (nocall-told (eventOf (h .kind)) (orderFor s h) (s .state) (hasFlag idempotent (h .flags1)) (s .call .idempotent) e) ∙ x)))
+      (sym (nocall-told (eventOf (h .kind)) (orderFor s h) (s .state) (hasFlag idempotent (h .flags1)) (s .call .idempotent) e) ∙ kind-request (h .kind) x)))
   by-row Replay e = replay-row-inv e
   by-row Acknowledge e = fack-inv e
   by-row Finish e = ack-inv e

@@ -42,7 +42,8 @@ use Rattle.history.proofs.ListLaws.{Within, within-grown, in-added, in-
 use Rattle.history.proofs.Holding.{Single}
 use Rattle.history.proofs.Network.{Response, more-known}
 use Rattle.history.proofs.More.{response-more, whole-reply-more, more-replies, called-on}
-use Rattle.history.proofs.Invariant.{ClientInv, unanswered, hasData, NewTo, new-on, ServerInv, IsResponse, Inv, serverStep, replyStep}
+use Rattle.history.proofs.Types.{IsResponse}
+use Rattle.history.proofs.Invariant.{ClientInv, unanswered, hasData, NewTo, new-on, ServerInv, Inv, serverStep, replyStep}
 use Rattle.history.proofs.ServerSteps.{goes-on, settled-goes-on, transmitted-goes-on, resend-goes-on}
 use Rattle.history.proofs.ServerSends.{answers, record-uuids, others-known, all-single, response-sent, transmitted-counts, planned}
 

@@ -42,7 +42,8 @@ use Rattle.history.proofs.ListLaws.{within-grown, added-last, in-added,
 use Rattle.history.proofs.Holding.{Buffer, Short, CanPut, cleared-empty, PartOf, Holding, Single, empty-holding, put-holding, put-sound, put-slotted, holding-whole}
 use Rattle.history.proofs.Network.{Request, Response, Known}
 use Rattle.history.proofs.More.{more-dispatches, called-on}
-use Rattle.history.proofs.Invariant.{entryOf, DispatchedStart, Collecting, unanswered, NewTo, new-on, ServerInv, CallInv, IsResponse, Inv, serverStep}
+use Rattle.history.proofs.Types.{IsResponse}
+use Rattle.history.proofs.Invariant.{entryOf, DispatchedStart, Collecting, unanswered, NewTo, new-on, ServerInv, CallInv, Inv, serverStep}
 use Rattle.history.proofs.ServerSends.{answers, ofCall, pdu-uuids, sends-known, others-known}
 
 -- A record that has begun keeps its rules.

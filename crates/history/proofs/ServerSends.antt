@@ -7,7 +7,7 @@ use mathlib.Core.Path.{_≡_, refl, sym, ap, subst, _∙_}
 use native.Mathlib.Omega.{arith}
 use lib.Dec.{eqb}
 use lib.ListN.{length}
-use borrow.Author.Tests.{eqb-true}
+use borrow.Author.Tests.{eqb-true, eqb-false}
 use Rattle.words.specs.Choice.{choose}
 use Rattle.words.proofs.Tests.{both-true}
 use Rattle.bodies.specs.Fack.{fackBytes, fackSent as fackFields}
@@ -25,9 +25,6 @@ use Rattle.outgoing.proofs.SendLaws.{message-count-told, message-count-range}
 use Rattle.pdu.specs.declared.Header.{Header}
 use Rattle.pdu.specs.Header.{datagram, blank}
 use Rattle.writer.proofs.Returns.{Sized}
-use Rattle.client_table.specs.declared.Event.{Event as ClientEvent}
-use Rattle.client_table.specs.declared.Event.the-variants.{Response as ResponseEvent, Fault as FaultEvent, Reject as RejectEvent, Working as WorkingEvent, Nocall as NocallEvent, Fack as FackEvent, Foreign as ForeignEvent}
-use Rattle.client_table.specs.Events.{eventOf as clientEventOf, serverEvent}
 use Rattle.server_record.specs.declared.Reply.{Reply}
 use Rattle.server_record.specs.declared.Reply.the-variants.{Data}
 use Rattle.server_record.specs.declared.State.{State}
@@ -52,7 +49,8 @@ use Rattle.history.specs.Fairness.{OfLastReply, Typed}
 use Rattle.history.proofs.ListLaws.{All, all-appended}
 use Rattle.history.proofs.Holding.{PartOf, Single, flags-last}
 use Rattle.history.proofs.Network.{Response, Known, pduOf, other-known, same-known, Uuids, typed-uuids, posted, call-fits}
-use Rattle.history.proofs.Invariant.{CalledStart, CurrentReply, ServerInv, IsResponse, Inv, serverStep}
+use Rattle.history.proofs.Types.{IsResponse}
+use Rattle.history.proofs.Invariant.{CalledStart, CurrentReply, ServerInv, Inv, serverStep}
 use Rattle.history.proofs.ServerSteps.{GoesOn}
 
 -- Only transmit sends a response.
@@ -72,19 +70,6 @@ ofCall (SendFault status) = true
 ofCall Working = false
 ofCall Nocall = false
 ofCall (Fack serial) = false
-
--- The client takes type 2 alone for a response.
-abbrev isResponse : ClientEvent → Bool
-isResponse ResponseEvent = true
-isResponse FaultEvent = false
-isResponse RejectEvent = false
-isResponse WorkingEvent = false
-isResponse NocallEvent = false
-isResponse FackEvent = false
-isResponse ForeignEvent = false
-
-not-response : (kind : ℕ) → isResponse (clientEventOf kind) ≡ false → IsResponse kind → ⊥
-not-response kind e k = false≢true (sym e ∙ ap isResponse k)
 
 -- What the server sends, as it stands among what it has sent: nothing, or one PDU of that start; h is the header of
 -- the PDU answered.
@@ -136,13 +121,13 @@ sends-known K send s h message out before o z room known own d m =
 -- Whatever is sent but a response is known not to be one.
 pub others-known : (P : ℕ → Header → List ℕ → Type 0) (o : ℕ) (send : Send) (s : Server) (h : Header) (message : List ℕ) → answers send ≡ false
     → All (Known IsResponse P) (serverPdus o send s h message)
-unfolding replyHeader echoHeader sentHeader clientEventOf serverEvent choose
+unfolding replyHeader echoHeader sentHeader
 others-known P o Nothing s h message e = tt
 others-known P o (SendResponse f) s h message e = absurd (false≢true (sym e))
-others-known P o (SendFault status) s h message e = (other-known IsResponse P o (replyHeader 3 0 0 s) (statusBytes status) (not-response 3 refl), tt)
-others-known P o Working s h message e = (other-known IsResponse P o (echoHeader 4 0 s h) [] (not-response 4 refl), tt)
-others-known P o Nocall s h message e = (other-known IsResponse P o (echoHeader 5 0 s h) [] (not-response 5 refl), tt)
-others-known P o (Fack serial) s h message e = (other-known IsResponse P o (echoHeader 9 _ s h) _ (not-response 9 refl), tt)
+others-known P o (SendFault status) s h message e = (other-known IsResponse P o (replyHeader 3 0 0 s) (statusBytes status) (eqb-false 3 2 refl), tt)
+others-known P o Working s h message e = (other-known IsResponse P o (echoHeader 4 0 s h) [] (eqb-false 4 2 refl), tt)
+others-known P o Nocall s h message e = (other-known IsResponse P o (echoHeader 5 0 s h) [] (eqb-false 5 2 refl), tt)
+others-known P o (Fack serial) s h message e = (other-known IsResponse P o (echoHeader 9 _ s h) _ (eqb-false 9 2 refl), tt)
 
 -- A response that transmit sends is a fragment of the reply that is out.
 module _ (s : Server) (standing : ℕ) (starts : List Started) (replies : List Replied) (message : List ℕ) (called : CalledStart s standing starts)

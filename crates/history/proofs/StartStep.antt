@@ -28,11 +28,12 @@ use Rattle.history.specs.World.{callNumber, Started, Dispatched, Replied
 use Rattle.history.specs.Steps.{lastStart, sentAfter, completionsAfter}
 use Rattle.history.specs.Fairness.{FairStart}
 use Rattle.history.specs.Claim.{times}
-use Rattle.history.proofs.ListLaws.{in-before, within-grown, in-added, in-grown, all-grown, last-added, times-none}
+use Rattle.history.proofs.ListLaws.{within-grown, in-added, in-grown, all-grown, last-added, times-none}
 use Rattle.history.proofs.Holding.{cleared-empty}
 use Rattle.history.proofs.Network.{Request, more-known}
 use Rattle.history.proofs.More.{request-more, whole-more, more-starts}
-use Rattle.history.proofs.Invariant.{nothing, ClientInv, ServerInv, CallInv, IsRequest, IsAck, Ended, AckOf, Inv, startStep}
+use Rattle.history.proofs.Types.{IsRequest, IsAck}
+use Rattle.history.proofs.Invariant.{nothing, ClientInv, ServerInv, CallInv, Ended, AckOf, Inv, startStep}
 
 -- The number of a new start is that of its ordinal.
 module _ (c : Client) (slots : List ℕ) (starts : List Started) (replies : List Replied) (inv : ClientInv c slots starts replies)

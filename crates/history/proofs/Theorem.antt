@@ -1,10 +1,12 @@
 -- The theorem over every list of events.
-use Prim.Native.Nat.{ℕ, _≤_}
+use Prim.Native.Nat.{ℕ, _+_, _≤_}
 use mathlib.Core.Bool.{Bool, true, false, false≢true}
-use mathlib.Core.List.{List, [], _++_, append-assoc}
+use mathlib.Core.List.{List, [], _∷_, _++_, append-assoc}
 use mathlib.Core.Logic.{_⊎_, inl, inr}
 use mathlib.Core.Path.{_≡_, refl, sym, ap, subst, _∙_}
 use native.Mathlib.Omega.{arith}
+use lib.Dec.{eqb}
+use Rattle.words.specs.Choice.{choose}
 use Rattle.fragments.specs.Joined.{Leads}
 use Rattle.fragments.proofs.BufferLaws.{joined}
 use Rattle.timers.specs.declared.Timer.the-variants.{Armed}
@@ -17,20 +19,22 @@ use Rattle.client_record.specs.declared.TimerKind.the-variants.{Wait, Ack}
 use Rattle.client_table.specs.Local.{namedTimer}
 use Rattle.client.proofs.Growing.{hands-joined}
 use Rattle.client.proofs.TicketLaws.{old-most as client-most}
-use Rattle.server_record.specs.States.{isHeld}
+use Rattle.server_record.specs.declared.Idle.the-variants.{Fresh as NeverCalled, Spent, Repeatable}
+use Rattle.server_record.specs.States.{isHeld, isFresh, neverCalled}
 use Rattle.server_record.specs.declared.State.{State as ServerState}
 use Rattle.server_record.specs.declared.State.the-variants.{Idle, Collect, Running, Replying, Held}
 use Rattle.server_record.proofs.RuleLaws.{resend-off, rules-told as server-rules-told}
 use Rattle.history.specs.Lists.{In}
-use Rattle.history.specs.World.{SentPdu, World}
+use Rattle.history.specs.World.{callNumber, Started, Dispatched, SentPdu, World}
 use Rattle.history.specs.Events.{Event}
 use Rattle.history.specs.Steps.{lastStart, run}
 use Rattle.history.specs.Fairness.{Fair}
 use Rattle.history.specs.Freshness.{Fresh}
-use Rattle.history.specs.Claim.{AtMostOnce, WholeMessages, replyHandedUp, RepliesToDispatches, LeadsReply, OneReply, WholeReplies, WholeWhereAnswered, OnlyGrows, TimerOf, OnClient, OnServer, timerIn, LateTimers, GoneTickets, namesWait, namesAck, namesResend, Quiet, runs, WholeWhereRunning, Claim}
+use Rattle.history.specs.Claim.{times, AtMostOnce, WholeMessages, replyHandedUp, RepliesToDispatches, LeadsReply, OneReply, WholeReplies, WholeWhereAnswered, OnlyGrows, TimerOf, OnClient, OnServer, timerIn, LateTimers, GoneTickets, namesWait, namesAck, namesResend, Quiet, runs, WholeWhereRunning, clientCalls, serverCalled, Numbered, Claim}
 use Rattle.history.proofs.Holding.{unheld-joined, holding-leads}
 use Rattle.history.proofs.Network.{Known}
-use Rattle.history.proofs.Invariant.{ClientHolds, nothing, fragments-of, IsAck, AckOf, Inv}
+use Rattle.history.proofs.Types.{IsAck}
+use Rattle.history.proofs.Invariant.{ClientHolds, nothing, fragments-of, AckOf, Inv}
 use Rattle.history.proofs.Beginning.{fresh-inv}
 use Rattle.history.proofs.ClientArrivals.{whole-handed}
 use Rattle.history.proofs.Refused.{late-nothing}
@@ -119,6 +123,40 @@ running-is Running e = refl
 running-is Replying e = absurd (false≢true e)
 running-is (Held reply) e = absurd (false≢true e)
 
+-- A client with a call is not QUEUED, and a server that was called is not fresh.
+calls-begun : (s : State) → clientCalls s ≡ true → isQueued s ≡ false
+unfolding isQueued
+calls-begun Queued e = absurd (false≢true e)
+calls-begun SendFrags e = refl
+calls-begun DispatchedState e = refl
+calls-begun ReceiveFrags e = refl
+calls-begun AckPending e = refl
+calls-begun Complete e = refl
+calls-begun Fault e = refl
+
+called-once : (s : ServerState) → serverCalled s ≡ true → isFresh s ≡ false
+unfolding isFresh neverCalled
+called-once (Idle NeverCalled) e = absurd (false≢true e)
+called-once (Idle Spent) e = refl
+called-once (Idle Repeatable) e = refl
+called-once Collect e = refl
+called-once Running e = refl
+called-once Replying e = refl
+called-once (Held reply) e = refl
+
+-- Call numbers name starts.
+numbered : (w : World) → Inv w → Numbered w
+numbered w inv = record {
+  last =
+      λ e.
+      let now = inv .client .current (calls-begun (w .client .machine .state) e) in
+      record { start = now .start; started = now .started; ordinal = now .is };
+  starts = inv .calls .numbered;
+  dispatches = inv .calls .called;
+  client = λ e. inv .client .current (calls-begun (w .client .machine .state) e) .number;
+  server = λ e. inv .server .called (called-once (w .server .machine .state) e) .number;
+}
+
 -- An armed ticket is at most the counter of its side.
 armed-in-most : (w : World) → Inv w → (timer : TimerOf) (ticket : ℕ) → timerIn w timer ≡ Armed ticket → ticket ≤ counterOf w timer
 unfolding timerIn namedTimer
@@ -156,17 +194,6 @@ theorem w fresh events fair =
     let start = fresh-inv w fresh in
     let inv = run-inv w events start fair in
     record {
-      numbered =
-          record {
-            last =
-                λ e.
-                let now = inv .client .current e in
-                record { start = now .start; started = now .started; ordinal = now .is };
-            starts = inv .calls .numbered;
-            dispatches = inv .calls .called;
-            client = λ e. inv .client .current e .number;
-            server = λ e. inv .server .called e .number;
-          };
       once = inv .calls .once;
       whole = whole-messages (run w events) inv;
       running = λ e. let r = inv .server .running (running-is (run w events .server .machine .state) e) in record { ran = r .ran; last = r .entry };
@@ -181,6 +208,7 @@ theorem w fresh events fair =
       afresh = armed-afresh (run w events);
       quiet = quiet (run w events) inv;
       rules = record { client = inv .client .kept; server = inv .server .kept };
+      numbered = numbered (run w events) inv;
     }
 
 -- Beside the claim: an ack that the client has sent has the number of its start, and the client is done with that
@@ -188,3 +216,21 @@ theorem w fresh events fair =
 pub acks-told : (w : World) → Fresh w → (events : List Event) → Fair w events → (d : SentPdu) → In d (run w events .client .sent)
     → Known IsAck (AckOf (run w events .client .machine) (run w events .books .starts)) d
 acks-told w fresh events fair = run-inv w events (fresh-inv w fresh) fair .acks
+
+-- The same by call numbers, which today name starts for good: a number whose start is not idempotent is dispatched at
+-- most once.
+abbrev timesNumbered : ℕ → List Dispatched → ℕ
+timesNumbered n [] = 0
+timesNumbered n (d ∷ ds) = choose (eqb n (d .number)) 1 0 + timesNumbered n ds
+
+same-times : (n : ℕ) (ds : List Dispatched) → ((d : Dispatched) → In d ds → d .number ≡ callNumber (d .ordinal)) → timesNumbered n ds ≡ times n ds
+same-times n [] all = refl
+same-times n (d ∷ ds) all = rw (all d (inl refl), same-times n ds (λ e m. all e (inr m)))
+
+pub numbers-once : (w : World) → Fresh w → (events : List Event) → Fair w events → (s : Started) → In s (run w events .books .starts)
+    → s .call .idempotent ≡ false → timesNumbered (s .number) (run w events .books .dispatches) ≤ 1
+unfolding AtMostOnce
+numbers-once w fresh events fair s m mark =
+    let claim = theorem w fresh events fair in
+    rw (same-times (s .number) (run w events .books .dispatches) (claim .numbered .dispatches), claim .numbered .starts s m)
+    (claim .once s m mark)

@@ -233,10 +233,10 @@ module _ (message reply clientSlots serverSlots out : List ℕ) (asks : length m
   b0 = onBooks [] [] [] []
 
   abbrev b1 : Books
-  b1 = onBooks (record { ordinal = 0; number = 0; idempotent = false; message = message } ∷ []) [] [] []
+  b1 = onBooks (record { ordinal = 0; number = 0; call = called; message = message } ∷ []) [] [] []
 
   abbrev b2 : List ℕ → Books
-  b2 bytes = onBooks (b1 .starts) (record { ordinal = 0; number = 0; bytes = bytes } ∷ []) [] []
+  b2 bytes = onBooks (b1 .starts) (record { ordinal = 0; number = 0; call = called; bytes = bytes } ∷ []) [] []
 
   abbrev b3 : Books
   b3 = onBooks (b1 .starts) (b2 message .dispatches) (record { ordinal = 0; message = reply } ∷ []) []

@@ -101,7 +101,7 @@ unfolding ServerStates.neverCalled ServerStates.isFresh ServerStates.isRunning S
     ServerPlan.refused ServerPlan.accepted ServerPlan.withOutgoing
     ServerRows.answered ServerRows.replyPlan ServerRows.settled ServerRows.transmitted ServerRows.transmitPlan ServerRows.rewinding
     ServerRows.replayHeld ServerRows.replayPlan ServerRows.timerPlan
-    ServerArrivalRows.subjectOf ServerArrivalRows.begun ServerArrivalRows.withIncoming ServerArrivalRows.putState ServerArrivalRows.putNotice
+    ServerArrivalRows.callOf ServerArrivalRows.begun ServerArrivalRows.withIncoming ServerArrivalRows.putState ServerArrivalRows.putNotice
     ServerArrivalRows.fackFor ServerArrivalRows.putPlan ServerArrivalRows.requestPlan ServerArrivalRows.beginPlan
     ServerArrivalRows.workingPlan ServerArrivalRows.nocallPlan ServerArrivalRows.ackPlan
     ServerArrivalTable.arrivalRow ServerArrivalTable.arrivalPlan

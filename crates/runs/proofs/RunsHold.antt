@@ -11,7 +11,7 @@ use Rattle.history.specs.World.{World}
 use Rattle.history.specs.Freshness.{Fresh}
 use Rattle.history.specs.Claim.{replyHandedUp}
 use Rattle.history.proofs.Beginning.{client-record-fresh, server-record-fresh}
-use Rattle.runs.specs.Runs.{Story, Ran, activity, before, lossy, twice, question, secondReply, exampleMessage, exampleReply, zeros}
+use Rattle.runs.specs.Runs.{Story, Ran, activity, called, asking, before, lossy, twice, question, secondReply, exampleMessage, exampleReply, zeros}
 use Rattle.runs.proofs.Stories.{Plays}
 use Rattle.runs.proofs.Lossy.{reply-whole as lossy-reply, plays-lossy}
 use Rattle.runs.proofs.Twice.{reply-whole as twice-reply, plays-twice}
@@ -45,7 +45,7 @@ ran fresh plays told handed = record {
 -- there is one dispatch, of the whole request, and the client hands up the whole reply.
 pub lossy-ran : (message reply clientSlots serverSlots out : List ℕ) → length message ≡ 2785 → length reply ≡ 2786 → length clientSlots ≡ 44544
     → length serverSlots ≡ 44544 → length out ≡ 1472
-    → Ran (before clientSlots serverSlots) (lossy message reply out) Complete (Idle Spent) (record { ordinal = 0; number = 0; bytes = message } ∷ []) reply
+    → Ran (before clientSlots serverSlots) (lossy message reply out) Complete (Idle Spent) (record { ordinal = 0; number = 0; call = called; bytes = message } ∷ []) reply
 lossy-ran message reply clientSlots serverSlots out asks replies clientRoom serverRoom room =
     ran (before-fresh clientSlots serverSlots) (plays-lossy message reply clientSlots serverSlots out asks replies clientRoom serverRoom room) refl
     (lossy-reply message reply clientSlots serverSlots out asks replies clientRoom serverRoom room)
@@ -57,7 +57,7 @@ zeros-long n = length-replicate n 0
 
 pub example-ran :
     Ran (before (zeros 44544) (zeros 44544)) (lossy exampleMessage exampleReply (zeros 1472)) Complete (Idle Spent)
-    (record { ordinal = 0; number = 0; bytes = exampleMessage } ∷ []) exampleReply
+    (record { ordinal = 0; number = 0; call = called; bytes = exampleMessage } ∷ []) exampleReply
 unfolding exampleMessage exampleReply
 example-ran =
     lossy-ran exampleMessage exampleReply (zeros 44544) (zeros 44544) (zeros 1472) refl refl (zeros-long 44544) (zeros-long 44544) (zeros-long 1472)
@@ -66,7 +66,7 @@ example-ran =
 -- and the client hands up the reply to the second.
 pub twice-ran : (clientSlots serverSlots out : List ℕ) → length clientSlots ≡ 44544 → length serverSlots ≡ 44544 → length out ≡ 1472
     → Ran (before clientSlots serverSlots) (twice out) Complete (Idle Repeatable)
-    (record { ordinal = 0; number = 0; bytes = question } ∷ record { ordinal = 0; number = 0; bytes = question } ∷ []) secondReply
+    (record { ordinal = 0; number = 0; call = asking; bytes = question } ∷ record { ordinal = 0; number = 0; call = asking; bytes = question } ∷ []) secondReply
 twice-ran clientSlots serverSlots out clientRoom serverRoom room =
     ran (before-fresh clientSlots serverSlots) (plays-twice clientSlots serverSlots out clientRoom serverRoom room) refl
     (twice-reply clientSlots serverSlots out clientRoom serverRoom room)

@@ -132,16 +132,16 @@ module _ (clientSlots serverSlots out : List ℕ) (clientRoom : length clientSlo
   b0 = onBooks [] [] [] []
 
   abbrev b1 : Books
-  b1 = onBooks (record { ordinal = 0; number = 0; idempotent = true; message = question } ∷ []) [] [] []
+  b1 = onBooks (record { ordinal = 0; number = 0; call = asking; message = question } ∷ []) [] [] []
 
   abbrev b2 : List ℕ → Books
-  b2 bytes = onBooks (b1 .starts) (record { ordinal = 0; number = 0; bytes = bytes } ∷ []) [] []
+  b2 bytes = onBooks (b1 .starts) (record { ordinal = 0; number = 0; call = asking; bytes = bytes } ∷ []) [] []
 
   abbrev b3 : Books
   b3 = onBooks (b1 .starts) (b2 question .dispatches) (record { ordinal = 0; message = firstReply } ∷ []) []
 
   abbrev b4 : List ℕ → Books
-  b4 bytes = onBooks (b1 .starts) (record { ordinal = 0; number = 0; bytes = question } ∷ record { ordinal = 0; number = 0; bytes = bytes } ∷ []) (b3 .replies) []
+  b4 bytes = onBooks (b1 .starts) (record { ordinal = 0; number = 0; call = asking; bytes = question } ∷ record { ordinal = 0; number = 0; call = asking; bytes = bytes } ∷ []) (b3 .replies) []
 
   abbrev b5 : Books
   b5 = onBooks (b1 .starts) (b4 question .dispatches) (record { ordinal = 0; message = firstReply } ∷ record { ordinal = 0; message = secondReply } ∷ []) []
