@@ -5,6 +5,7 @@ use mathlib.Core.Bool.{true}
 use mathlib.Core.List.{List}
 use mathlib.Core.Path.{_≡_, sym, ap, subst, _∙_}
 use native.Mathlib.Omega.{arith}
+use lib.Dec.{eqb}
 use lib.ListN.{length}
 use Rattle.words.specs.Choice.{choose}
 use Rattle.words.specs.Place.{putAt}
@@ -13,8 +14,11 @@ use Rattle.answers.specs.declared.Answer.the-variants.{Done}
 use Rattle.answers.specs.declared.Ground.{Ground}
 use Rattle.bodies.specs.Status.{statusReading}
 use Rattle.calls.specs.declared.Call.{Call}
+use Rattle.incoming.specs.declared.Incoming.{Incoming}
 use Rattle.incoming.specs.Slots.{stored}
+use Rattle.fragments.specs.Judgement.{held}
 use Rattle.fragments.specs.Slots.{storing}
+use Rattle.fragments.proofs.PutLaws.{stored-held-same}
 use Rattle.fragments.proofs.BufferLaws.{filled-placed}
 use Rattle.outgoing.specs.Message.{fragments}
 use Rattle.outgoing.specs.Sending.{started as startedMessage, sendsLast}
@@ -113,8 +117,8 @@ module _ (c : Client) (datagram slots out : List ℕ) (done : arriving c datagra
   -- After a fack, type 9, acknowledged is the larger of itself and what the fack acknowledges.
   pub fack-acknowledges : h .kind ≡ 9
       → arriving c datagram slots out .outcome .client .outgoing .acknowledged
-      ≡ max (c .outgoing .acknowledged) (acknowledgedBy (h .fragment))
-  unfolding arrivalRow fackPlan accepted acknowledged withOutgoing eventOf byEvent hasRow choose
+      ≡ max (c .outgoing .acknowledged) (choose (eqb (h .fragment) 65535) 0 (h .fragment + 1))
+  unfolding acknowledgedBy arrivalRow fackPlan accepted acknowledged withOutgoing eventOf byEvent hasRow choose
   fack-acknowledges typed =
       let a = accepted-as Fack (ap eventOf typed) in
       let parts = untimed-told c (a .kept) (active-state (c .state) (a .can .row)) in
@@ -131,6 +135,16 @@ module _ (c : Client) (datagram slots out : List ℕ) (done : arriving c datagra
       let a = accepted-as Response (ap eventOf typed) in
       ap (λ (d : Client). d .incoming) (a .leaves)
       ∙ ap (λ (k : ℕ). stored (c .incoming) (h .fragment) k (isLast (h .flags1))) (body-length (bodyOf datagram) (a .short))
+
+  -- and is held,
+  pub response-held : h .kind ≡ 2 → length (c .incoming .slots) ≡ 32
+      → held (arriving c datagram slots out .outcome .client .incoming) (h .fragment) ≡ true
+  unfolding eventOf serverEvent byEvent choose
+  response-held typed long =
+      let a = accepted-as Response (ap eventOf typed) in
+      let number = fragment-passes (h .flags1) (h .fragment) (a .can .number) in
+      ap (λ (m : Incoming). held m (h .fragment)) (response-length typed)
+      ∙ stored-held-same (c .incoming) (h .fragment) (length (bodyOf datagram)) (isLast (h .flags1)) (omega arith)
 
   -- and its body lies in its place of the slot buffer.
   pub response-bytes : h .kind ≡ 2 → arriving c datagram slots out .slots ≡ putAt (1392 * h .fragment) (bodyOf datagram) slots

@@ -1,20 +1,21 @@
--- The two runs, proved: each starts fresh, keeps every premise, and ends as document 01 says.
+-- The three runs, proved: each starts fresh, keeps every premise, and ends as document 01 says.
 use Prim.Native.Nat.{ℕ}
 use mathlib.Core.List.{List, [], _∷_}
 use mathlib.Core.Path.{_≡_, refl, ap, _∙_}
 use native.Mathlib.Omega.{arith}
 use lib.ListN.{length, length-replicate}
-use Rattle.client_record.specs.declared.State.the-variants.{Complete}
+use Rattle.client_record.specs.declared.State.the-variants.{AckPending, Complete}
 use Rattle.server_record.specs.declared.Idle.the-variants.{Spent, Repeatable}
-use Rattle.server_record.specs.declared.State.the-variants.{Idle}
+use Rattle.server_record.specs.declared.Reply.the-variants.{Data}
+use Rattle.server_record.specs.declared.State.the-variants.{Idle, Held}
 use Rattle.history.specs.World.{World}
 use Rattle.history.specs.Freshness.{Fresh}
 use Rattle.history.specs.Claim.{replyHandedUp}
 use Rattle.history.proofs.Beginning.{client-record-fresh, server-record-fresh}
-use Rattle.runs.specs.Runs.{Story, Ran, activity, called, asking, before, lossy, twice, question, secondReply, exampleMessage, exampleReply, zeros}
+use Rattle.runs.specs.Runs.{Story, Ran, activity, called, asking, before, lossy, twice, twiceAndNext, question, secondReply, nextReply, exampleMessage, exampleReply, zeros}
 use Rattle.runs.proofs.Stories.{Plays}
 use Rattle.runs.proofs.Lossy.{reply-whole as lossy-reply, plays-lossy}
-use Rattle.runs.proofs.Twice.{reply-whole as twice-reply, plays-twice}
+use Rattle.runs.proofs.Twice.{reply-whole as twice-reply, plays-twice, next-reply, plays-twice-and-next}
 
 -- The world before a run is fresh.
 before-fresh : (clientSlots serverSlots : List ℕ) → Fresh (before clientSlots serverSlots)
@@ -27,17 +28,16 @@ before-fresh clientSlots serverSlots = record {
 }
 
 -- What a story that was played shows.
-ran : {w after : World} {story : Story} {handed : List ℕ} → Fresh w → Plays w story after
-    → after .books .completions ≡ record { ordinal = 0; bytes = handed } ∷ [] → replyHandedUp after ≡ handed
-    → Ran w story (after .client .machine .state) (after .server .machine .state) (after .books .dispatches) handed
-ran fresh plays told handed = record {
+ran : {w after : World} {story : Story} {handed : List ℕ} → Fresh w → Plays w story after → replyHandedUp after ≡ handed
+    → Ran w story (after .client .machine .state) (after .server .machine .state) (after .books .dispatches) (after .books .completions) handed
+ran fresh plays handed = record {
   fresh = fresh;
   fair = plays .fair;
   answers = plays .answers;
   client-ends = ap (λ (v : World). v .client .machine .state) (plays .ends);
   server-ends = ap (λ (v : World). v .server .machine .state) (plays .ends);
   dispatched = ap (λ (v : World). v .books .dispatches) (plays .ends);
-  completed = ap (λ (v : World). v .books .completions) (plays .ends) ∙ told;
+  completed = ap (λ (v : World). v .books .completions) (plays .ends);
   hands-up = ap replyHandedUp (plays .ends) ∙ handed;
 }
 
@@ -45,9 +45,10 @@ ran fresh plays told handed = record {
 -- there is one dispatch, of the whole request, and the client hands up the whole reply.
 pub lossy-ran : (message reply clientSlots serverSlots out : List ℕ) → length message ≡ 2785 → length reply ≡ 2786 → length clientSlots ≡ 44544
     → length serverSlots ≡ 44544 → length out ≡ 1472
-    → Ran (before clientSlots serverSlots) (lossy message reply out) Complete (Idle Spent) (record { ordinal = 0; number = 0; call = called; bytes = message } ∷ []) reply
+    → Ran (before clientSlots serverSlots) (lossy message reply out) Complete (Idle Spent) (record { ordinal = 0; number = 0; call = called; bytes = message } ∷ [])
+    (record { ordinal = 0; bytes = reply } ∷ []) reply
 lossy-ran message reply clientSlots serverSlots out asks replies clientRoom serverRoom room =
-    ran (before-fresh clientSlots serverSlots) (plays-lossy message reply clientSlots serverSlots out asks replies clientRoom serverRoom room) refl
+    ran (before-fresh clientSlots serverSlots) (plays-lossy message reply clientSlots serverSlots out asks replies clientRoom serverRoom room)
     (lossy-reply message reply clientSlots serverSlots out asks replies clientRoom serverRoom room)
 
 -- So it is of the bytes written out.
@@ -57,7 +58,7 @@ zeros-long n = length-replicate n 0
 
 pub example-ran :
     Ran (before (zeros 44544) (zeros 44544)) (lossy exampleMessage exampleReply (zeros 1472)) Complete (Idle Spent)
-    (record { ordinal = 0; number = 0; call = called; bytes = exampleMessage } ∷ []) exampleReply
+    (record { ordinal = 0; number = 0; call = called; bytes = exampleMessage } ∷ []) (record { ordinal = 0; bytes = exampleReply } ∷ []) exampleReply
 unfolding exampleMessage exampleReply
 example-ran =
     lossy-ran exampleMessage exampleReply (zeros 44544) (zeros 44544) (zeros 1472) refl refl (zeros-long 44544) (zeros-long 44544) (zeros-long 1472)
@@ -66,7 +67,20 @@ example-ran =
 -- and the client hands up the reply to the second.
 pub twice-ran : (clientSlots serverSlots out : List ℕ) → length clientSlots ≡ 44544 → length serverSlots ≡ 44544 → length out ≡ 1472
     → Ran (before clientSlots serverSlots) (twice out) Complete (Idle Repeatable)
-    (record { ordinal = 0; number = 0; call = asking; bytes = question } ∷ record { ordinal = 0; number = 0; call = asking; bytes = question } ∷ []) secondReply
+    (record { ordinal = 0; number = 0; call = asking; bytes = question } ∷ record { ordinal = 0; number = 0; call = asking; bytes = question } ∷ [])
+    (record { ordinal = 0; bytes = secondReply } ∷ []) secondReply
 twice-ran clientSlots serverSlots out clientRoom serverRoom room =
-    ran (before-fresh clientSlots serverSlots) (plays-twice clientSlots serverSlots out clientRoom serverRoom room) refl
+    ran (before-fresh clientSlots serverSlots) (plays-twice clientSlots serverSlots out clientRoom serverRoom room)
     (twice-reply clientSlots serverSlots out clientRoom serverRoom room)
+
+-- The third goes on with the next call: it is dispatched once, after both of call 0, and complete with its own reply, though
+-- PDUs of call 0 came late.
+pub twice-and-next-ran : (clientSlots serverSlots out : List ℕ) → length clientSlots ≡ 44544 → length serverSlots ≡ 44544 → length out ≡ 1472
+    → Ran (before clientSlots serverSlots) (twiceAndNext out) AckPending (Held Data)
+    (record { ordinal = 0; number = 0; call = asking; bytes = question }
+    ∷ record { ordinal = 0; number = 0; call = asking; bytes = question }
+    ∷ record { ordinal = 1; number = 1; call = called; bytes = question } ∷ [])
+    (record { ordinal = 0; bytes = secondReply } ∷ record { ordinal = 1; bytes = nextReply } ∷ []) nextReply
+twice-and-next-ran clientSlots serverSlots out clientRoom serverRoom room =
+    ran (before-fresh clientSlots serverSlots) (plays-twice-and-next clientSlots serverSlots out clientRoom serverRoom room)
+    (next-reply clientSlots serverSlots out clientRoom serverRoom room)

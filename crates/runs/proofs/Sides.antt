@@ -18,15 +18,19 @@ use Rattle.server_record.specs.declared.State.{State as ServerState}
 use Rattle.history.specs.World.{World, Started, Dispatched, Replied, Completed, SentPdu, Side, Books}
 use Rattle.runs.specs.Runs.{activity}
 
--- PDUs of start 0, the only one.
+-- PDUs of start 0.
 abbrev pub ofFirst : List (List ℕ) → List SentPdu
 ofFirst [] = []
 ofFirst (d ∷ ds) = record { ordinal = 0; bytes = d } ∷ ofFirst ds
 
--- The books while the server's record stands at start 0, or is fresh.
+-- The books, where the server's record stands at that start,
+abbrev pub onBooksAt : ℕ → List Started → List Dispatched → List Replied → List Completed → Books
+onBooksAt standing starts dispatches replies completions =
+    record { starts = starts; dispatches = dispatches; replies = replies; completions = completions; standing = standing }
+
+-- and while it stands at start 0, or is fresh.
 abbrev pub onBooks : List Started → List Dispatched → List Replied → List Completed → Books
-onBooks starts dispatches replies completions =
-    record { starts = starts; dispatches = dispatches; replies = replies; completions = completions; standing = 0 }
+onBooks starts dispatches replies completions = onBooksAt 0 starts dispatches replies completions
 
 abbrev pub world : Side Client → Side Server → Books → World
 world c s b = record { client = c; server = s; books = b }
@@ -45,13 +49,13 @@ nothing = holds missing missing missing Unknown
 abbrev pub sends : ℕ → ℕ → ℕ → ℕ → ℕ → Outgoing
 sends length count sent acknowledged serial = record { length = length; count = count; sent = sent; acknowledged = acknowledged; serial = serial }
 
--- The client in call 0: its state, the message sent, what is held, the counts of WAIT and of resends, the tickets
+-- The client in a call with that number: its state, the message sent, what is held, the counts of WAIT and of resends, the tickets
 -- and the timers.
-abbrev pub clientIn : Call → ClientState → Outgoing → Incoming → ℕ → ℕ → ℕ → Timer → Timer → Client
-clientIn call state outgoing incoming waits resends tickets wait ack = record {
+abbrev pub clientOf : ℕ → Call → ClientState → Outgoing → Incoming → ℕ → ℕ → ℕ → Timer → Timer → Client
+clientOf number call state outgoing incoming waits resends tickets wait ack = record {
   state = state;
   activity = activity;
-  number = 0;
+  number = number;
   call = call;
   outgoing = outgoing;
   incoming = incoming;
@@ -62,13 +66,17 @@ clientIn call state outgoing incoming waits resends tickets wait ack = record {
   ack = ack;
 }
 
--- The server in call 0: its state, the message sent, what is held, the tickets and the timer.
-abbrev pub serverIn : Call → ServerState → Outgoing → Incoming → ℕ → Timer → Server
-serverIn call state outgoing incoming tickets resend = record {
+-- In call 0.
+abbrev pub clientIn : Call → ClientState → Outgoing → Incoming → ℕ → ℕ → ℕ → Timer → Timer → Client
+clientIn = clientOf 0
+
+-- The server in a call with that number: its state, the message sent, what is held, the tickets and the timer.
+abbrev pub serverOf : ℕ → Call → ServerState → Outgoing → Incoming → ℕ → Timer → Server
+serverOf number call state outgoing incoming tickets resend = record {
   state = state;
   activity = activity;
   boot = 7;
-  number = 0;
+  number = number;
   call = call;
   outgoing = outgoing;
   incoming = incoming;
@@ -76,3 +84,7 @@ serverIn call state outgoing incoming tickets resend = record {
   tickets = tickets;
   resend = resend;
 }
+
+-- In call 0.
+abbrev pub serverIn : Call → ServerState → Outgoing → Incoming → ℕ → Timer → Server
+serverIn = serverOf 0

@@ -1,13 +1,14 @@
 -- The second run, event by event.
 use Prim.Native.Nat.{ℕ, _<_, _≤_}
 use mathlib.Core.Bool.{true}
-use mathlib.Core.List.{List, [], _∷_}
+use mathlib.Core.List.{List, [], _∷_, _++_}
 use mathlib.Core.Path.{_≡_, refl, _∙_}
 use native.Mathlib.Omega.{arith}
 use lib.ListN.{length, take}
 use Rattle.words.specs.Number.{number}
 use Rattle.bodies.specs.Fack.{fackBytes, fackSent}
 use Rattle.calls.specs.Sent.{sentHeader}
+use Rattle.incoming.specs.declared.Incoming.{Incoming}
 use Rattle.incoming.specs.declared.Last.the-variants.{At}
 use Rattle.incoming.specs.Slots.{missing, cleared}
 use Rattle.fragments.specs.Slots.{filled}
@@ -15,18 +16,20 @@ use Rattle.fragments.proofs.PartLaws.{parts-joined}
 use Rattle.fragments.proofs.PutLaws.{filled-length}
 use Rattle.outgoing.specs.Message.{fragmentOf}
 use Rattle.timers.specs.declared.Timer.the-variants.{Off, Armed}
-use Rattle.client_record.specs.declared.State.the-variants.{SendFrags, Dispatched, Complete}
+use Rattle.client_record.specs.declared.State.the-variants.{SendFrags, Dispatched, AckPending, Complete}
 use Rattle.client_record.specs.declared.TimerKind.the-variants.{Wait}
 use Rattle.client.specs.HandUp.{handsUp as clientHandsUp}
 use Rattle.client.proofs.Growing.{hands-joined}
 use Rattle.server_record.specs.declared.Idle.the-variants.{Repeatable}
-use Rattle.server_record.specs.declared.State.the-variants.{Idle, Running, Replying}
+use Rattle.server_record.specs.declared.Reply.the-variants.{Data}
+use Rattle.server_record.specs.declared.State.the-variants.{Idle, Running, Replying, Held}
 use Rattle.server_record.specs.Rules.{sound as serverSound}
 use Rattle.server.specs.HandUp.{handsUp as serverHandsUp}
 use Rattle.history.specs.Fairness.{Typed}
-use Rattle.runs.specs.Runs.{before, activity, asking, question, firstReply, secondReply, questionPdu, pingPdu, clientFackPdu, fackPdu, replyPdu, nocallPdu, runOnce, runAgain, twice}
+use Rattle.runs.specs.Runs.{before, activity, called, asking, question, firstReply, secondReply, questionPdu, pingPdu, clientFackPdu, fackPdu, replyPdu, nocallPdu, runOnce, runAgain, twice, nextReply, nextRequest, nextFack, nextResponse, nextClientFack, next, twiceAndNext}
 use Rattle.history.proofs.Holding.{cleared-empty, empty-holding, holding-whole}
-use Rattle.history.proofs.Network.{Uuids}
+use Rattle.history.specs.Lists.{andThen}
+use Rattle.history.proofs.Network.{pduOf, Uuids}
 use Rattle.runs.proofs.Opened.{opened}
 use Rattle.runs.proofs.Stories.{Plays, told, came, over, then, refused, joined, Carried, carried}
 use Rattle.runs.proofs.Fragments.{put}
@@ -35,7 +38,7 @@ use Rattle.runs.proofs.ServerTurns.{server-transmits, server-arrives}
 use Rattle.client_record.specs.declared.Client.{Client}
 use Rattle.server_record.specs.declared.Server.{Server}
 use Rattle.history.specs.World.{SentPdu, Side, Books}
-use Rattle.runs.proofs.Sides.{ofFirst, onBooks, world, held, holds, nothing, sends, clientIn, serverIn}
+use Rattle.runs.proofs.Sides.{ofFirst, onBooks, onBooksAt, world, held, holds, nothing, sends, clientIn, clientOf, serverIn, serverOf}
 
 uuids : Uuids activity asking
 uuids = record { activity-16 = refl; object-16 = refl; interface-16 = refl }
@@ -47,6 +50,17 @@ typed = record { object = refl; interface = refl; version = omega arith; operati
 came-with : (boot kind flags1 serial : ℕ) (body : List ℕ) → (boot < 65536) × (kind ≤ 10) × (serial < 65536) → length body ≤ 1392
     → Carried (sentHeader kind flags1 serial activity boot 0 asking 0) body
 came-with boot kind flags1 serial body small short = carried kind flags1 serial activity boot 0 asking 0 body typed refl (omega arith) short
+
+-- The same of the next call.
+called-uuids : Uuids activity called
+called-uuids = record { activity-16 = refl; object-16 = refl; interface-16 = refl }
+
+called-typed : Typed called
+called-typed = record { object = refl; interface = refl; version = omega arith; operation = omega arith }
+
+next-came : (boot kind flags1 serial : ℕ) (body : List ℕ) → (boot < 65536) × (kind ≤ 10) × (serial < 65536) → length body ≤ 1392
+    → Carried (sentHeader kind flags1 serial activity boot 1 called 0) body
+next-came boot kind flags1 serial body small short = carried kind flags1 serial activity boot 1 called 0 body called-typed refl (omega arith) short
 
 module _ (clientSlots serverSlots out : List ℕ) (clientRoom : length clientSlots ≡ 44544) (serverRoom : length serverSlots ≡ 44544)
     (room : length out ≡ 1472) where
@@ -71,10 +85,12 @@ module _ (clientSlots serverSlots out : List ℕ) (clientRoom : length clientSlo
 
   -- The first n PDUs of all that the client has sent, and the server.
   abbrev clientSent : ℕ → List SentPdu
-  clientSent n = take n (ofFirst (questionPdu 1 ∷ pingPdu 2 ∷ questionPdu 3 ∷ clientFackPdu ∷ []))
+  clientSent n = take n (ofFirst (questionPdu 1 ∷ pingPdu 2 ∷ questionPdu 3 ∷ clientFackPdu ∷ []) ++ (pduOf 1 nextRequest ∷ pduOf 1 nextClientFack ∷ []))
 
   abbrev serverSent : ℕ → List SentPdu
-  serverSent n = take n (ofFirst (fackPdu 1 ∷ replyPdu firstReply ∷ nocallPdu ∷ fackPdu 3 ∷ replyPdu secondReply ∷ []))
+  serverSent n =
+      take n
+      (ofFirst (fackPdu 1 ∷ replyPdu firstReply ∷ nocallPdu ∷ fackPdu 3 ∷ replyPdu secondReply ∷ []) ++ (pduOf 1 nextFack ∷ pduOf 1 nextResponse ∷ []))
 
   -- The client after each of its events.
   abbrev k0 : Side Client
@@ -205,3 +221,93 @@ module _ (clientSlots serverSlots out : List ℕ) (clientRoom : length clientSlo
 
   pub plays-twice : Plays (before clientSlots serverSlots) (twice out) (world k7 s7 (b6 secondReply))
   plays-twice = joined (runOnce out) (runAgain out) plays-once plays-again
+
+  -- The next call. The slot buffers after its puts,
+  abbrev v3 : List ℕ
+  v3 = filled 0 question v2
+
+  v3-long : length v3 ≡ 44544
+  v3-long = filled-length 0 question v2 ∙ v2-long
+
+  abbrev u2 : List ℕ
+  u2 = filled 0 nextReply u1
+
+  -- the client after each of its events,
+  abbrev k8 : Side Client
+  k8 = record { machine = clientOf 1 called SendFrags (sends 3 1 0 0 0) nothing 0 0 8 Off Off; slots = u1; sent = clientSent 4 }
+
+  abbrev k9 : Side Client
+  k9 = record { machine = clientOf 1 called Dispatched (sends 3 1 1 0 1) nothing 0 0 9 (Armed 9) Off; slots = u1; sent = clientSent 5 }
+
+  abbrev one : ℕ → Incoming
+  one n = holds (held n) missing missing (At 0)
+
+  abbrev k10 : Side Client
+  k10 = record { machine = clientOf 1 called AckPending (sends 3 1 1 0 1) (one 3) 0 0 10 Off (Armed 10); slots = u2; sent = clientSent 6 }
+
+  -- the server,
+  abbrev s8 : Side Server
+  s8 = record { machine = serverOf 1 called Running (sends 0 0 0 0 0) (one 3) 100 Off; slots = v3; sent = serverSent 6 }
+
+  abbrev s9 : Side Server
+  s9 = record { machine = serverOf 1 called Replying (sends 3 1 0 0 0) (one 3) 100 Off; slots = v3; sent = serverSent 6 }
+
+  abbrev s10 : Side Server
+  s10 = record { machine = serverOf 1 called (Held Data) (sends 3 1 1 0 1) (one 3) 101 (Armed 101); slots = v3; sent = serverSent 7 }
+
+  -- and the books: the second start, the dispatch of these bytes, its reply, the completion with these bytes.
+  abbrev b7 : Books
+  b7 =
+      onBooks (andThen (b1 .starts) (record { ordinal = 1; number = 1; call = called; message = question })) (b5 .dispatches) (b5 .replies)
+      (b6 secondReply .completions)
+
+  abbrev b8 : List ℕ → Books
+  b8 bytes =
+      onBooksAt 1 (b7 .starts) (andThen (b5 .dispatches) (record { ordinal = 1; number = 1; call = called; bytes = bytes })) (b5 .replies)
+      (b7 .completions)
+
+  abbrev b9 : Books
+  b9 = onBooksAt 1 (b7 .starts) (b8 question .dispatches) (andThen (b5 .replies) (record { ordinal = 1; message = nextReply })) (b7 .completions)
+
+  abbrev b10 : List ℕ → Books
+  b10 bytes = onBooksAt 1 (b9 .starts) (b9 .dispatches) (b9 .replies) (andThen (b7 .completions) (record { ordinal = 1; bytes = bytes }))
+
+  -- What the server hands up at its dispatch,
+  next-whole : serverHandsUp (s8 .machine) v3 ≡ question
+  unfolding opened serverHandsUp fragmentOf
+  next-whole =
+      parts-joined (serverSound (s8 .machine)) (one 3) v3 refl
+      ∙ holding-whole (one 3) v3 question
+      (put question 3 0 refl cleared v2 0 (empty-holding cleared v2 question v2-long cleared-empty) refl refl (omega arith) refl refl (omega arith) refl)
+      refl refl
+
+  -- and the client at "last".
+  pub next-reply : clientHandsUp (k10 .machine) u2 ≡ nextReply
+  unfolding opened fragmentOf
+  next-reply =
+      hands-joined (k10 .machine) u2 refl
+      ∙ holding-whole (one 3) u2 nextReply
+      (put nextReply 3 0 refl cleared u1 0 (empty-holding cleared u1 nextReply u1-long cleared-empty) refl refl (omega arith) refl refl (omega arith) refl)
+      refl refl
+
+  plays-next : Plays (world k7 s7 (b6 secondReply)) (next out) (world k10 s10 (b10 nextReply))
+  unfolding opened fackBytes number fragmentOf
+  plays-next =
+      then {next = world k8 s7 b7} (record { answered = refl; leaves = refl }) (record { typed = called-typed; whole = refl })
+      (then {next = world k9 s7 b7} (client-transmits _ out room question 3 refl called-uuids) refl
+      (then {next = world k9 s8 (b8 question)}
+      (told (λ (bytes : List ℕ). world k9 s8 (b8 bytes)) next-whole
+      (server-arrives _ out room (next-came 0 0 0 1 question (omega arith) (omega arith)) v2-long called-uuids)) (came 4 refl)
+      (refused {next = world k9 s8 (b8 question)}
+      (server-arrives _ out room (came-with 0 0 32 3 question (omega arith) (omega arith)) v3-long called-uuids) refl
+      (refused {next = world k9 s8 (b8 question)}
+      (client-arrives _ out room (came-with 7 2 0 1 firstReply (omega arith) (omega arith)) u1-long called-uuids) refl
+      (then {next = world k9 s9 b9} (record { answered = refl; leaves = refl }) refl
+      (then {next = world k9 s10 b9} (server-transmits _ out room nextReply 3 refl called-uuids) refl
+      (then {next = world k10 s10 (b10 nextReply)}
+      (told (λ (bytes : List ℕ). world k10 s10 (b10 bytes)) next-reply
+      (client-arrives _ out room (next-came 7 2 0 1 nextReply (omega arith) (omega arith)) u1-long called-uuids)) (came 6 refl)
+      over)))))))
+
+  pub plays-twice-and-next : Plays (before clientSlots serverSlots) (twiceAndNext out) (world k10 s10 (b10 nextReply))
+  plays-twice-and-next = joined (twice out) (next out) plays-twice plays-next

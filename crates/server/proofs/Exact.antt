@@ -5,6 +5,7 @@ use mathlib.Core.Bool.{true}
 use mathlib.Core.List.{List}
 use mathlib.Core.Path.{_≡_, sym, ap, subst, _∙_}
 use native.Mathlib.Omega.{arith}
+use lib.Dec.{eqb}
 use lib.ListN.{length}
 use Rattle.words.specs.Choice.{choose}
 use Rattle.words.specs.Place.{putAt}
@@ -12,7 +13,11 @@ use Rattle.words.proofs.Place.{placed-fits}
 use Rattle.answers.specs.declared.Answer.the-variants.{Done}
 use Rattle.answers.specs.declared.Ground.{Ground}
 use Rattle.incoming.specs.Slots.{cleared, stored}
+use Rattle.fragments.specs.Judgement.{held}
 use Rattle.fragments.specs.Slots.{storing}
+use Rattle.fragments.proofs.PutLaws.{stored-held-same}
+use Rattle.incoming.specs.declared.Incoming.{Incoming}
+use Rattle.incoming.proofs.SlotLaws.{cleared-length}
 use Rattle.fragments.proofs.BufferLaws.{filled-placed}
 use Rattle.outgoing.specs.Message.{fragments}
 use Rattle.outgoing.specs.Sending.{replied, sendsLast}
@@ -102,8 +107,8 @@ module _ (s : Server) (datagram slots out : List ℕ) (done : arriving s datagra
   -- After a fack, type 9, acknowledged is the larger of itself and what the fack acknowledges.
   pub fack-acknowledges : h .kind ≡ 9
       → arriving s datagram slots out .outcome .server .outgoing .acknowledged
-      ≡ max (s .outgoing .acknowledged) (acknowledgedBy (h .fragment))
-  unfolding arrivalRow fackPlan accepted withOutgoing eventOf choose
+      ≡ max (s .outgoing .acknowledged) (choose (eqb (h .fragment) 65535) 0 (h .fragment + 1))
+  unfolding acknowledgedBy arrivalRow fackPlan accepted withOutgoing eventOf choose
   fack-acknowledges typed =
       let a = accepted-so in
       let row = fack-row s h (a .can) (ap eventOf typed) in
@@ -132,6 +137,14 @@ module _ (s : Server) (datagram slots out : List ℕ) (done : arriving s datagra
       ∙ put-held s (stored (s .incoming) (h .fragment) n (isLast (h .flags1))) (h .flags1) (h .serial)
       ∙ ap (λ (k : ℕ). stored (s .incoming) (h .fragment) k (isLast (h .flags1))) (body-length (bodyOf datagram) (a .short))
 
+  -- it is held,
+  pub put-is-held : rowFor s h ≡ Put → length (s .incoming .slots) ≡ 32
+      → held (arriving s datagram slots out .outcome .server .incoming) (h .fragment) ≡ true
+  put-is-held row long =
+      let number = put-fits s h (accepted-so .can) row .0 in
+      ap (λ (m : Incoming). held m (h .fragment)) (put-length row)
+      ∙ stored-held-same (s .incoming) (h .fragment) (length (bodyOf datagram)) (isLast (h .flags1)) (omega arith)
+
   -- and its body lies in its place;
   pub put-bytes : rowFor s h ≡ Put → arriving s datagram slots out .slots ≡ putAt (1392 * h .fragment) (bodyOf datagram) slots
   unfolding arrivalRow requestPlan putPlan
@@ -149,6 +162,12 @@ module _ (s : Server) (datagram slots out : List ℕ) (done : arriving s datagra
       ap (λ (t : Server). t .incoming) (a .leaves Begin row)
       ∙ begin-held s h n
       ∙ ap (λ (k : ℕ). stored cleared (h .fragment) k (isLast (h .flags1))) (body-length (bodyOf datagram) (a .short))
+
+  pub begin-is-held : rowFor s h ≡ Begin → held (arriving s datagram slots out .outcome .server .incoming) (h .fragment) ≡ true
+  begin-is-held row =
+      let number = begin-fits s h (accepted-so .can) row .0 in
+      ap (λ (m : Incoming). held m (h .fragment)) (begin-length row)
+      ∙ stored-held-same cleared (h .fragment) (length (bodyOf datagram)) (isLast (h .flags1)) (omega (arith, cleared-length))
 
   pub begin-bytes : rowFor s h ≡ Begin → arriving s datagram slots out .slots ≡ putAt (1392 * h .fragment) (bodyOf datagram) slots
   unfolding arrivalRow beginPlan requestPlan putPlan
