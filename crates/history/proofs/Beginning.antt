@@ -107,7 +107,7 @@ server-fresh s standing slots starts dispatches replies f none unanswered-yet = 
   replying = λ e. absurd (false≢true (sym (ap hasData (f .state)) ∙ e));
 }
 
--- and nothing on record.
+-- and nothing on the books.
 calls-fresh : (starts : List Started) (dispatches : List Dispatched) (replies : List Replied) → starts ≡ [] → dispatches ≡ [] → replies ≡ []
     → CallInv starts dispatches replies
 calls-fresh starts dispatches replies s d r = record {

@@ -275,7 +275,7 @@ row-tells Nocall c h n status e = absurd (false≢true (sym (by-count (ltb (c .r
 row-tells FackEvent c h n status e = absurd (false≢true e)
 row-tells Foreign c h n status e = absurd (false≢true e)
 
--- It still has one after the row.
+-- A client with a call still has one after the row.
 still : (event : Event) (c : Client) (h : Header) (n status : ℕ) → isQueued (c .state) ≡ false → isQueued (arrivalRow event c h n status .client .state) ≡ false
 unfolding arrivalRow responsePlan putPlan refused
 still ResponseEvent c h n status e =

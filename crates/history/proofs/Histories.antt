@@ -70,12 +70,12 @@ unfolding run
 fair-append w [] after fair = (tt, fair)
 fair-append w (e ∷ es) after fair = let rest = fair-append (step w e) es after (fair .1) in ((fair .0, rest .0), rest .1)
 
--- The starts on record stay or get one more.
+-- The starts on the books stay or get one more.
 pub record OneMore (before after : List Started) : Type 0 where
   pub start : Started
   pub is : after ≡ andThen before start
 
--- A start that is answered 0 is on record then,
+-- A start that is answered 0 is on the books then,
 start-more : (w : World) (call : Call) (n : ℕ) (message : List ℕ) → starting (w .client .machine) call n .answer ≡ Done
     → OneMore (w .books .starts) (startStep w (starting (w .client .machine) call n) call message .books .starts)
 start-more w call n message done =
@@ -136,7 +136,7 @@ step-grows w e fair = by-answer (done-or-not (answerTo w e))
     by-answer (yes done) = accepted-grows w e done (fair done)
     by-answer (no other) = inr (subst (λ (v : World). Leads (replyHandedUp w) (replyHandedUp v)) (sym (refused-same w e other)) (leads-refl (replyHandedUp w)))
 
--- While no start goes on record it only grows.
+-- While no start goes on the books it only grows.
 pub run-grows : (w : World) (events : List Event) → Fair w events → run w events .books .starts ≡ w .books .starts → Leads (replyHandedUp w) (replyHandedUp (run w events))
 unfolding run
 run-grows w [] fair same = leads-refl (replyHandedUp w)

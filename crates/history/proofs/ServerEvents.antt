@@ -137,7 +137,7 @@ server-timer-inv w ticket out inv done =
     (record-uuids (plan .send) (plan .server) (next .activity) (rw (g .call) (inv .server .called called .typed))) (j .buffer)
     (others-known (Response (w .books .replies)) (w .books .standing) (plan .send) (plan .server) blank [] (quiet .0))))
 
--- A reply that goes on record.
+-- A reply that goes on the books.
 module _ (w : World) (inv : Inv w) (n : ℕ) (message : List ℕ) (can : CanReply (w .server .machine) n) (whole : length message ≡ n) where
   abbrev reply : Replied
   reply = record { ordinal = lastDispatched (w .books .dispatches); message = message }
@@ -209,7 +209,7 @@ module _ (w : World) (inv : Inv w) (n : ℕ) (message : List ℕ) (can : CanRepl
   client-replied : ClientInv (w .client .machine) (w .client .slots) (w .books .starts) replies
   client-replied = more-replies (w .books .replies) replies grown (w .client .machine) (w .client .slots) (w .books .starts) (inv .client)
 
-  -- and of two replies to one number the earlier is a single fragment.
+  -- and of two replies to one start the earlier is a single fragment.
   alike : (r t : Replied) → In r replies → In t replies → r .ordinal ≡ t .ordinal → (r ≡ t) ⊎ (Single (r .message) ⊎ Single (t .message))
   alike r t m k e = by-places (in-grown (w .books .replies) r reply m) (in-grown (w .books .replies) t reply k)
     where

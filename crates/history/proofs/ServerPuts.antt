@@ -261,7 +261,7 @@ module _ (s : Server) (o : ℕ) (slots : List ℕ) (starts : List Started) (disp
           let other = times-other dispatches (dispatch bytes) (t .ordinal) (eqb-false (t .ordinal) o e) in
           rw other (calls .once t m mark)
 
-  -- and the calls on record stay as they are known.
+  -- and the calls on the books stay as they are known.
   calls-dispatched : (bytes : List ℕ) → bytes ≡ collecting .start .message → CallInv starts (andThen dispatches (dispatch bytes)) replies
   calls-dispatched bytes all = record {
     unique = calls .unique;

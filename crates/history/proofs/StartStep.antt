@@ -63,7 +63,7 @@ module _ (c : Client) (slots : List ℕ) (starts : List Started) (replies : List
           let next = next-is e in
           omega arith
 
--- A start that goes on record.
+-- A start that goes on the books.
 module _ (w : World) (inv : Inv w) (call : Call) (n : ℕ) (message : List ℕ) (can : CanStart (w .client .machine) n) (fair : FairStart call n message) where
   abbrev number : ℕ
   number = nextNumber (isQueued (w .client .machine .state)) (w .client .machine .number)

@@ -228,7 +228,7 @@ module _ (message reply clientSlots serverSlots out : List ℕ) (asks : length m
   abbrev s14 : Side Server
   s14 = serverAt (Idle Spent) (sends 2786 3 3 0 6) all 102 Off v3 8
 
-  -- What is on record: nothing, the start, the dispatch of these bytes, the reply, the completion with these bytes.
+  -- What is on the books: nothing, the start, the dispatch of these bytes, the reply, the completion with these bytes.
   abbrev b0 : Books
   b0 = onBooks [] [] [] []
 

@@ -142,7 +142,7 @@ module _ (clientSlots serverSlots out : List ℕ) (clientRoom : length clientSlo
   abbrev s7 : Side Server
   s7 = record { machine = serverIn asking (Idle Repeatable) (sends 2 1 1 0 1) (holds (held 3) missing missing (At 0)) 100 Off; slots = v2; sent = serverSent 5 }
 
-  -- What is on record: nothing, the start, the first dispatch of these bytes, its reply, the second dispatch, its
+  -- What is on the books: nothing, the start, the first dispatch of these bytes, its reply, the second dispatch, its
   -- reply, the completion with these bytes.
   abbrev b0 : Books
   b0 = onBooks [] [] [] []
