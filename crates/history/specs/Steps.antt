@@ -230,15 +230,15 @@ pub record Happened : Type 0 where
   pub out : List ℕ
   pub world : World
 
-abbrev pub happened : {Machine : Type 0} → Turn Machine → World → Happened
-happened t world = record { answer = t .answer; notice = t .notice; out = t .out; world = world }
+abbrev pub gives : {Machine : Type 0} → Turn Machine → World → Happened
+gives t world = record { answer = t .answer; notice = t .notice; out = t .out; world = world }
 
 unfoldable pub happens : World → Event → Happened
 happens w (OfClient e) =
-    happened (clientTurn (w .client) e)
+    gives (clientTurn (w .client) e)
     (clientWorld w (clientTurn (w .client) e) (startsAfter (w .books .starts) e (clientTurn (w .client) e)))
 happens w (OfServer e) =
-    happened (serverTurn (w .server) e)
+    gives (serverTurn (w .server) e)
     (serverWorld w (serverTurn (w .server) e) (subjectOf w e (serverTurn (w .server) e .answer))
     (repliesAfter (w .books) e (serverTurn (w .server) e)))
 
