@@ -20,5 +20,6 @@ pub mod ServerPuts
 pub mod ServerArrivals
 pub mod Histories
 pub mod Tickets
+pub mod Undisturbed
 pub mod Facks
 pub mod Theorem

@@ -47,7 +47,7 @@ not-zero a other = by-number (eqb (numberOf a) 0) refl
     by-number false e = refl
 
 -- The buffer of a side after an event that left the bytes lent as they were.
-same-own : (lent : Lent) (own left : List ℕ) → left ≡ bytesLent lent own → ownAfter lent own left ≡ own
+pub same-own : (lent : Lent) (own left : List ℕ) → left ≡ bytesLent lent own → ownAfter lent own left ≡ own
 unfolding bytesLent ownAfter
 same-own Own own left e = e
 same-own (Other bytes) own left e = refl

@@ -30,7 +30,7 @@ use Rattle.history.specs.Events.{Event}
 use Rattle.history.specs.Steps.{lastStart, run}
 use Rattle.history.specs.Fairness.{Fair}
 use Rattle.history.specs.Freshness.{Fresh}
-use Rattle.history.specs.Claim.{times, AtMostOnce, WholeMessages, replyHandedUp, RepliesToDispatches, LeadsReply, OneReply, WholeReplies, WholeWhereAnswered, OnlyGrows, TimerOf, OnClient, OnServer, timerIn, LateTimers, GoneTickets, namesWait, namesAck, namesResend, Quiet, runs, WholeWhereRunning, clientCalls, serverCalled, Numbered, Claim}
+use Rattle.history.specs.Claim.{times, AtMostOnce, WholeMessages, replyHandedUp, RepliesToDispatches, LeadsReply, OneReply, WholeReplies, WholeWhereAnswered, OnlyGrows, TimerOf, OnClient, OnServer, timerIn, LateTimers, GoneTickets, namesWait, namesAck, namesResend, Quiet, WholeWhereRunning, clientCalls, serverCalled, Numbered, Claim}
 use Rattle.history.proofs.Holding.{unheld-joined, holding-leads}
 use Rattle.history.proofs.Network.{Known}
 use Rattle.history.proofs.Types.{IsAck}
@@ -38,6 +38,7 @@ use Rattle.history.proofs.Invariant.{ClientHolds, nothing, fragments-of
 use Rattle.history.proofs.Beginning.{fresh-inv}
 use Rattle.history.proofs.ClientArrivals.{whole-handed}
 use Rattle.history.proofs.Refused.{late-nothing}
+use Rattle.history.proofs.Undisturbed.{running-is, undisturbed}
 use Rattle.history.proofs.Histories.{run-inv, run-append, fair-append, run-grows}
 use Rattle.history.proofs.Tickets.{counterOf, run-counts, run-gone, acts-once, armed-afresh}
 
@@ -115,14 +116,6 @@ module _ (w : World) (inv : Inv w) where
       named-resend Replying = unfold isHeld in refl
       named-resend (Held reply) = unfold isHeld in refl
 
--- RUNNING alone runs.
-running-is : (s : ServerState) → runs s ≡ true → s ≡ Running
-running-is (Idle idle) e = absurd (false≢true e)
-running-is Collect e = absurd (false≢true e)
-running-is Running e = refl
-running-is Replying e = absurd (false≢true e)
-running-is (Held reply) e = absurd (false≢true e)
-
 -- A client with a call is not QUEUED, and a server that was called is not fresh.
 calls-begun : (s : State) → clientCalls s ≡ true → isQueued s ≡ false
 unfolding isQueued
@@ -197,6 +190,7 @@ theorem w fresh events fair =
       once = inv .calls .once;
       whole = whole-messages (run w events) inv;
       running = λ e. let r = inv .server .running (running-is (run w events .server .machine .state) e) in record { ran = r .ran; last = r .entry };
+      undisturbed = undisturbed (run w events);
       replied = inv .calls .replied;
       reply = one-reply (run w events) inv;
       complete = inv .completed;
