@@ -8,10 +8,7 @@ use borrow.Author.Tests.{le-leb, eq-eqb}
 use lib.ListN.{length}
 use Rattle.words.specs.Choice.{choose, either}
 use Rattle.words.proofs.Tests.{both-hold}
-use Rattle.fragments.proofs.PutLaws.{none-held}
-use Rattle.incoming.specs.declared.Incoming.{Incoming}
-use Rattle.incoming.specs.Slots.{missing, cleared, lastSound, soundFrom, sound as incomingSound}
-use Rattle.incoming.proofs.SlotLaws.{sound-all}
+use Rattle.incoming.specs.Slots.{cleared}
 use Rattle.outgoing.specs.declared.Outgoing.{Outgoing}
 use Rattle.outgoing.specs.Sending.{noMessage, bounded, hasNothing}
 use Rattle.outgoing.proofs.SendLaws.{bounded-holds}
@@ -34,16 +31,9 @@ use Rattle.server_record.proofs.RuleLaws.{rules-hold as server-rules}
 use Rattle.history.specs.Lists.{In}
 use Rattle.history.specs.World.{Started, Dispatched, Replied, World}
 use Rattle.history.specs.Claim.{hasReply}
-use Rattle.history.specs.Freshness.{NothingHeld, NothingSent, FreshClient, FreshServer, Fresh}
-use Rattle.history.proofs.Holding.{none-unheld}
+use Rattle.history.specs.Freshness.{NothingSent, FreshClient, FreshServer, Fresh}
+use Rattle.history.proofs.Holding.{none-sound, none-unheld}
 use Rattle.history.proofs.Invariant.{ClientInv, unanswered, hasData, ServerInv, CallInv, Inv}
-
--- Nothing held keeps the rules of what is held.
-held-sound : (m : Incoming) → NothingHeld m → incomingSound m ≡ true
-unfolding incomingSound
-held-sound m n =
-    both-hold (lastSound (m .last)) (soundFrom (m .last) 0 (m .slots)) (n .last)
-    (sound-all (m .last) 0 (m .slots) missing (λ g below h. absurd (false≢true (sym (none-held (m .slots) g (n .none)) ∙ h))))
 
 -- No message out keeps the rules of what is sent.
 sent-bounded : (o : Outgoing) → NothingSent o → bounded o ≡ true
@@ -68,7 +58,7 @@ client-fresh c slots starts replies f none = record {
         outgoing =
             subst (λ (s : ClientState). clientOutgoing s (c .outgoing) ≡ true) (sym (f .state))
             (both-hold (bounded (c .outgoing)) (hasNothing (c .outgoing)) (sent-bounded (c .outgoing) (f .outgoing)) (sent-none (c .outgoing) (f .outgoing)));
-        incoming = held-sound (c .incoming) (f .incoming);
+        incoming = none-sound (c .incoming) (f .incoming .last) (f .incoming .none);
         timers =
             both-hold _ _ (off-kept (isWaiting (c .state)) (c .wait) (c .tickets) (f .wait)) (off-kept (isAckPending (c .state)) (c .ack) (c .tickets) (f .ack));
       });
@@ -93,7 +83,7 @@ server-fresh s standing slots starts dispatches replies f none unanswered-yet = 
         outgoing =
             subst (λ (x : ServerState). serverOutgoing x (s .outgoing) ≡ true) (sym (f .state))
             (both-hold (bounded (s .outgoing)) (hasNothing (s .outgoing)) (sent-bounded (s .outgoing) (f .outgoing)) (sent-none (s .outgoing) (f .outgoing)));
-        incoming = held-sound (s .incoming) (f .incoming);
+        incoming = none-sound (s .incoming) (f .incoming .last) (f .incoming .none);
         timer = off-kept (isHeld (s .state)) (s .resend) (s .tickets) (f .resend);
       });
   activity = f .activity;

@@ -11,14 +11,14 @@ use lib.ListN.{length, drop, take-append-drop, getD, List·getD-eq-default}
 use native.Mathlib.Decide.{decLt}
 use borrow.Author.Tests.{eqb-true, eqb-false, eq-eqb, ltb-true, lt-ltb, le-ltb}
 use Rattle.words.specs.Choice.{choose, both, either}
-use Rattle.words.proofs.Tests.{either-false}
+use Rattle.words.proofs.Tests.{both-hold, either-false}
 use Rattle.flags.specs.Flags.{lastFragment, fragment, idempotent, hasFlag, withFlag}
 use Rattle.incoming.specs.declared.Slot.{Slot}
 use Rattle.incoming.specs.declared.Last.{Last}
 use Rattle.incoming.specs.declared.Last.the-variants.{Unknown, At}
 use Rattle.incoming.specs.declared.Incoming.{Incoming}
-use Rattle.incoming.specs.Slots.{missing, cleared, allTo, sound, contiguousFrom, contiguous, complete, lastWith, stored}
-use Rattle.incoming.proofs.SlotLaws.{count-held}
+use Rattle.incoming.specs.Slots.{missing, cleared, allTo, lastSound, soundFrom, sound, contiguousFrom, contiguous, complete, lastWith, stored}
+use Rattle.incoming.proofs.SlotLaws.{count-held, sound-all}
 use Rattle.outgoing.specs.Message.{fragments, fragmentOf, flagsOf}
 use Rattle.outgoing.proofs.OutgoingLaws.{fragments-reach, fragment-most}
 use Rattle.fragments.specs.Joined.{Leads}
@@ -75,11 +75,19 @@ pub record Empty (m : Incoming) : Type 0 where
   pub none : Unheld m
   pub last : m .last ≡ Unknown
 
--- Nothing is held where no slot is, and in a cleared record.
+-- Nothing is held where no slot is.
 pub none-unheld : (m : Incoming) → anyHeld (m .slots) ≡ false → Unheld m
 unfolding held
 none-unheld m none f = none-held (m .slots) f none
 
+-- It keeps the rules of what is held.
+pub none-sound : (m : Incoming) → lastSound (m .last) ≡ true → anyHeld (m .slots) ≡ false → sound m ≡ true
+unfolding sound
+none-sound m last none =
+    both-hold (lastSound (m .last)) (soundFrom (m .last) 0 (m .slots)) last
+    (sound-all (m .last) 0 (m .slots) missing (λ g below h. absurd (false≢true (sym (none-held (m .slots) g none) ∙ h))))
+
+-- So it is in a cleared record.
 pub cleared-empty : Empty cleared
 unfolding cleared either choose
 cleared-empty = record { none = none-unheld cleared refl; last = refl }
