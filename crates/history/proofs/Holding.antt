@@ -1,5 +1,5 @@
--- What a receiver holds of one message. Of the files of this crate this one alone knows the sizes of document 01,
--- and in which slot a fragment lies.
+-- What a receiver holds of one message. Of the proofs of this crate this one alone knows the slots, the sizes of the slot
+-- buffer and of a fragment, and in which slot a fragment lies.
 use Prim.Native.Nat.{ℕ, zero, suc, _+_, _*_, _<_, _≤_}
 use mathlib.Core.Bool.{Bool, true, false, false≢true, true≢false}
 use mathlib.Core.List.{List, [], _++_}
