@@ -1,0 +1,4 @@
+-- Every event keeps the widths of the record's fields.
+pub mod Headers
+pub mod ClientFields
+pub mod ClientKeeps

@@ -1,0 +1,65 @@
+-- What fits the widths in which the parts of a record are kept as bytes. Definitions are over plain numbers and
+-- lists, so what the types of the code's fields say is said here.
+use Prim.Native.Nat.{ℕ, _<_}
+use mathlib.Core.Bool.{Bool, true, false}
+use mathlib.Core.List.{List, [], _∷_}
+use mathlib.Core.Path.{_≡_}
+use lib.ListN.{length}
+use Rattle.calls.specs.declared.Call.{Call}
+use Rattle.incoming.specs.declared.Slot.{Slot}
+use Rattle.incoming.specs.declared.Last.{Last}
+use Rattle.incoming.specs.declared.Last.the-variants.{Unknown, At}
+use Rattle.incoming.specs.declared.Incoming.{Incoming}
+use Rattle.outgoing.specs.declared.Outgoing.{Outgoing}
+use Rattle.timers.specs.declared.Timer.{Timer}
+use Rattle.timers.specs.declared.Timer.the-variants.{Off, Armed}
+
+-- Every element is a byte.
+abbrev pub Octets : List ℕ → Type 0
+Octets [] = Unit {0}
+Octets (b ∷ bs) = (b < 256) × Octets bs
+
+-- 16 bytes.
+pub record Uuid (u : List ℕ) : Type 0 where
+  pub size : length u ≡ 16
+  pub octets : Octets u
+
+-- A call's UUIDs, its version in 4 bytes and its operation in 2.
+pub record FitsCall (call : Call) : Type 0 where
+  pub object : Uuid (call .object)
+  pub interface : Uuid (call .interface)
+  pub version : call .version < 4294967296
+  pub operation : call .operation < 65536
+
+-- The message sent: its length in 4 bytes, its counts in one each, the serial in 2.
+pub record FitsOutgoing (o : Outgoing) : Type 0 where
+  pub length : o .length < 4294967296
+  pub count : o .count < 256
+  pub sent : o .sent < 256
+  pub acknowledged : o .acknowledged < 256
+  pub serial : o .serial < 65536
+
+-- The known last is kept in one byte.
+abbrev pub FitsLast : Last → Type 0
+FitsLast Unknown = Unit {0}
+FitsLast (At n) = n < 256
+
+-- The length of a fragment held is kept in 2 bytes; that of one not held is 0.
+abbrev pub FitsSlot : Bool → ℕ → Type 0
+FitsSlot true length = length < 65536
+FitsSlot false length = length ≡ 0
+
+abbrev pub FitsSlots : List Slot → Type 0
+FitsSlots [] = Unit {0}
+FitsSlots (s ∷ ss) = FitsSlot (s .held) (s .length) × FitsSlots ss
+
+-- The message received has 32 slots.
+pub record FitsIncoming (m : Incoming) : Type 0 where
+  pub size : length (m .slots) ≡ 32
+  pub slots : FitsSlots (m .slots)
+  pub last : FitsLast (m .last)
+
+-- An armed timer's ticket is kept in 8 bytes.
+abbrev pub FitsTimer : Timer → Type 0
+FitsTimer Off = Unit {0}
+FitsTimer (Armed ticket) = ticket < 18446744073709551616
