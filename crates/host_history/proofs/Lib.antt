@@ -2,3 +2,5 @@
 pub mod Headers
 pub mod ClientFields
 pub mod ClientKeeps
+pub mod ServerFields
+pub mod ServerKeeps
