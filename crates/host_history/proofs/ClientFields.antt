@@ -54,14 +54,14 @@ module _ (c : Client) (fits : FitsClient c) where
   pub waiting-fits : (state : State) → FitsClient (waiting c state)
   unfolding waiting
   waiting-fits state =
-      timed-fits state (nextTicket (c .tickets)) (armedAfresh (c .tickets)) Off (next-ticket-fits (c .tickets) (fits .tickets))
-      (armed-fits (c .tickets) (fits .tickets)) tt
+      timed-fits state (nextTicket (c .tickets)) (armedAfresh (c .tickets)) Off
+      (next-ticket-fits (c .tickets) (fits .tickets)) (armed-fits (c .tickets) (fits .tickets)) tt
 
   pub ack-pending-fits : FitsClient (ackPending c)
   unfolding ackPending
   ack-pending-fits =
-      timed-fits AckPending (nextTicket (c .tickets)) Off (armedAfresh (c .tickets)) (next-ticket-fits (c .tickets) (fits .tickets)) tt
-      (armed-fits (c .tickets) (fits .tickets))
+      timed-fits AckPending (nextTicket (c .tickets)) Off (armedAfresh (c .tickets))
+      (next-ticket-fits (c .tickets) (fits .tickets)) tt (armed-fits (c .tickets) (fits .tickets))
 
   pub unarmed-fits : (state : State) → FitsClient (unarmed c state)
   unfolding unarmed

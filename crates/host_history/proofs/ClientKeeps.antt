@@ -7,34 +7,26 @@ use native.Mathlib.Omega.{arith}
 use lib.Dec.{ltb}
 use lib.ListN.{length}
 use borrow.Author.Tests.{ltb-true}
-use Rattle.words.specs.Choice.{choose}
 use Rattle.answers.specs.declared.Ground.{Ground}
 use Rattle.answers.specs.declared.Ground.the-variants.{Pass, Refuse}
 use Rattle.bodies.specs.Status.{statusReading}
 use Rattle.calls.specs.declared.Call.{Call}
 use Rattle.calls.specs.declared.Notice.{Notice}
-use Rattle.calls.specs.declared.Notice.the-variants.{Nothing as Untold, Fault as FaultNotice, Reject as RejectNotice, Cause}
-use Rattle.incoming.specs.declared.Incoming.{Incoming}
+use Rattle.calls.specs.declared.Notice.the-variants.{Fault as FaultNotice, Reject as RejectNotice, Cause}
 use Rattle.incoming.specs.Slots.{complete, stored}
-use Rattle.outgoing.specs.declared.Outgoing.{Outgoing}
 use Rattle.outgoing.specs.Sending.{afterSend, afterPing, acknowledgedTo, rewound, sendsLast}
 use Rattle.pdu.specs.declared.Header.{Header}
 use Rattle.pdu.specs.Header.{bodyOf}
 use Rattle.reader.specs.Reading.{reading}
-use Rattle.timers.specs.declared.Timer.{Timer}
-use Rattle.timers.specs.declared.Timer.the-variants.{Off}
-use Rattle.timers.specs.Tickets.{nextTicket, armedAfresh}
 use Rattle.grounds.specs.Entry.{lentGround}
 use Rattle.grounds.specs.Fragment.{isLast, bodyLength}
 use Rattle.grounds.specs.Fack.{acknowledgedBy}
 use Rattle.grounds.proofs.GroundLaws.{fragment-passes}
-use Rattle.client_record.specs.declared.State.{State}
 use Rattle.client_record.specs.declared.State.the-variants.{SendFrags, Dispatched, ReceiveFrags, Complete, Fault as FaultState}
 use Rattle.client_record.specs.declared.TimerKind.{TimerKind}
 use Rattle.client_record.specs.declared.TimerKind.the-variants.{Wait, Ack}
 use Rattle.client_record.specs.declared.Client.{Client}
 use Rattle.client_record.specs.States.{isQueued}
-use Rattle.client_record.specs.Record.{fresh, timed, waiting, ackPending, unarmed}
 use Rattle.client_table.specs.declared.Event.{Event}
 use Rattle.client_table.specs.declared.Event.the-variants.{Response, Fault, Reject, Working, Nocall, Fack, Foreign}
 use Rattle.client_table.specs.Events.{eventOf, byEvent}
@@ -43,15 +35,15 @@ use Rattle.client_table.specs.Arrival.{arrivalGround}
 use Rattle.client_steps.specs.declared.Plan.{Plan}
 use Rattle.client_steps.specs.Plan.{refused, accepted, withOutgoing, withWaits, failed}
 use Rattle.client_steps.specs.Rows.{nextNumber, started, startPlan, transmitted, transmitPlan, pinged, waitPlan, ackPlan, timerRow, timerPlan}
-use Rattle.client_arrivals.specs.Rows.{acknowledged, fackPlan, putRecord, withIncoming, withResends, putPlan, responsePlan, workingPlan, resent, nocallPlan}
+use Rattle.client_arrivals.specs.Rows.{acknowledged, fackPlan, putRecord, putPlan, responsePlan, workingPlan, resent, nocallPlan}
 use Rattle.client_arrivals.specs.Table.{arrivalRow, arrivalPlan}
 use Rattle.client.specs.Machine.{outcomeOf, starting, sending, transmitting, timing, planOf, acted, arriving}
 use Rattle.client.proofs.Judging.{CanArrive, arrival-passes}
 use Rattle.history.specs.World.{Side}
 use Rattle.history.specs.Events.{ClientEvent, Start, ClientTransmit, ClientArrive, ClientTimer}
 use Rattle.history.specs.Steps.{bytesLent, clientTurn}
-use Rattle.record_bytes.specs.Fits.{Octets, Uuid, FitsCall, FitsOutgoing, FitsIncoming, FitsTimer}
-use Rattle.record_bytes.proofs.Keeping.{choice-by, choice-keeps, after-send-fits, after-ping-fits, acknowledged-fits, rewound-fits, started-fits, no-message-fits, cleared-fits, stored-fits, next-ticket-fits, armed-fits, blank-call-fits}
+use Rattle.record_bytes.specs.Fits.{FitsCall}
+use Rattle.record_bytes.proofs.Keeping.{choice-by, choice-keeps, after-send-fits, after-ping-fits, acknowledged-fits, rewound-fits, started-fits, cleared-fits, stored-fits}
 use Rattle.client_bytes.specs.Fits.{FitsClient}
 use Rattle.host_history.proofs.ClientFields.{waiting-fits, ack-pending-fits, unarmed-fits, outgoing-fits, incoming-fits, waits-fits, resends-fits}
 use Rattle.host_history.specs.Arguments.{ClientFits}
@@ -61,7 +53,8 @@ module _ (c : Client) (fits : FitsClient c) where
   number-fits : nextNumber (isQueued (c .state)) (c .number) < 4294967296
   unfolding nextNumber
   number-fits =
-      choice-keeps (λ (n : ℕ). n < 4294967296) (isQueued (c .state)) 0 ((c .number + 1) % 4294967296) (omega arith) (omega arith)
+      choice-keeps (λ (n : ℕ). n < 4294967296) (isQueued (c .state)) 0 ((c .number + 1) % 4294967296) (omega arith)
+      (omega arith)
 
   start-fits : (call : Call) (n : ℕ) → FitsCall call → n < 4294967296 → FitsClient (started c call n)
   unfolding started
@@ -78,7 +71,8 @@ module _ (c : Client) (fits : FitsClient c) where
     ack = tt;
   }
 
-  start-plan-fits : (g : Ground) (call : Call) (n : ℕ) → FitsCall call → n < 4294967296 → FitsClient (startPlan g c call n .client)
+  start-plan-fits : (g : Ground) (call : Call) (n : ℕ) → FitsCall call → n < 4294967296
+      → FitsClient (startPlan g c call n .client)
   unfolding startPlan refused accepted
   start-plan-fits (Refuse a) call n carried short = fits
   start-plan-fits Pass call n carried short = start-fits call n carried short
@@ -103,7 +97,8 @@ module _ (c : Client) (fits : FitsClient c) where
   unfolding pinged
   pinged-fits below =
       waits-fits _
-      (waiting-fits _ (outgoing-fits c fits (afterPing (c .outgoing)) (after-ping-fits (c .outgoing) (fits .outgoing))) (c .state))
+      (waiting-fits _ (outgoing-fits c fits (afterPing (c .outgoing)) (after-ping-fits (c .outgoing) (fits .outgoing)))
+      (c .state))
       (c .waits + 1) (omega (arith, ltb-true (c .waits) 5 below))
 
   wait-fits : FitsClient (waitPlan c .client)
@@ -140,7 +135,9 @@ module _ (c : Client) (fits : FitsClient c) where
   resent-fits : ltb (c .resends) 5 ≡ true → FitsClient (resent c)
   unfolding resent
   resent-fits below =
-      resends-fits _ (unarmed-fits _ (outgoing-fits c fits (rewound (c .outgoing)) (rewound-fits (c .outgoing) (fits .outgoing))) SendFrags)
+      resends-fits _
+      (unarmed-fits _ (outgoing-fits c fits (rewound (c .outgoing)) (rewound-fits (c .outgoing) (fits .outgoing)))
+      SendFrags)
       (c .resends + 1) (omega (arith, ltb-true (c .resends) 5 below))
 
   nocall-fits : FitsClient (nocallPlan c .client)
@@ -154,7 +151,8 @@ module _ (c : Client) (fits : FitsClient c) where
       → FitsClient (arrivalRow event c h n status .client)
   unfolding arrivalRow workingPlan fackPlan acknowledged accepted refused byEvent
   row-fits Response h n status j short =
-      response-fits (h .flags1) (h .serial) (h .fragment) n (fragment-passes (h .flags1) (h .fragment) (j .number)) short
+      response-fits (h .flags1) (h .serial) (h .fragment) n (fragment-passes (h .flags1) (h .fragment) (j .number))
+      short
   row-fits Fault h n status j short = failed-fits (FaultNotice status)
   row-fits Reject h n status j short = failed-fits (RejectNotice status)
   row-fits Working h n status j short = waiting-fits (withWaits c 0) (waits-fits c fits 0 (omega arith)) Dispatched
@@ -165,8 +163,8 @@ module _ (c : Client) (fits : FitsClient c) where
   row-fits Foreign h n status j short = fits
 
   -- and one that was refused.
-  arrival-plan-fits : (g : Ground) (h : Header) (n status : ℕ) → (g ≡ Pass → CanArrive (eventOf (h .kind)) c h n) → n < 65536
-      → FitsClient (arrivalPlan g c h n status .client)
+  arrival-plan-fits : (g : Ground) (h : Header) (n status : ℕ) → (g ≡ Pass → CanArrive (eventOf (h .kind)) c h n)
+      → n < 65536 → FitsClient (arrivalPlan g c h n status .client)
   unfolding arrivalPlan refused
   arrival-plan-fits (Refuse a) h n status j short = fits
   arrival-plan-fits Pass h n status j short = row-fits (eventOf (h .kind)) h n status (j refl) short
@@ -175,7 +173,8 @@ module _ (c : Client) (fits : FitsClient c) where
   unfolding arriving acted sending outcomeOf planOf
   arrive-fits datagram slots out =
       arrival-plan-fits (arrivalGround c (lentGround (length slots) (length out)) (reading datagram) (bodyOf datagram))
-      (reading datagram .header) (bodyLength (bodyOf datagram)) (statusReading (reading datagram .little) (bodyOf datagram) .status)
+      (reading datagram .header) (bodyLength (bodyOf datagram))
+      (statusReading (reading datagram .little) (bodyOf datagram) .status)
       (λ (pass : arrivalGround c (lentGround (length slots) (length out)) (reading datagram) (bodyOf datagram) ≡ Pass).
       arrival-passes c (lentGround (length slots) (length out)) (reading datagram) (bodyOf datagram) pass .1)
       (omega arith)

@@ -34,10 +34,11 @@ module _ (s : List ℕ) (octets : Octets s) where
 
   uuid-octets : (little : Bool) (at : ℕ) → Octets (uuidAt little s at)
   uuid-octets little at =
-      octets-joined (turned little (part 4 s at)) (turned little (part 2 s (at + 4)) ++ (turned little (part 2 s (at + 6)) ++ part 8 s (at + 8)))
-      (word-octets little 4 at)
-      (octets-joined (turned little (part 2 s (at + 4))) (turned little (part 2 s (at + 6)) ++ part 8 s (at + 8)) (word-octets little 2 (at + 4))
-      (octets-joined (turned little (part 2 s (at + 6))) (part 8 s (at + 8)) (word-octets little 2 (at + 6)) (octets-part 8 s (at + 8) octets)))
+      octets-joined (turned little (part 4 s at)) _ (word-octets little 4 at)
+      (octets-joined (turned little (part 2 s (at + 4))) (turned little (part 2 s (at + 6)) ++ part 8 s (at + 8))
+      (word-octets little 2 (at + 4))
+      (octets-joined (turned little (part 2 s (at + 6))) (part 8 s (at + 8)) (word-octets little 2 (at + 6))
+      (octets-part 8 s (at + 8) octets)))
 
   uuid-fits : (little : Bool) (at : ℕ) → Uuid (uuidAt little s at)
   uuid-fits little at = record { size = uuid-length little at; octets = uuid-octets little at }
@@ -56,7 +57,13 @@ module _ (s : List ℕ) (octets : Octets s) where
 -- a blank,
 blank-fits : FitsHeader blank
 unfolding blank
-blank-fits = record { object = blank-uuid; interface = blank-uuid; version = omega arith; number = omega arith; operation = omega arith }
+blank-fits = record {
+  object = blank-uuid;
+  interface = blank-uuid;
+  version = omega arith;
+  number = omega arith;
+  operation = omega arith;
+}
 
 -- and so what reading gives of any bytes.
 read-fits : (g : Ground) (little : Bool) (h : Header) → FitsHeader h → FitsHeader (readBy g little h .header)
@@ -67,4 +74,5 @@ read-fits (Refuse a) little h fits = blank-fits
 pub reading-fits : (s : List ℕ) → Octets s → FitsHeader (reading s .header)
 unfolding reading
 reading-fits s octets =
-    read-fits (groundBy s (orderIs 16 s) (orderIs 0 s)) (orderIs 16 s) (headerOf (orderIs 16 s) s) (header-fits s octets (orderIs 16 s))
+    read-fits (groundBy s (orderIs 16 s) (orderIs 0 s)) (orderIs 16 s) (headerOf (orderIs 16 s) s)
+    (header-fits s octets (orderIs 16 s))

@@ -2,15 +2,14 @@
 use Prim.Native.Nat.{ℕ, _+_, _<_, _≤_}
 use mathlib.Core.Bool.{Bool, true, false}
 use mathlib.Core.List.{List}
-use mathlib.Core.Path.{_≡_, refl, sym, subst}
+use mathlib.Core.Path.{_≡_, refl}
 use native.Mathlib.Omega.{arith}
 use lib.Dec.{ltb}
 use lib.ListN.{length}
 use borrow.Author.Tests.{ltb-true}
 use Rattle.answers.specs.declared.Ground.{Ground}
 use Rattle.answers.specs.declared.Ground.the-variants.{Pass, Refuse}
-use Rattle.incoming.specs.declared.Incoming.{Incoming}
-use Rattle.incoming.specs.Slots.{cleared, complete, stored}
+use Rattle.incoming.specs.Slots.{complete, stored}
 use Rattle.outgoing.specs.Sending.{afterSend, acknowledgedTo, rewound, replied, sendsLast}
 use Rattle.pdu.specs.declared.Header.{Header}
 use Rattle.pdu.specs.Header.{bodyOf}
@@ -39,7 +38,7 @@ use Rattle.server.proofs.Judging.{CanArrive, begin-fits, put-fits, arrival-pass
 use Rattle.history.specs.World.{Side}
 use Rattle.history.specs.Events.{ServerEvent, ServerArrive, ServerTransmit, ServerTimer, Reply as ReplyEvent, Fault}
 use Rattle.history.specs.Steps.{bytesLent, serverTurn}
-use Rattle.record_bytes.specs.Fits.{Octets, FitsCall}
+use Rattle.record_bytes.specs.Fits.{Octets}
 use Rattle.record_bytes.proofs.Keeping.{choice-by, choice-keeps, after-send-fits, acknowledged-fits, rewound-fits, replied-fits, no-message-fits, cleared-fits, stored-fits}
 use Rattle.server_bytes.specs.Fits.{FitsReply, FitsState, FitsServer}
 use Rattle.host_history.specs.Arguments.{ServerFits}
@@ -52,15 +51,17 @@ module _ (s : Server) (fits : FitsServer s) where
   unfolding replyPlan refused accepted answered
   reply-plan-fits (Refuse a) n short = fits
   reply-plan-fits Pass n short =
-      unarmed-fits _ (outgoing-fits s fits (replied (s .outgoing) n) (replied-fits (s .outgoing) n (fits .outgoing) short)) Replying tt
+      unarmed-fits _
+      (outgoing-fits s fits (replied (s .outgoing) n) (replied-fits (s .outgoing) n (fits .outgoing) short)) Replying tt
 
-  -- transmit,
+  -- how a call that is answered ends,
   settled-fits : (again : Bool) (reply : Reply) → FitsReply reply → FitsServer (settled again s reply)
   unfolding settled
   settled-fits again reply known =
-      choice-keeps FitsServer again _ _ (unarmed-fits s fits (IdleState Repeatable) tt) (holding-fits s fits reply known)
+      choice-keeps FitsServer again _ _ (unarmed-fits s fits (IdleState Repeatable) tt)
+      (holding-fits s fits reply known)
 
--- what is sent,
+-- transmit,
 module _ (s : Server) (fits : FitsServer s) where
   sent-fits : FitsServer (withOutgoing s (afterSend (s .outgoing)))
   sent-fits = outgoing-fits s fits (afterSend (s .outgoing)) (after-send-fits (s .outgoing) (fits .outgoing))
@@ -70,7 +71,9 @@ module _ (s : Server) (fits : FitsServer s) where
   transmit-plan-fits (Refuse a) = fits
   transmit-plan-fits Pass =
       choice-keeps FitsServer (sendsLast (s .outgoing)) _ _
-      (settled-fits (withOutgoing s (afterSend (s .outgoing))) sent-fits (runsAgain (s .call .idempotent) (s .outgoing)) Data tt) sent-fits
+      (settled-fits (withOutgoing s (afterSend (s .outgoing))) sent-fits
+      (runsAgain (s .call .idempotent) (s .outgoing)) Data tt)
+      sent-fits
 
   -- fault,
   fault-plan-fits : (g : Ground) (status : ℕ) → status < 4294967296 → FitsServer (faultPlan g s status .server)
@@ -82,7 +85,8 @@ module _ (s : Server) (fits : FitsServer s) where
   rewinding-fits : FitsServer (rewinding s)
   unfolding rewinding
   rewinding-fits =
-      unarmed-fits _ (outgoing-fits s fits (rewound (s .outgoing)) (rewound-fits (s .outgoing) (fits .outgoing))) Replying tt
+      unarmed-fits _
+      (outgoing-fits s fits (rewound (s .outgoing)) (rewound-fits (s .outgoing) (fits .outgoing))) Replying tt
 
   replay-held-fits : (reply : Reply) → FitsServer (replayHeld s reply .server)
   unfolding replayHeld accepted
@@ -102,7 +106,8 @@ module _ (s : Server) (fits : FitsServer s) where
   counted-fits : ltb (s .resends) 5 ≡ true → FitsServer (withResends s (s .resends + 1))
   counted-fits below = resends-fits s fits (s .resends + 1) (omega (arith, ltb-true (s .resends) 5 below))
 
-  resend-held-fits : (reply : Reply) → FitsReply reply → ltb (s .resends) 5 ≡ true → FitsServer (resendHeld s reply .server)
+  resend-held-fits : (reply : Reply) → FitsReply reply → ltb (s .resends) 5 ≡ true
+      → FitsServer (resendHeld s reply .server)
   unfolding resendHeld accepted
   resend-held-fits Data known below = rewinding-fits _ (counted-fits below)
   resend-held-fits (FaultReply status) known below = holding-fits _ (counted-fits below) (FaultReply status) known
@@ -145,7 +150,13 @@ module _ (s : Server) (fits : FitsServer s) where
     activity = fits .activity;
     boot = fits .boot;
     number = carried .number;
-    call = record { object = carried .object; interface = carried .interface; version = carried .version; operation = carried .operation };
+    call =
+        record {
+          object = carried .object;
+          interface = carried .interface;
+          version = carried .version;
+          operation = carried .operation;
+        };
     outgoing = no-message-fits;
     incoming = cleared-fits;
     resends = omega arith;
@@ -161,7 +172,9 @@ module _ (s : Server) (fits : FitsServer s) (h : Header) (carried : FitsHeader h
   by-row Old e j = fits
   by-row Missing e j = fits
   by-row Repeat e j = fits
-  by-row Begin e j = request-fits (begun s h) (begun-fits s fits h carried) (h .flags1) (h .serial) (h .fragment) n (begin-fits s h j e .0) short
+  by-row Begin e j =
+      request-fits (begun s h) (begun-fits s fits h carried) (h .flags1) (h .serial) (h .fragment) n
+      (begin-fits s h j e .0) short
   by-row Put e j = request-fits s fits (h .flags1) (h .serial) (h .fragment) n (put-fits s h j e .0) short
   by-row Working e j = fits
   by-row Nocall e j = fits
@@ -181,7 +194,8 @@ arrive-fits : (s : Server) → FitsServer s → (datagram slots out : List ℕ) 
     → FitsServer (arriving s datagram slots out .outcome .server)
 unfolding arriving acted sending outcomeOf planOf
 arrive-fits s fits datagram slots out octets =
-    arrival-plan-fits s fits (reading datagram .header) (reading-fits datagram octets) (bodyLength (bodyOf datagram)) (omega arith)
+    arrival-plan-fits s fits (reading datagram .header) (reading-fits datagram octets) (bodyLength (bodyOf datagram))
+    (omega arith)
     (arrivalGround s (lentGround (length slots) (length out)) (reading datagram) (bodyOf datagram))
     (λ (pass : arrivalGround s (lentGround (length slots) (length out)) (reading datagram) (bodyOf datagram) ≡ Pass).
     arrival-passes s (lentGround (length slots) (length out)) (reading datagram) (bodyOf datagram) pass .1)

@@ -1,6 +1,5 @@
 -- What the types of a call's arguments say of an event: bytes, and numbers of so many bits.
-use Prim.Native.Nat.{ℕ, _<_}
-use mathlib.Core.List.{List}
+use Prim.Native.Nat.{_<_}
 use Rattle.record_bytes.specs.Fits.{Octets, FitsCall}
 use Rattle.history.specs.Events.{Lent, Own, Other, ClientEvent, ServerEvent, Event, Start, ClientTransmit, ClientArrive, ClientTimer, ServerArrive, ServerTransmit, ServerTimer, Reply, Fault, OfClient, OfServer}
 

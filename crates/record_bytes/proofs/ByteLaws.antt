@@ -1,11 +1,11 @@
 -- Laws of bytes: what is cut out of bytes and turned round is bytes, and a number of n bytes is below 256 ^ n.
-use Prim.Native.Nat.{ℕ, zero, suc, _+_, _*_, _^_, _<_}
+use Prim.Native.Nat.{ℕ, zero, suc, _^_, _<_}
 use mathlib.Core.Bool.{Bool, true, false}
 use mathlib.Core.List.{List, [], _∷_, _++_}
-use mathlib.Core.Path.{_≡_, refl, ap}
+use mathlib.Core.Path.{_≡_, refl}
 use native.Mathlib.Omega.{arith}
 use native.Mathlib.Nat.{pow-suc}
-use lib.ListN.{length, getD, replicate, length-reverse}
+use lib.ListN.{length, getD, length-reverse}
 use Rattle.words.specs.Number.{le, turned, part, number}
 use Rattle.words.proofs.Number.{All, all-turned, all-part, length-part}
 use Rattle.record_bytes.specs.Fits.{Octets}
@@ -52,5 +52,6 @@ le-below (suc n) (b ∷ bs) e h =
 pub number-below : (n : ℕ) (little : Bool) (s : List ℕ) (at : ℕ) → Octets s → number n little s at < 256 ^ n
 unfolding number
 number-below n little s at h =
-    let size : length (turned little (part n s at)) ≡ n = rw (length-turned little (part n s at)) (length-part n s at) in
+    let size : length (turned little (part n s at)) ≡ n =
+    rw (length-turned little (part n s at)) (length-part n s at) in
     le-below n (turned little (part n s at)) size (octets-turned little (part n s at) (octets-part n s at h))

@@ -1,5 +1,5 @@
 -- What the machines make of a record's parts keeps their widths.
-use Prim.Native.Nat.{ℕ, zero, suc, _+_, _%_, _<_, max}
+use Prim.Native.Nat.{ℕ, zero, suc, _+_, _<_}
 use mathlib.Core.Bool.{Bool, true, false}
 use mathlib.Core.List.{List, [], _∷_}
 use mathlib.Core.Path.{_≡_, refl, _∙_}
@@ -10,7 +10,6 @@ use borrow.Author.Tests.{ltb-true, eqb-false}
 use Rattle.words.specs.Choice.{choose}
 use Rattle.calls.specs.Sent.{blankCall}
 use Rattle.incoming.specs.declared.Slot.{Slot}
-use Rattle.incoming.specs.declared.Last.{Last}
 use Rattle.incoming.specs.declared.Incoming.{Incoming}
 use Rattle.incoming.specs.Slots.{cleared, slotsWith, lastWith, stored}
 use Rattle.outgoing.specs.declared.Outgoing.{Outgoing}
@@ -86,7 +85,9 @@ module _ (o : Outgoing) (fits : FitsOutgoing o) where
   rewound-fits = record {
     length = fits .length;
     count = fits .count;
-    sent = choice-keeps (λ (n : ℕ). n < 256) (ltb (o .acknowledged) (o .count)) (o .acknowledged) 0 (fits .acknowledged) (omega arith);
+    sent =
+        choice-keeps (λ (n : ℕ). n < 256) (ltb (o .acknowledged) (o .count)) (o .acknowledged) 0 (fits .acknowledged)
+        (omega arith);
     acknowledged = fits .acknowledged;
     serial = fits .serial;
   }
@@ -94,8 +95,13 @@ module _ (o : Outgoing) (fits : FitsOutgoing o) where
 -- A new message: of a start,
 message-fits : (n serial : ℕ) → n < 4294967296 → serial < 65536 → FitsOutgoing (messageOf n serial)
 unfolding messageOf
-message-fits n serial short small =
-    record { length = short; count = byte-fits (fragments n); sent = omega arith; acknowledged = omega arith; serial = small }
+message-fits n serial short small = record {
+  length = short;
+  count = byte-fits (fragments n);
+  sent = omega arith;
+  acknowledged = omega arith;
+  serial = small;
+}
 
 pub started-fits : (n : ℕ) → n < 4294967296 → FitsOutgoing (started n)
 unfolding started
@@ -108,8 +114,13 @@ replied-fits o n fits short = message-fits n (o .serial) short (fits .serial)
 
 pub no-message-fits : FitsOutgoing (noMessage 0)
 unfolding noMessage
-no-message-fits =
-    record { length = omega arith; count = omega arith; sent = omega arith; acknowledged = omega arith; serial = omega arith }
+no-message-fits = record {
+  length = omega arith;
+  count = omega arith;
+  sent = omega arith;
+  acknowledged = omega arith;
+  serial = omega arith;
+}
 
 -- The message received: nothing held,
 pub cleared-fits : FitsIncoming cleared
@@ -121,12 +132,14 @@ cleared-fits = record { size = refl; slots = none 32; last = tt }
     none (suc n) = (refl, none n)
 
 -- and a fragment put.
-set-fits : (slots : List Slot) (f n : ℕ) → FitsSlots slots → n < 65536 → FitsSlots (set slots f (record { held = true; length = n }))
+set-fits : (slots : List Slot) (f n : ℕ) → FitsSlots slots → n < 65536
+    → FitsSlots (set slots f (record { held = true; length = n }))
 set-fits [] f n fits short = tt
 set-fits (s ∷ ss) zero n fits short = (short, fits .1)
 set-fits (s ∷ ss) (suc f) n fits short = (fits .0, set-fits ss f n (fits .1) short)
 
-pub stored-fits : (m : Incoming) (f n : ℕ) (isLast : Bool) → FitsIncoming m → f < 256 → n < 65536 → FitsIncoming (stored m f n isLast)
+pub stored-fits : (m : Incoming) (f n : ℕ) (isLast : Bool) → FitsIncoming m → f < 256 → n < 65536
+    → FitsIncoming (stored m f n isLast)
 unfolding stored slotsWith lastWith
 stored-fits m f n isLast fits low short = record {
   size = length-set (m .slots) f (record { held = true; length = n }) ∙ fits .size;
