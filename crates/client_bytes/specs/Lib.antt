@@ -1,2 +1,3 @@
--- What fits the widths in which the client's record is kept as bytes.
+-- The client's record as bytes, and what fits them.
+pub mod Layout
 pub mod Fits

@@ -1,3 +1,6 @@
--- What keeps the widths of a record's parts.
+-- What holds of a record's parts as bytes, and what keeps their widths.
 pub mod ByteLaws
 pub mod Keeping
+pub mod NumberLaws
+pub mod HeldLaws
+pub mod Laying

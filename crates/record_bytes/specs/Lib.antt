@@ -1,2 +1,5 @@
--- What fits the widths in which a record is kept as bytes.
+-- A record of either side as bytes, and what fits them.
+pub mod Parts
+pub mod Held
+pub mod Layout
 pub mod Fits

@@ -1,2 +1,3 @@
--- What fits the widths in which the server's record is kept as bytes.
+-- The server's record as bytes, and what fits them.
+pub mod Layout
 pub mod Fits

@@ -1,0 +1,27 @@
+-- `record_bytes::are_spares` meets its contract.
+use borrow.Author.Needs.{needs}
+use Rattle.record_bytes.specs.Layout.{sparesReadable}
+use Rattle.record_bytes.proofs.are_spares.Statement.{statement}
+use Rattle.record_bytes.proofs.are_spares.Tie as tie
+
+returns : tie.Need-returns
+unfolding sparesReadable
+returns c =
+    rw (
+      c .both .ensures,
+      c .before .is-clear2 .ensures,
+      c .before .before .behind2 .ensures,
+      c .before .before .before .is-clear .ensures,
+      c .before .before .before .before .behind .ensures,
+    )
+
+pub are-spares-spec : {M : Type 1} → statement M
+are-spares-spec =
+    tie.close
+    (tie.spec
+    (λ c κs. search needs)
+    (λ c κs. search needs)
+    (λ c κs. search needs)
+    (λ c κs. search needs)
+    (λ c κs. search needs)
+    returns)

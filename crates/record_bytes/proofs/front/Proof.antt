@@ -1,0 +1,22 @@
+-- `record_bytes::front` meets its contract.
+use borrow.Author.Needs.{needs}
+use Rattle.record_bytes.proofs.front.Statement.{statement}
+use Rattle.record_bytes.proofs.front.Tie as tie
+
+returns : tie.Need-returns
+returns c = rw (c .split163 .ensures, c .before .split162 .ensures, c .before .before .split16 .ensures)
+
+pub front-spec : {M : Type 1} → statement M
+front-spec =
+    tie.close
+    (tie.spec
+    (λ c κs. search needs)
+    (λ c κs. search needs)
+    (λ c κs. search needs)
+    (λ c. search needs)
+    (λ c. search needs)
+    (λ c. search needs)
+    (λ c. search needs)
+    (λ c. search needs)
+    (λ c. search needs)
+    returns)

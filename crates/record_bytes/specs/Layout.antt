@@ -1,0 +1,124 @@
+-- A record of either side in 272 bytes: numbers little-endian, each field at its fixed place.
+use Prim.Native.Nat.{ℕ}
+use mathlib.Core.Bool.{Bool, true}
+use mathlib.Core.List.{List, [], _∷_, _++_}
+use lib.ListN.{getD, drop, replicate}
+use lib.Dec.{eqb, ltb, leb}
+use Rattle.words.specs.Choice.{both, either}
+use Rattle.words.specs.Number.{digits, number}
+use Rattle.calls.specs.declared.Call.{Call}
+use Rattle.incoming.specs.declared.Incoming.{Incoming}
+use Rattle.outgoing.specs.declared.Outgoing.{Outgoing}
+use Rattle.record_bytes.specs.declared.Fields.{Fields}
+use Rattle.record_bytes.specs.Parts.{markOf, timerWhere, isArmed, timerTicket, lastNumber, lastOf, uuidIn, clear}
+use Rattle.record_bytes.specs.Held.{slotsBytes, slotsIn, slotsReadable}
+
+-- The known last fits a byte, or is 65535: unknown.
+unfoldable pub lastReadable : ℕ → Bool
+lastReadable number = either (ltb number 256) (eqb number 65535)
+
+-- The marks are 0 or 1: idempotent, and armed of both timers.
+unfoldable pub marksReadable : ℕ → ℕ → ℕ → Bool
+marksReadable idempotent first second = both (leb idempotent 1) (both (leb first 1) (leb second 1))
+
+-- The fragment count, sent and acknowledged are kept in a byte each: their high bytes are 0.
+unfoldable pub countsReadable : ℕ → ℕ → ℕ → Bool
+countsReadable count sent acknowledged = both (eqb count 0) (both (eqb sent 0) (eqb acknowledged 0))
+
+-- The bytes that are spare on both sides are 0: 56 to 63, and 66 to 95.
+unfoldable pub sparesReadable : List ℕ → Bool
+sparesReadable s = both (clear 8 (drop 56 s)) (clear 30 (drop 66 s))
+
+-- What makes bytes readable on both sides.
+unfoldable pub readable : List ℕ → Bool
+readable s =
+    both (marksReadable (getD s 1 0) (getD s 64 0) (getD s 65 0))
+    (both (countsReadable (getD s 5 0) (getD s 7 0) (getD s 9 0))
+    (both (lastReadable (number 2 true s 10))
+    (both (sparesReadable s)
+    (slotsReadable (drop 144 s)))))
+
+-- The call: idempotent at 1, object at 112, interface at 128, its version at 20, operation at 14.
+unfoldable pub callIn : List ℕ → Call
+callIn s = record {
+  idempotent = eqb (getD s 1 0) 1;
+  object = uuidIn s 112;
+  interface = uuidIn s 128;
+  version = number 4 true s 20;
+  operation = number 2 true s 14;
+}
+
+-- The message sent: its length at 24, fragment count, sent and acknowledged at 4, 6 and 8, serial at 12.
+unfoldable pub outgoingIn : List ℕ → Outgoing
+outgoingIn s = record {
+  length = number 4 true s 24;
+  count = getD s 4 0;
+  sent = getD s 6 0;
+  acknowledged = getD s 8 0;
+  serial = number 2 true s 12;
+}
+
+-- The message received: its slots from 144 on, the known last at 10.
+unfoldable pub incomingIn : List ℕ → Incoming
+incomingIn s = record { slots = slotsIn (drop 144 s); last = lastOf (number 2 true s 10) }
+
+-- What stands in the bytes of a record.
+unfoldable pub fieldsIn : List ℕ → Fields
+fieldsIn s = record {
+  state = getD s 0 0;
+  count = getD s 2 0;
+  resends = getD s 3 0;
+  activity = uuidIn s 96;
+  number = number 4 true s 16;
+  boot = number 4 true s 28;
+  call = callIn s;
+  outgoing = outgoingIn s;
+  incoming = incomingIn s;
+  tickets = number 8 true s 32;
+  timer = timerWhere (eqb (getD s 64 0) 1) (number 8 true s 40);
+  armed = eqb (getD s 65 0) 1;
+  ticket = number 8 true s 48;
+}
+
+-- Bytes 0 to 15: state, idempotent, two counts; fragment count, sent, acknowledged; known last, serial, operation.
+abbrev pub frontBytes : ℕ → ℕ → ℕ → ℕ → Outgoing → ℕ → ℕ → List ℕ
+frontBytes state idempotent count resends o last operation =
+    state
+    ∷ (idempotent
+    ∷ (count
+    ∷ (resends
+    ∷ (o .count
+    ∷ (0
+    ∷ (o .sent
+    ∷ (0
+    ∷ (o .acknowledged
+    ∷ (0
+    ∷ (digits 2 last ++ (digits 2 (o .serial) ++ digits 2 operation)))))))))))
+
+-- Bytes 16 to 31: number, interface version, message length, boot.
+abbrev pub numberBytes : ℕ → ℕ → ℕ → ℕ → List ℕ
+numberBytes number version length boot = digits 4 number ++ (digits 4 version ++ (digits 4 length ++ digits 4 boot))
+
+-- Bytes 56 to 95: eight spare bytes, whether each timer is armed, thirty spare bytes.
+abbrev pub backBytes : ℕ → ℕ → List ℕ
+backBytes first second = replicate 8 0 ++ (first ∷ (second ∷ replicate 30 0))
+
+-- Ten parts, one behind the other: tickets are bytes 32 to 55, the UUIDs 96 to 143, the slots the rest.
+abbrev pub laidBytes : List ℕ → List ℕ → List ℕ → List ℕ → List ℕ → List ℕ → List ℕ → List ℕ → List ℕ → List ℕ → List ℕ
+laidBytes front numbers tickets first second back activity object interface held =
+    front ++ (numbers ++ (tickets ++ (first ++ (second ++ (back ++ (activity ++ (object ++ (interface ++ held))))))))
+
+-- The 272 bytes of a record.
+unfoldable pub fieldBytes : Fields → List ℕ
+fieldBytes f =
+    laidBytes
+    (frontBytes (f .state) (markOf (f .call .idempotent)) (f .count) (f .resends) (f .outgoing) (lastNumber (f .incoming .last)) (f .call .operation))
+    (numberBytes (f .number) (f .call .version) (f .outgoing .length) (f .boot))
+    (digits 8 (f .tickets))
+    (digits 8 (timerTicket (f .timer)))
+    (digits 8 (f .ticket))
+    (backBytes (markOf (isArmed (f .timer))) (markOf (f .armed)))
+    (f .activity)
+    (f .call .object)
+    (f .call .interface)
+    (slotsBytes (f .incoming .slots))

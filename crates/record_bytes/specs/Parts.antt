@@ -1,0 +1,50 @@
+-- The parts of a record as numbers and bytes, and back; bytes past the end count as 0.
+use Prim.Native.Nat.{ℕ, zero, suc}
+use mathlib.Core.Bool.{Bool, true, false}
+use mathlib.Core.List.{List}
+use lib.ListN.{getD, take, drop, replicate}
+use lib.Dec.{eqb}
+use Rattle.words.specs.Choice.{choose, both}
+use Rattle.words.specs.Place.{placed}
+use Rattle.incoming.specs.declared.Last.{Last}
+use Rattle.incoming.specs.declared.Last.the-variants.{Unknown, At}
+use Rattle.timers.specs.declared.Timer.{Timer}
+use Rattle.timers.specs.declared.Timer.the-variants.{Off, Armed}
+
+-- The byte of a test.
+unfoldable pub markOf : Bool → ℕ
+markOf test = choose test 1 0
+
+-- The timer with that ticket where it is armed; and whether one is armed, and its ticket, 0 where none is.
+unfoldable pub timerWhere : Bool → ℕ → Timer
+timerWhere armed ticket = choose armed (Armed ticket) Off
+
+abbrev pub isArmed : Timer → Bool
+isArmed Off = false
+isArmed (Armed ticket) = true
+
+abbrev pub timerTicket : Timer → ℕ
+timerTicket Off = 0
+timerTicket (Armed ticket) = ticket
+
+-- The known last as a number, 65535 where none is known; and the known last of a number.
+abbrev pub lastNumber : Last → ℕ
+lastNumber Unknown = 65535
+lastNumber (At number) = number
+
+unfoldable pub lastOf : ℕ → Last
+lastOf number = choose (eqb number 65535) Unknown (At number)
+
+-- The UUID that stands in s at `at`.
+unfoldable pub uuidIn : List ℕ → ℕ → List ℕ
+uuidIn s at = placed 0 (take 16 (drop at s)) (replicate 16 0)
+
+-- The first n bytes are 0.
+unfoldable pub clear : ℕ → List ℕ → Bool
+clear zero s = true
+clear (suc n) s = both (clear n s) (eqb (getD s n 0) 0)
+
+-- A count of bytes that are readable. Others get 255, which breaks the rules of every record: so each event refuses
+-- them with 2, in 2's place.
+unfoldable pub countWhere : Bool → ℕ → ℕ
+countWhere readable count = choose readable count 255

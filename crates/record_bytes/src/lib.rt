@@ -1,0 +1,537 @@
+// A record of either side in 272 bytes of one layout, and back. Both sides have the same fields at the
+// same places; client_bytes and server_bytes say which of them a side's record has.
+use calls::Call;
+use incoming::Incoming;
+use incoming::Last;
+use incoming::Slot;
+use outgoing::Outgoing;
+use timers::Timer;
+ghost use mathlib.Core.Bool.{true};
+ghost use mathlib.Core.Path.{_≡_};
+ghost use Prim.Native.Nat.{_+_, _*_};
+ghost use Rattle.words.specs.Number.{digits, number};
+ghost use Rattle.words.specs.Place.{placed};
+ghost use Rattle.record_bytes.specs.Parts.{markOf, timerWhere, isArmed, timerTicket, lastNumber, lastOf, uuidIn, clear, countWhere};
+ghost use Rattle.record_bytes.specs.Held.{lengthWhere, slotBytes, slotsBytes, slotIn, slotsIn, slotReadable, slotsReadable};
+ghost use Rattle.record_bytes.specs.Layout.{lastReadable, marksReadable, countsReadable, sparesReadable, readable, callIn, outgoingIn, incomingIn, fieldsIn, frontBytes, numberBytes, backBytes, laidBytes, fieldBytes};
+
+// How many bytes a record has.
+pub const SIZE: usize = 272;
+
+// What the bytes of a record hold.
+pub struct Fields {
+    pub state: u8,
+    // The WAIT count of a client, the RESEND count of a server.
+    pub count: u8,
+    // The resends of a client.
+    pub resends: u8,
+    pub activity: [u8; 16],
+    pub number: u32,
+    // The boot of a server.
+    pub boot: u32,
+    pub call: Call,
+    pub outgoing: Outgoing,
+    pub incoming: Incoming,
+    pub tickets: u64,
+    // The WAIT timer of a client, the RESEND timer of a server.
+    pub timer: Timer,
+    // Whether the ACK timer of a client is armed, and its ticket; at a server its fault's status.
+    pub armed: bool,
+    pub ticket: u64,
+}
+
+// 1 where the test holds, else 0.
+fn mark(test: bool) -> u8
+    ensures { λ r. ⌜ r ≡ markOf test ⌝ }
+{
+    if test {
+        return 1;
+    }
+    0
+}
+
+// The timer with that ticket, where it is armed.
+pub fn timer_where(armed: bool, ticket: u64) -> Timer
+    ensures { λ r. ⌜ r ≡ timerWhere armed ticket ⌝ }
+{
+    if armed {
+        return Timer::Armed(ticket);
+    }
+    Timer::Off
+}
+
+// Whether a timer is armed.
+pub fn is_armed(timer: Timer) -> bool
+    ensures { λ r. ⌜ r ≡ isArmed timer ⌝ }
+{
+    match timer {
+        Timer::Off => false,
+        Timer::Armed(_) => true,
+    }
+}
+
+// The ticket of a timer, 0 where none is armed.
+pub fn timer_ticket(timer: Timer) -> u64
+    ensures { λ r. ⌜ r ≡ timerTicket timer ⌝ }
+{
+    match timer {
+        Timer::Off => 0,
+        Timer::Armed(ticket) => ticket,
+    }
+}
+
+// The known last of its number, 65535 where none is known.
+fn last(number: u16) -> Last
+    ensures { λ r. ⌜ r ≡ lastOf number ⌝ }
+{
+    if number == 65535 {
+        return Last::Unknown;
+    }
+    Last::At(number)
+}
+
+fn last_number(last: Last) -> u16
+    ensures { λ r. ⌜ r ≡ lastNumber last ⌝ }
+{
+    match last {
+        Last::Unknown => 65535,
+        Last::At(number) => number,
+    }
+}
+
+// The UUID that stands in s at `at`.
+pub fn uuid(s: &[u8], at: usize) -> [u8; 16]
+    ensures { λ r. ⌜ r ≡ uuidIn (now (s .entry)) at ⌝ }
+{
+    let mut bytes = [0u8; 16];
+    words::put(&mut bytes, 0, words::first(words::behind(s, at), 16));
+    bytes
+}
+
+// Two numbers of 32 bits as one of 64, the low one first.
+fn join64(low: u32, high: u32) -> u64
+    ensures { λ r. ⌜ r ≡ low + 4294967296 * high ⌝ }
+{
+    low as u64 + 4294967296 * (high as u64)
+}
+
+// The u64 that stands in s at `at`.
+fn number64(s: &[u8], at: usize) -> u64
+    ensures { λ r. ⌜ r ≡ number 8 true (now (s .entry)) at ⌝ }
+{
+    if s.len() <= at {
+        return 0;
+    }
+    let low = words::number32(s, at, true);
+    let high = words::number32(s, at + 4, true);
+    join64(low, high)
+}
+
+// The eight bytes of a u64, the least significant first.
+fn split64(v: u64) -> [u8; 8]
+    ensures { λ r. ⌜ r ≡ digits 8 v ⌝ }
+{
+    [
+        (v % 256) as u8,
+        (v / 256 % 256) as u8,
+        (v / 256 / 256 % 256) as u8,
+        (v / 256 / 256 / 256 % 256) as u8,
+        (v / 256 / 256 / 256 / 256 % 256) as u8,
+        (v / 256 / 256 / 256 / 256 / 256 % 256) as u8,
+        (v / 256 / 256 / 256 / 256 / 256 / 256 % 256) as u8,
+        (v / 256 / 256 / 256 / 256 / 256 / 256 / 256 % 256) as u8,
+    ]
+}
+
+// Whether the first n bytes of s are 0; bytes past the end count as 0.
+pub fn is_clear(s: &[u8], n: u8) -> bool
+    ensures { λ r. ⌜ r ≡ clear n (now (s .entry)) ⌝ }
+{
+    let mut all = true;
+    let mut i: u8 = 0;
+    while i < n {
+        let byte = words::byte_at(s, i as usize);
+        all = words::both(all, byte == 0);
+        i += 1;
+    }
+    all
+}
+
+// The length of a slot: 0 where the fragment is missing.
+fn length_where(held: bool, length: u16) -> u16
+    ensures { λ r. ⌜ r ≡ lengthWhere held length ⌝ }
+{
+    if held {
+        return length;
+    }
+    0
+}
+
+// Fragment f's slot: length u16, held u8 and a spare byte, four bytes a slot.
+fn slot(s: &[u8], f: u8) -> Slot
+    ensures { λ r. ⌜ r ≡ slotIn (now (s .entry)) f ⌝ }
+{
+    let at = 4 * (f as usize);
+    let held = words::byte_at(s, at + 2) == 1;
+    let length = words::number16(s, at, true);
+    Slot {
+        held,
+        length: length_where(held, length),
+    }
+}
+
+// All 32 slots.
+fn slots(s: &[u8]) -> [Slot; 32]
+    ensures { λ r. ⌜ r ≡ slotsIn (now (s .entry)) ⌝ }
+{
+    let mut all = [Slot {
+        held: false,
+        length: 0,
+    }; 32];
+    let mut f: u8 = 0;
+    while f < 32 {
+        let at = f as usize;
+        all[at] = slot(s, f);
+        f += 1;
+    }
+    all
+}
+
+// Whether fragment f's held byte is 0 or 1 and its spare byte 0.
+fn is_slot(s: &[u8], f: u8) -> bool
+    ensures { λ r. ⌜ r ≡ slotReadable (now (s .entry)) f ⌝ }
+{
+    let at = 4 * (f as usize);
+    let held = words::byte_at(s, at + 2);
+    let spare = words::byte_at(s, at + 3);
+    words::both(held <= 1, spare == 0)
+}
+
+// Whether all 32 slots are readable.
+fn are_slots(s: &[u8]) -> bool
+    ensures { λ r. ⌜ r ≡ slotsReadable (now (s .entry)) ⌝ }
+{
+    let mut all = true;
+    let mut f: u8 = 0;
+    while f < 32 {
+        let one = is_slot(s, f);
+        all = words::both(all, one);
+        f += 1;
+    }
+    all
+}
+
+// The four bytes of a slot; a missing fragment has length 0.
+fn slot_bytes(held: bool, length: u16) -> [u8; 4]
+    ensures { λ r. ⌜ r ≡ slotBytes held length ⌝ }
+{
+    let n = length_where(held, length);
+    [(n % 256) as u8, (n / 256 % 256) as u8, mark(held), 0]
+}
+
+// The 128 bytes of 32 slots.
+fn slots_bytes(slots: [Slot; 32]) -> [u8; 128]
+    ensures { λ r. ⌜ r ≡ slotsBytes slots ⌝ }
+{
+    let mut bytes = [0u8; 128];
+    let mut f: u8 = 0;
+    while f < 32 {
+        let at = f as usize;
+        let slot = slots[at];
+        let four = slot_bytes(slot.held, slot.length);
+        words::put(&mut bytes, 4 * at, &four);
+        f += 1;
+    }
+    bytes
+}
+
+// A count, where bytes are readable; else one that no record may have, so that its rules are broken.
+pub fn count_where(readable: bool, count: u8) -> u8
+    ensures { λ r. ⌜ r ≡ countWhere readable count ⌝ }
+{
+    if readable {
+        return count;
+    }
+    255
+}
+
+// Whether the known last is unknown, or fits a byte.
+fn is_last(number: u16) -> bool
+    ensures { λ r. ⌜ r ≡ lastReadable number ⌝ }
+{
+    words::either(number < 256, number == 65535)
+}
+
+// Whether the marks idempotent, first and second armed are 0 or 1.
+fn are_marks(idempotent: u8, first: u8, second: u8) -> bool
+    ensures { λ r. ⌜ r ≡ marksReadable idempotent first second ⌝ }
+{
+    words::both(idempotent <= 1, words::both(first <= 1, second <= 1))
+}
+
+// Whether the three counts of two bytes fit a byte each: their high bytes are 0.
+fn are_counts(count: u8, sent: u8, acknowledged: u8) -> bool
+    ensures { λ r. ⌜ r ≡ countsReadable count sent acknowledged ⌝ }
+{
+    words::both(count == 0, words::both(sent == 0, acknowledged == 0))
+}
+
+// Whether the places that are spare on both sides are 0.
+fn are_spares(s: &[u8]) -> bool
+    ensures { λ r. ⌜ r ≡ sparesReadable (now (s .entry)) ⌝ }
+{
+    let ticket = is_clear(words::behind(s, 56), 8);
+    let rest = is_clear(words::behind(s, 66), 30);
+    words::both(ticket, rest)
+}
+
+// Whether bytes are readable as a record of either side, but for what is the side's own.
+pub fn is_readable(s: &[u8]) -> bool
+    ensures { λ r. ⌜ r ≡ readable (now (s .entry)) ⌝ }
+{
+    let marks = are_marks(
+        words::byte_at(s, 1),
+        words::byte_at(s, 64),
+        words::byte_at(s, 65),
+    );
+    let counts = are_counts(
+        words::byte_at(s, 5),
+        words::byte_at(s, 7),
+        words::byte_at(s, 9),
+    );
+    let last = is_last(words::number16(s, 10, true));
+    let spares = are_spares(s);
+    let slots = are_slots(words::behind(s, 144));
+    words::both(
+        marks,
+        words::both(counts, words::both(last, words::both(spares, slots))),
+    )
+}
+
+// The call that stands in a record.
+fn call(s: &[u8]) -> Call
+    ensures { λ r. ⌜ r ≡ callIn (now (s .entry)) ⌝ }
+{
+    let object = uuid(s, 112);
+    let interface = uuid(s, 128);
+    let idempotent = words::byte_at(s, 1) == 1;
+    Call {
+        idempotent,
+        object,
+        interface,
+        version: words::number32(s, 20, true),
+        operation: words::number16(s, 14, true),
+    }
+}
+
+// The message sent.
+fn outgoing(s: &[u8]) -> Outgoing
+    ensures { λ r. ⌜ r ≡ outgoingIn (now (s .entry)) ⌝ }
+{
+    Outgoing {
+        length: words::number32(s, 24, true),
+        count: words::byte_at(s, 4),
+        sent: words::byte_at(s, 6),
+        acknowledged: words::byte_at(s, 8),
+        serial: words::number16(s, 12, true),
+    }
+}
+
+// The message received.
+fn incoming(s: &[u8]) -> Incoming
+    ensures { λ r. ⌜ r ≡ incomingIn (now (s .entry)) ⌝ }
+{
+    let slots = slots(words::behind(s, 144));
+    let last = last(words::number16(s, 10, true));
+    Incoming { slots, last }
+}
+
+// What stands in the bytes of a record.
+pub fn decode(s: &[u8]) -> Fields
+    ensures { λ r. ⌜ r ≡ fieldsIn (now (s .entry)) ⌝ }
+{
+    let activity = uuid(s, 96);
+    let call = call(s);
+    let outgoing = outgoing(s);
+    let incoming = incoming(s);
+    let timer = timer_where(words::byte_at(s, 64) == 1, number64(s, 40));
+    let armed = words::byte_at(s, 65) == 1;
+    Fields {
+        state: words::byte_at(s, 0),
+        count: words::byte_at(s, 2),
+        resends: words::byte_at(s, 3),
+        activity,
+        number: words::number32(s, 16, true),
+        boot: words::number32(s, 28, true),
+        call,
+        outgoing,
+        incoming,
+        tickets: number64(s, 32),
+        timer,
+        armed,
+        ticket: number64(s, 48),
+    }
+}
+
+// Bytes 0 to 15.
+fn front(
+    state: u8,
+    idempotent: u8,
+    count: u8,
+    resends: u8,
+    o: Outgoing,
+    last: u16,
+    operation: u16,
+) -> [u8; 16]
+    ensures { λ r. ⌜ r ≡ frontBytes state idempotent count resends o last operation ⌝ }
+{
+    let a = words::split16(last);
+    let b = words::split16(o.serial);
+    let c = words::split16(operation);
+    [
+        state,
+        idempotent,
+        count,
+        resends,
+        o.count,
+        0,
+        o.sent,
+        0,
+        o.acknowledged,
+        0,
+        a[0],
+        a[1],
+        b[0],
+        b[1],
+        c[0],
+        c[1],
+    ]
+}
+
+// Bytes 16 to 31.
+fn numbers(number: u32, version: u32, length: u32, boot: u32) -> [u8; 16]
+    ensures { λ r. ⌜ r ≡ numberBytes number version length boot ⌝ }
+{
+    let a = words::split32(number);
+    let b = words::split32(version);
+    let c = words::split32(length);
+    let d = words::split32(boot);
+    [
+        a[0],
+        a[1],
+        a[2],
+        a[3],
+        b[0],
+        b[1],
+        b[2],
+        b[3],
+        c[0],
+        c[1],
+        c[2],
+        c[3],
+        d[0],
+        d[1],
+        d[2],
+        d[3],
+    ]
+}
+
+// Bytes 56 to 95: two marks behind eight spare bytes, and spare ones behind them.
+fn back(first: u8, second: u8) -> [u8; 40]
+    ensures { λ r. ⌜ r ≡ backBytes first second ⌝ }
+{
+    let mut bytes = [0u8; 40];
+    bytes[8] = first;
+    bytes[9] = second;
+    bytes
+}
+
+// Lays the first five parts down, each where it fits.
+fn lay_front(
+    front: [u8; 16],
+    numbers: [u8; 16],
+    tickets: [u8; 8],
+    first: [u8; 8],
+    second: [u8; 8],
+    out: &mut [u8],
+)
+    ensures { λ _. ⌜ now (out .exit) ≡ placed 48 second (placed 40 first (placed 32 tickets (placed 16 numbers (placed 0 front (now (out .entry)))))) ⌝ }
+{
+    words::put(out, 0, &front);
+    words::put(out, 16, &numbers);
+    words::put(out, 32, &tickets);
+    words::put(out, 40, &first);
+    words::put(out, 48, &second);
+}
+
+// Lays the other five parts down, each where it fits.
+fn lay_back(
+    back: [u8; 40],
+    activity: [u8; 16],
+    object: [u8; 16],
+    interface: [u8; 16],
+    held: [u8; 128],
+    out: &mut [u8],
+)
+    ensures { λ _. ⌜ now (out .exit) ≡ placed 144 held (placed 128 interface (placed 112 object (placed 96 activity (placed 56 back (now (out .entry)))))) ⌝ }
+{
+    words::put(out, 56, &back);
+    words::put(out, 96, &activity);
+    words::put(out, 112, &object);
+    words::put(out, 128, &interface);
+    words::put(out, 144, &held);
+}
+
+// Lays ten parts down, one behind the other; where they do not fit, the buffer stays as it was.
+fn lay(
+    front: [u8; 16],
+    numbers: [u8; 16],
+    tickets: [u8; 8],
+    first: [u8; 8],
+    second: [u8; 8],
+    back: [u8; 40],
+    activity: [u8; 16],
+    object: [u8; 16],
+    interface: [u8; 16],
+    held: [u8; 128],
+    out: &mut [u8],
+)
+    ensures { λ _. ⌜ now (out .exit) ≡ placed 0 (laidBytes front numbers tickets first second back activity object interface held) (now (out .entry)) ⌝ }
+{
+    if out.len() < SIZE {
+        return;
+    }
+    lay_front(front, numbers, tickets, first, second, out);
+    lay_back(back, activity, object, interface, held, out);
+}
+
+// Lays the 272 bytes of a record down; where they do not fit, the buffer stays as it was.
+pub fn encode(f: Fields, out: &mut [u8])
+    ensures { λ _. ⌜ now (out .exit) ≡ placed 0 (fieldBytes f) (now (out .entry)) ⌝ }
+{
+    let call = f.call;
+    let o = f.outgoing;
+    let m = f.incoming;
+    let last = m.last;
+    let slots = m.slots;
+    let timer = f.timer;
+    let activity = f.activity;
+    let object = call.object;
+    let interface = call.interface;
+    let a = front(
+        f.state,
+        mark(call.idempotent),
+        f.count,
+        f.resends,
+        o,
+        last_number(last),
+        call.operation,
+    );
+    let b = numbers(f.number, call.version, o.length, f.boot);
+    let t = split64(f.tickets);
+    let u = split64(timer_ticket(timer));
+    let v = split64(f.ticket);
+    let z = back(mark(is_armed(timer)), mark(f.armed));
+    let held = slots_bytes(slots);
+    lay(a, b, t, u, v, z, activity, object, interface, held, out);
+}
