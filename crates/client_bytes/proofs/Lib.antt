@@ -1,0 +1,1 @@
+-- The client's record as bytes.
