@@ -3,4 +3,5 @@ pub mod Result
 pub mod Export
 pub mod ClientDoor
 pub mod ServerDoor
+
 -- pub mod CodecDoor
