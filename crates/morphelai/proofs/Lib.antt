@@ -2,3 +2,4 @@
 pub mod Returns
 pub mod ClientReturns
 pub mod ServerReturns
+pub mod CodecReturns
