@@ -2,7 +2,7 @@
 use Prim.Native.Nat.{ℕ, _+_, _*_, _≤_, _<_}
 use mathlib.Core.Bool.{Bool, true}
 use mathlib.Core.List.{List, [], _∷_, _++_}
-use mathlib.Core.Path.{_≡_, refl, ap, subst, _∙_}
+use mathlib.Core.Path.{_≡_, subst}
 use native.Mathlib.Omega.{arith}
 use lib.Dec.{eqb}
 use lib.ListN.{length, drop, replicate}
@@ -12,14 +12,15 @@ use Rattle.words.proofs.Number.{value-bytes, part-all}
 use Rattle.words.proofs.Tests.{both-hold}
 use Rattle.record_bytes.specs.declared.Fields.{Fields}
 use Rattle.record_bytes.specs.Fits.{Octets, FitsFields}
+use Rattle.record_bytes.specs.Canonical.{TicketClear, LengthsClear}
 use Rattle.record_bytes.specs.Parts.{markOf, isArmed, timerTicket, lastNumber, clear}
 use Rattle.record_bytes.specs.Held.{slotsBytes}
 use Rattle.record_bytes.specs.Layout.{marksReadable, countsReadable, sparesReadable, readable, callIn, outgoingIn, incomingIn, fieldsIn, frontBytes, numberBytes, backBytes, fieldBytes}
 use Rattle.record_bytes.proofs.ByteLaws.{octets-joined, octets-three, octets-four, octets-digits, octets-zeros}
 use Rattle.record_bytes.proofs.HeldLaws.{length-slots}
 use Rattle.record_bytes.proofs.Laying.{octets-laid}
-use Rattle.record_bytes.proofs.PartLaws.{mark-back, mark-readable, mark-small, timer-back, last-back, last-readable, uuid-part}
-use Rattle.record_bytes.proofs.SlotLaws.{slots-back, slots-readable, octets-slots}
+use Rattle.record_bytes.proofs.PartLaws.{ticket-clear, mark-back, mark-readable, mark-small, timer-back, last-back, last-readable, uuid-part}
+use Rattle.record_bytes.proofs.SlotLaws.{slots-back, slots-readable, lengths-clear, octets-slots}
 
 -- The same fields, their UUIDs written out byte by byte, so that their bytes compute.
 spelled : Fields → Fields
@@ -170,6 +171,16 @@ module _ (f : Fields) (fits : FitsFields f) where
       octets-front octets-numbers (octets-digits 8 _) (octets-digits 8 _) (octets-digits 8 _)
       octets-back (fits .activity .octets) (fits .call .object .octets) (fits .call .interface .octets)
       (octets-slots (f .incoming .slots))
+
+  -- What is not judged is written 0: the length of a slot that is not held, and the first timer's ticket.
+  pub slots-clear : LengthsClear (drop 144 (fieldBytes f))
+  unfolding fieldBytes spelled
+  slots-clear =
+      subst (λ (g : Fields). LengthsClear (drop 144 (fieldBytes g))) spelled-same (lengths-clear (f .incoming .slots))
+
+  pub timer-clear : TicketClear 64 40 (fieldBytes f)
+  unfolding fieldBytes number
+  timer-clear e = ticket-clear (f .timer) e
 
   pub fields-back : fieldsIn (fieldBytes f) ≡ f
   fields-back = subst (λ (g : Fields). fieldsIn (fieldBytes g) ≡ g) spelled-same back-spelled

@@ -7,3 +7,6 @@ pub mod Laying
 pub mod PartLaws
 pub mod SlotLaws
 pub mod Back
+pub mod Reading
+pub mod SlotReading
+pub mod Again

@@ -60,6 +60,12 @@ pub timer-back : (t : Timer) → FitsTimer t
 timer-back t fits =
     rw (mark-back (isArmed t), number-back 8 (timerTicket t) (ticket-small t fits)) (timer-same t)
 
+-- A timer that is not armed is written with ticket 0.
+pub ticket-clear : (t : Timer) → markOf (isArmed t) ≡ 0 → number 8 true (digits 8 (timerTicket t)) 0 ≡ 0
+unfolding markOf choose number
+ticket-clear Off e = refl
+ticket-clear (Armed ticket) e = absurd (omega (arith, e))
+
 -- The known last.
 last-small : (l : Last) → FitsLast l → lastNumber l < 65536
 last-small Unknown fits = omega arith

@@ -1,5 +1,5 @@
 -- Slots as bytes and back are the slots again.
-use Prim.Native.Nat.{ℕ, zero, suc, _+_, _<_, _≤_}
+use Prim.Native.Nat.{ℕ, zero, suc, _+_, _*_, _<_, _≤_}
 use mathlib.Core.Bool.{Bool, true, false}
 use mathlib.Core.List.{List, [], _∷_, _++_, map}
 use mathlib.Core.Path.{_≡_, refl, sym, ap, subst, _∙_}
@@ -14,6 +14,7 @@ use Rattle.words.proofs.Number.{value-bytes}
 use Rattle.incoming.specs.declared.Slot.{Slot}
 use Rattle.incoming.specs.Slots.{missing}
 use Rattle.record_bytes.specs.Fits.{Octets, FitsSlot, FitsSlots}
+use Rattle.record_bytes.specs.Canonical.{LengthsClear}
 use Rattle.record_bytes.specs.Parts.{markOf}
 use Rattle.record_bytes.specs.Held.{lengthWhere, slotBytes, slotsBytes, slotIn, slotsBelow, slotsIn, slotReadable, readableBelow, slotsReadable}
 use Rattle.record_bytes.proofs.ByteLaws.{octets-joined}
@@ -73,3 +74,27 @@ module _ (xs : List Slot) (size : length xs ≡ 32) where
 pub octets-slots : (xs : List Slot) → Octets (slotsBytes xs)
 octets-slots [] = tt
 octets-slots (x ∷ xs) = (omega arith, (omega arith, (mark-small (x .held), (omega arith, octets-slots xs))))
+
+-- A slot that is not held is written with length 0.
+length-clear : (held : Bool) (n : ℕ) → markOf held ≡ 0 → number 2 true (digits 2 (lengthWhere held n)) 0 ≡ 0
+unfolding markOf lengthWhere choose number
+length-clear true n e = absurd (omega (arith, e))
+length-clear false n e = refl
+
+behind-first : (x : Slot) (xs : List Slot) (k place : ℕ) → place ≡ suc (suc (suc (suc k)))
+    → getD (slotsBytes (x ∷ xs)) place 0 ≡ getD (slotsBytes xs) k 0
+behind-first x xs k place e = ap (λ (n : ℕ). getD (slotsBytes (x ∷ xs)) n 0) e
+
+pub lengths-clear : (xs : List Slot) → LengthsClear (slotsBytes xs)
+unfolding number
+lengths-clear [] f h e = refl
+lengths-clear (x ∷ xs) zero h e = length-clear (x .held) (x .length) e
+lengths-clear (x ∷ xs) (suc f) h e =
+    let mark : getD (slotsBytes xs) (4 * f + 2) 0 ≡ 0 = sym (behind-first x xs (4 * f + 2) (4 * suc f + 2) (omega arith)) ∙ e in
+    let rest : number 2 true (slotsBytes xs) (4 * f) ≡ 0 = lengths-clear xs f (omega arith) mark in
+    omega (
+      arith,
+      rest,
+      behind-first x xs (4 * f) (4 * suc f) (omega arith),
+      behind-first x xs (4 * f + 1) (4 * suc f + 1) (omega arith),
+    )
