@@ -59,12 +59,12 @@ fn is_readable(s: &[u8]) -> bool
 fn client_of(readable: bool, f: Fields) -> Client
     ensures { λ r. ⌜ r ≡ clientOf readable f ⌝ }
 {
-    let state = state_of(f.state);
     let activity = f.activity;
     let call = f.call;
     let outgoing = f.outgoing;
     let incoming = f.incoming;
     let wait = f.timer;
+    let state = state_of(f.state);
     let ack = record_bytes::timer_where(f.armed, f.ticket);
     Client {
         state,

@@ -107,12 +107,12 @@ fn is_readable(s: &[u8]) -> bool
 fn server_of(readable: bool, status: u32, f: Fields) -> Server
     ensures { λ r. ⌜ r ≡ serverOf readable status f ⌝ }
 {
-    let state = state_of(f.state, status);
     let activity = f.activity;
     let call = f.call;
     let outgoing = f.outgoing;
     let incoming = f.incoming;
     let resend = f.timer;
+    let state = state_of(f.state, status);
     Server {
         state,
         activity,

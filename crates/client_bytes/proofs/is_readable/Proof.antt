@@ -1,0 +1,29 @@
+-- `client_bytes::is_readable` meets its contract.
+use borrow.Author.Needs.{needs}
+use Rattle.client_bytes.specs.Layout.{readable}
+use Rattle.client_bytes.proofs.is_readable.Statement.{statement}
+use Rattle.client_bytes.proofs.is_readable.Tie as tie
+
+returns : tie.Need-returns
+unfolding readable
+returns c =
+        rw (
+      c .both2 .ensures,
+      c .before .both .ensures,
+      c .before .before .is-readable .ensures,
+      c .before .before .before .is-clear .ensures,
+      c .before .before .before .before .behind .ensures,
+      c .before .before .before .before .before .byte-at .ensures,
+    )
+
+pub is-readable-spec : {M : Type 1} → statement M
+is-readable-spec =
+    tie.close
+    (tie.spec
+    (λ c κs. search needs)
+    (λ c κs. search needs)
+    (λ c κs. search needs)
+    (λ c κs. search needs)
+    (λ c κs. search needs)
+    (λ c κs. search needs)
+    returns)
