@@ -1,5 +1,5 @@
 -- The client's record as bytes and back is the record again; canonical bytes as a record and back are the bytes again.
-use Prim.Native.Nat.{ℕ, zero, suc, _≤_, _<_}
+use Prim.Native.Nat.{ℕ, _≤_, _<_}
 use mathlib.Core.Bool.{Bool, true, false}
 use mathlib.Core.List.{List}
 use mathlib.Core.Path.{_≡_, refl, sym, ap, subst, _∙_}
@@ -14,46 +14,16 @@ use Rattle.record_bytes.specs.Fits.{Octets, FitsFields}
 use Rattle.record_bytes.specs.Parts.{clear, countWhere, timerWhere, uuidIn}
 use Rattle.record_bytes.specs.Layout.{readable as sharedReadable, callIn, outgoingIn, incomingIn, fieldsIn, fieldBytes}
 use Rattle.record_bytes.proofs.PartLaws.{timer-same, ticket-small, ticket-clear}
-use Rattle.record_bytes.proofs.Back.{fields-back, bytes-readable, length-fields, octets-fields, slots-clear, timer-clear}
+use Rattle.record_bytes.proofs.Back.{fields-back, bytes-readable, length-fields, octets-fields}
+use Rattle.record_bytes.proofs.Back.{slots-clear, timer-clear}
 use Rattle.record_bytes.proofs.Reading.{clear-part, armed-again, ticket-again, timer-fits, count-again}
 use Rattle.record_bytes.proofs.Again.{known as shared-known, bytes-fit, fields-again}
-use Rattle.client_record.specs.declared.State.{State}
-use Rattle.client_record.specs.declared.State.the-variants.{Queued, SendFrags, Dispatched, ReceiveFrags, AckPending, Complete, Fault}
 use Rattle.client_record.specs.declared.Client.{Client}
 use Rattle.client_record.specs.Rules.{countsSound, sound}
 use Rattle.client_bytes.specs.Canonical.{Canonical}
 use Rattle.client_bytes.specs.Fits.{FitsClient}
-use Rattle.client_bytes.specs.Layout.{stateOf, stateNumber, readable, clientOf, clientIn, fieldsOf, clientBytes}
-
-state-back : (s : State) → stateOf (stateNumber s) ≡ s
-unfolding stateOf choose
-state-back Queued = refl
-state-back SendFrags = refl
-state-back Dispatched = refl
-state-back ReceiveFrags = refl
-state-back AckPending = refl
-state-back Complete = refl
-state-back Fault = refl
-
-state-small : (s : State) → stateNumber s ≤ 6
-state-small Queued = omega arith
-state-small SendFrags = omega arith
-state-small Dispatched = omega arith
-state-small ReceiveFrags = omega arith
-state-small AckPending = omega arith
-state-small Complete = omega arith
-state-small Fault = omega arith
-
-state-again : (n : ℕ) → n ≤ 6 → stateNumber (stateOf n) ≡ n
-unfolding stateOf choose
-state-again zero h = refl
-state-again (suc zero) h = refl
-state-again (suc (suc zero)) h = refl
-state-again (suc (suc (suc zero))) h = refl
-state-again (suc (suc (suc (suc zero)))) h = refl
-state-again (suc (suc (suc (suc (suc zero))))) h = refl
-state-again (suc (suc (suc (suc (suc (suc zero)))))) h = refl
-state-again (suc (suc (suc (suc (suc (suc (suc n))))))) h = absurd (omega arith)
+use Rattle.client_bytes.specs.Layout.{readable, clientOf, clientIn, fieldsOf, clientBytes}
+use Rattle.client_bytes.proofs.StateLaws.{state-back, state-small, state-again}
 
 module _ (c : Client) (fits : FitsClient c) where
   -- What the bytes hold fits them, and they are readable.
@@ -76,7 +46,9 @@ module _ (c : Client) (fits : FitsClient c) where
 
   pub client-readable : readable (clientBytes c) ≡ true
   unfolding readable clientBytes fieldBytes fieldsOf clear both choose
-  client-readable = both-hold _ _ (le-leb _ _ (state-small (c .state))) (both-hold _ _ refl (bytes-readable (fieldsOf c) fields-fit))
+  client-readable =
+      both-hold _ _ (le-leb _ _ (state-small (c .state)))
+      (both-hold _ _ refl (bytes-readable (fieldsOf c) fields-fit))
 
   same : clientOf true (fieldsOf c) ≡ c
   unfolding clientOf fieldsOf countWhere choose
@@ -178,4 +150,5 @@ module _ (b : List ℕ) (canonical : Canonical b) where
   unfolding clientBytes
   client-again =
       ap fieldBytes fields-same
-      ∙ fields-again b (canonical .size) (canonical .octets) (known b (canonical .readable) .shared) (canonical .wait) (canonical .slots)
+      ∙ fields-again b (canonical .size) (canonical .octets) (known b (canonical .readable) .shared) (canonical .wait)
+        (canonical .slots)

@@ -1,24 +1,26 @@
 -- What stands in readable bytes fits them; and written again it is those bytes, where what is not judged is 0.
 use Prim.Native.Nat.{ℕ, _+_, _≤_, _<_}
-use mathlib.Core.Bool.{Bool, true, false}
-use mathlib.Core.List.{List, [], _∷_, _++_}
+use mathlib.Core.Bool.{true}
+use mathlib.Core.List.{List, _∷_, _++_}
 use mathlib.Core.Path.{_≡_, refl, sym, ap, subst, _∙_}
 use native.Mathlib.Omega.{arith}
 use lib.Dec.{eqb, leb}
 use lib.ListN.{length, getD, drop, replicate, length-drop, take-append-drop}
 use borrow.Author.Tests.{eqb-true}
-use Rattle.words.specs.Choice.{both}
 use Rattle.words.specs.Number.{digits, part, number}
 use Rattle.words.proofs.Number.{digits-part, part-take, length-part}
 use Rattle.words.proofs.Tests.{both-true}
 use Rattle.record_bytes.specs.Fits.{Octets, Uuid, FitsFields}
 use Rattle.record_bytes.specs.Canonical.{TicketClear, LengthsClear}
-use Rattle.record_bytes.specs.Parts.{markOf, timerWhere, isArmed, timerTicket, lastNumber, lastOf, uuidIn, clear}
+use Rattle.record_bytes.specs.Parts.{markOf, timerWhere, isArmed, timerTicket, lastNumber, lastOf, uuidIn}
 use Rattle.record_bytes.specs.Held.{slotsBytes, slotsBelow, slotsIn, slotsReadable}
-use Rattle.record_bytes.specs.Layout.{lastReadable, marksReadable, countsReadable, sparesReadable, readable, callIn, outgoingIn, incomingIn, fieldsIn, frontBytes, numberBytes, backBytes, laidBytes, fieldBytes}
+use Rattle.record_bytes.specs.Layout.{lastReadable, marksReadable, countsReadable, sparesReadable, readable}
+use Rattle.record_bytes.specs.Layout.{callIn, outgoingIn, incomingIn, fieldsIn}
+use Rattle.record_bytes.specs.Layout.{frontBytes, numberBytes, backBytes, laidBytes, fieldBytes}
 use Rattle.record_bytes.proofs.ByteLaws.{octet-at, octets-part, octets-drop, number-below}
 use Rattle.record_bytes.proofs.PartLaws.{uuid-part}
-use Rattle.record_bytes.proofs.Reading.{clear-part, mark-again, armed-again, ticket-again, timer-fits, last-again, last-fits}
+use Rattle.record_bytes.proofs.Reading.{clear-part, mark-again, armed-again, ticket-again, timer-fits}
+use Rattle.record_bytes.proofs.Reading.{last-again, last-fits}
 use Rattle.record_bytes.proofs.SlotReading.{slots-fit, slots-again}
 
 -- Readable bytes, by their parts.
@@ -65,7 +67,8 @@ module _ (b : List ℕ) (size : length b ≡ 272) (octets : Octets b) (allowed :
 
   uuid-fits : (at : ℕ) → at + 16 ≤ length b → Uuid (uuidIn b at)
   uuid-fits at room =
-      subst Uuid (sym (uuid-part b at room)) (record { size = length-part 16 b at; octets = octets-part 16 b at octets })
+      subst Uuid (sym (uuid-part b at room))
+      (record { size = length-part 16 b at; octets = octets-part 16 b at octets })
 
   pub bytes-fit : FitsFields (fieldsIn b)
   unfolding fieldsIn callIn outgoingIn incomingIn slotsIn slotsBelow
@@ -102,7 +105,9 @@ module _ (b : List ℕ) (size : length b ≡ 272) (octets : Octets b) (allowed :
   digits-at : (n at : ℕ) → digits n (number n true b at) ≡ part n b at
   digits-at n at = digits-part n b at byte
 
-  front-again : frontBytes (getD b 0 0) (markOf (eqb (getD b 1 0) 1)) (getD b 2 0) (getD b 3 0) (outgoingIn b) (lastNumber (lastOf (number 2 true b 10))) (number 2 true b 14)
+  front-again
+    : frontBytes (getD b 0 0) (markOf (eqb (getD b 1 0) 1)) (getD b 2 0) (getD b 3 0) (outgoingIn b)
+      (lastNumber (lastOf (number 2 true b 10))) (number 2 true b 14)
       ≡ part 16 b 0
   unfolding outgoingIn
   front-again =
@@ -122,10 +127,14 @@ module _ (b : List ℕ) (size : length b ≡ 272) (octets : Octets b) (allowed :
       ∷ (sym (r .acknowledged) i
       ∷ (last i ++ (digits-at 2 12 i ++ digits-at 2 14 i)))))))))))
 
-  numbers-again : numberBytes (number 4 true b 16) (number 4 true b 20) (number 4 true b 24) (number 4 true b 28) ≡ part 16 b 16
+  numbers-again
+    : numberBytes (number 4 true b 16) (number 4 true b 20) (number 4 true b 24) (number 4 true b 28) ≡ part 16 b 16
   numbers-again = λ i. digits-at 4 16 i ++ (digits-at 4 20 i ++ (digits-at 4 24 i ++ digits-at 4 28 i))
 
-  back-again : backBytes (markOf (isArmed (timerWhere (eqb (getD b 64 0) 1) (number 8 true b 40)))) (markOf (eqb (getD b 65 0) 1)) ≡ part 40 b 56
+  back-again
+    : backBytes (markOf (isArmed (timerWhere (eqb (getD b 64 0) 1) (number 8 true b 40))))
+      (markOf (eqb (getD b 65 0) 1))
+      ≡ part 40 b 56
   back-again =
       let r = known b allowed in
       let first : markOf (isArmed (timerWhere (eqb (getD b 64 0) 1) (number 8 true b 40))) ≡ getD b 64 0 =
@@ -138,13 +147,15 @@ module _ (b : List ℕ) (size : length b ≡ 272) (octets : Octets b) (allowed :
 
     slots-same : slotsBytes (slotsIn (drop 144 b)) ≡ drop 144 b
     slots-same =
-        slots-again (drop 144 b) (octets-drop 144 b octets) (omega (arith, length-drop 144 b)) (known b allowed .slots) lengths
+        slots-again (drop 144 b) (octets-drop 144 b octets) (omega (arith, length-drop 144 b)) (known b allowed .slots)
+        lengths
 
     pub fields-again : fieldBytes (fieldsIn b) ≡ b
     unfolding fieldBytes fieldsIn callIn outgoingIn incomingIn
     fields-again =
         (λ i.
-          laidBytes (front-again i) (numbers-again i) (digits-at 8 32 i) (ticket-digits i) (digits-at 8 48 i) (back-again i)
-          (uuid-part b 96 (omega arith) i) (uuid-part b 112 (omega arith) i) (uuid-part b 128 (omega arith) i) (slots-same i))
+          laidBytes (front-again i) (numbers-again i) (digits-at 8 32 i) (ticket-digits i) (digits-at 8 48 i)
+          (back-again i) (uuid-part b 96 (omega arith) i) (uuid-part b 112 (omega arith) i)
+          (uuid-part b 128 (omega arith) i) (slots-same i))
         ∙ ap (λ (l : List ℕ). l ++ drop 144 b) (part-take 144 b 0 (omega arith))
         ∙ take-append-drop 144 b

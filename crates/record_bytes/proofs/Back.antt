@@ -1,10 +1,9 @@
 -- What the bytes of a record hold, as bytes and back, is what it was; and those bytes are 272, and readable.
-use Prim.Native.Nat.{ℕ, _+_, _*_, _≤_, _<_}
-use mathlib.Core.Bool.{Bool, true}
-use mathlib.Core.List.{List, [], _∷_, _++_}
+use Prim.Native.Nat.{ℕ}
+use mathlib.Core.Bool.{true}
+use mathlib.Core.List.{List, _∷_}
 use mathlib.Core.Path.{_≡_, subst}
 use native.Mathlib.Omega.{arith}
-use lib.Dec.{eqb}
 use lib.ListN.{length, drop, replicate}
 use Rattle.words.specs.Choice.{choose, both}
 use Rattle.words.specs.Number.{digits, part, number}
@@ -15,11 +14,14 @@ use Rattle.record_bytes.specs.Fits.{Octets, FitsFields}
 use Rattle.record_bytes.specs.Canonical.{TicketClear, LengthsClear}
 use Rattle.record_bytes.specs.Parts.{markOf, isArmed, timerTicket, lastNumber, clear}
 use Rattle.record_bytes.specs.Held.{slotsBytes}
-use Rattle.record_bytes.specs.Layout.{marksReadable, countsReadable, sparesReadable, readable, callIn, outgoingIn, incomingIn, fieldsIn, frontBytes, numberBytes, backBytes, fieldBytes}
+use Rattle.record_bytes.specs.Layout.{marksReadable, countsReadable, sparesReadable, readable}
+use Rattle.record_bytes.specs.Layout.{callIn, outgoingIn, incomingIn, fieldsIn}
+use Rattle.record_bytes.specs.Layout.{frontBytes, numberBytes, backBytes, fieldBytes}
 use Rattle.record_bytes.proofs.ByteLaws.{octets-joined, octets-three, octets-four, octets-digits, octets-zeros}
 use Rattle.record_bytes.proofs.HeldLaws.{length-slots}
 use Rattle.record_bytes.proofs.Laying.{octets-laid}
-use Rattle.record_bytes.proofs.PartLaws.{ticket-clear, mark-back, mark-readable, mark-small, timer-back, last-back, last-readable, uuid-part}
+use Rattle.record_bytes.proofs.PartLaws.{mark-back, mark-readable, mark-small, timer-back, ticket-clear}
+use Rattle.record_bytes.proofs.PartLaws.{last-back, last-readable, uuid-part}
 use Rattle.record_bytes.proofs.SlotLaws.{slots-back, slots-readable, lengths-clear, octets-slots}
 
 -- The same fields, their UUIDs written out byte by byte, so that their bytes compute.
@@ -49,8 +51,8 @@ spelled f = record {
 -- Three of the ten parts that its bytes are.
 abbrev frontOf : Fields → List ℕ
 frontOf f =
-    frontBytes (f .state) (markOf (f .call .idempotent)) (f .count) (f .resends) (f .outgoing) (lastNumber (f .incoming .last))
-    (f .call .operation)
+    frontBytes (f .state) (markOf (f .call .idempotent)) (f .count) (f .resends) (f .outgoing)
+    (lastNumber (f .incoming .last)) (f .call .operation)
 
 abbrev numbersOf : Fields → List ℕ
 numbersOf f = numberBytes (f .number) (f .call .version) (f .outgoing .length) (f .boot)
@@ -150,24 +152,25 @@ module _ (f : Fields) (fits : FitsFields f) where
       (omega arith,
       (fits .outgoing .acknowledged,
       (omega arith,
-      octets-three (digits 2 (lastNumber (f .incoming .last))) (digits 2 (f .outgoing .serial)) (digits 2 (f .call .operation))
-      (octets-digits 2 _) (octets-digits 2 _) (octets-digits 2 _)))))))))))
+      octets-three (digits 2 (lastNumber (f .incoming .last))) (digits 2 (f .outgoing .serial))
+      (digits 2 (f .call .operation)) (octets-digits 2 _) (octets-digits 2 _) (octets-digits 2 _)))))))))))
 
   octets-numbers : Octets (numbersOf f)
   octets-numbers =
-      octets-four (digits 4 (f .number)) (digits 4 (f .call .version)) (digits 4 (f .outgoing .length)) (digits 4 (f .boot))
-      (octets-digits 4 _) (octets-digits 4 _) (octets-digits 4 _) (octets-digits 4 _)
+      octets-four (digits 4 (f .number)) (digits 4 (f .call .version)) (digits 4 (f .outgoing .length))
+      (digits 4 (f .boot)) (octets-digits 4 _) (octets-digits 4 _) (octets-digits 4 _) (octets-digits 4 _)
 
   octets-back : Octets (backOf f)
   octets-back =
-      octets-joined (replicate 8 0) (markOf (isArmed (f .timer)) ∷ (markOf (f .armed) ∷ replicate 30 0)) (octets-zeros 8)
-      (mark-small (isArmed (f .timer)), (mark-small (f .armed), octets-zeros 30))
+      octets-joined (replicate 8 0) (markOf (isArmed (f .timer)) ∷ (markOf (f .armed) ∷ replicate 30 0))
+      (octets-zeros 8) (mark-small (isArmed (f .timer)), (mark-small (f .armed), octets-zeros 30))
 
   pub octets-fields : Octets (fieldBytes f)
   unfolding fieldBytes
   octets-fields =
-      octets-laid (frontOf f) (numbersOf f) (digits 8 (f .tickets)) (digits 8 (timerTicket (f .timer))) (digits 8 (f .ticket))
-      (backOf f) (f .activity) (f .call .object) (f .call .interface) (slotsBytes (f .incoming .slots))
+      octets-laid (frontOf f) (numbersOf f) (digits 8 (f .tickets)) (digits 8 (timerTicket (f .timer)))
+      (digits 8 (f .ticket)) (backOf f) (f .activity) (f .call .object) (f .call .interface)
+      (slotsBytes (f .incoming .slots))
       octets-front octets-numbers (octets-digits 8 _) (octets-digits 8 _) (octets-digits 8 _)
       octets-back (fits .activity .octets) (fits .call .object .octets) (fits .call .interface .octets)
       (octets-slots (f .incoming .slots))

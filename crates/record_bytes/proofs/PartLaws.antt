@@ -1,14 +1,14 @@
 -- A part of a record as bytes and back is the part again; and what is read back is what was written.
 use Prim.Native.Nat.{ℕ, zero, suc, _+_, _^_, _≤_, _<_}
-use mathlib.Core.Bool.{Bool, true, false, false≢true}
-use mathlib.Core.List.{List, [], _∷_}
+use mathlib.Core.Bool.{Bool, true, false}
+use mathlib.Core.List.{List}
 use mathlib.Core.Path.{_≡_, refl, sym, ap, _∙_}
 use native.Mathlib.Omega.{arith}
 use lib.Dec.{eqb, leb}
 use lib.ListN.{length, take, drop, replicate, length-drop}
 use lib.Seq.{length-take-le}
 use borrow.Author.Tests.{lt-ltb, ne-eqb}
-use Rattle.words.specs.Choice.{choose, both, either}
+use Rattle.words.specs.Choice.{choose, either}
 use Rattle.words.specs.Number.{digits, part, number}
 use Rattle.words.proofs.Number.{value-bytes, part-take, part-all}
 use Rattle.incoming.specs.declared.Last.{Last}

@@ -1,22 +1,21 @@
 -- What is read out of bytes and written again is those bytes.
 use Prim.Native.Nat.{ℕ, zero, suc, _+_, _-_, _≤_, _<_}
 use mathlib.Core.Bool.{Bool, true, false, false≢true}
-use mathlib.Core.List.{List, [], _∷_}
+use mathlib.Core.List.{List, _∷_}
 use mathlib.Core.Path.{_≡_, refl, sym, ap, _∙_}
 use native.Mathlib.Omega.{arith}
 use lib.Dec.{eqb, leb, ltb}
-use lib.ListN.{length, getD, drop, replicate}
+use lib.ListN.{getD, drop, replicate}
 use lib.Seq.{getD-drop}
 use borrow.Author.Tests.{ltb-true, leb-true, eqb-true, eqb-false}
 use Rattle.words.specs.Choice.{choose, both, either}
 use Rattle.words.specs.Number.{part, number}
 use Rattle.words.proofs.Tests.{both-true, choose-true}
-use Rattle.incoming.specs.declared.Last.{Last}
 use Rattle.incoming.specs.declared.Last.the-variants.{Unknown, At}
-use Rattle.timers.specs.declared.Timer.{Timer}
 use Rattle.record_bytes.specs.Fits.{FitsLast, FitsTimer}
 use Rattle.record_bytes.specs.Canonical.{TicketClear}
-use Rattle.record_bytes.specs.Parts.{markOf, timerWhere, isArmed, timerTicket, lastNumber, lastOf, clear, countWhere}
+use Rattle.record_bytes.specs.Parts.{markOf, timerWhere, isArmed, timerTicket, lastNumber, lastOf}
+use Rattle.record_bytes.specs.Parts.{clear, countWhere}
 use Rattle.record_bytes.specs.Layout.{lastReadable}
 
 -- A test of the first n holds of each of them.
@@ -40,7 +39,8 @@ clear-at n s e i h =
     eqb-true (getD s i 0) 0
     (each-of (λ (k : ℕ). clear k s) (λ (k : ℕ). eqb (getD s k 0) 0) (λ (k : ℕ). refl) n e i h)
 
-zeros-part : (n : ℕ) (s : List ℕ) (at : ℕ) → ((i : ℕ) → at ≤ i → i < at + n → getD s i 0 ≡ 0) → part n s at ≡ replicate n 0
+zeros-part : (n : ℕ) (s : List ℕ) (at : ℕ) → ((i : ℕ) → at ≤ i → i < at + n → getD s i 0 ≡ 0)
+    → part n s at ≡ replicate n 0
 zeros-part zero s at h = refl
 zeros-part (suc n) s at h =
     λ i. h at (omega arith) (omega arith) i
@@ -50,7 +50,9 @@ pub clear-part : (n : ℕ) (s : List ℕ) (at : ℕ) → clear n (drop at s) ≡
 clear-part n s at e =
     zeros-part n s at (λ (i : ℕ) (low : at ≤ i) (high : i < at + n).
         let place : at + (i - at) ≡ i = omega arith in
-        ap (λ (k : ℕ). getD s k 0) (sym place) ∙ sym (getD-drop at s (i - at) 0) ∙ clear-at n (drop at s) e (i - at) (omega arith))
+        ap (λ (k : ℕ). getD s k 0) (sym place)
+        ∙ sym (getD-drop at s (i - at) 0)
+        ∙ clear-at n (drop at s) e (i - at) (omega arith))
 
 -- A mark is 1, or else 0;
 pub mark-zero : (m : ℕ) → leb m 1 ≡ true → eqb m 1 ≡ false → m ≡ 0
@@ -72,14 +74,16 @@ unfolding timerWhere choose
 armed-again true ticket = refl
 armed-again false ticket = refl
 
-ticket-where : (armed : Bool) (ticket : ℕ) → (armed ≡ false → ticket ≡ 0) → timerTicket (timerWhere armed ticket) ≡ ticket
+ticket-where : (armed : Bool) (ticket : ℕ) → (armed ≡ false → ticket ≡ 0)
+    → timerTicket (timerWhere armed ticket) ≡ ticket
 unfolding timerWhere choose
 ticket-where true ticket h = refl
 ticket-where false ticket h = sym (h refl)
 
 pub ticket-again : (b : List ℕ) (mark at : ℕ) → leb (getD b mark 0) 1 ≡ true → TicketClear mark at b
     → timerTicket (timerWhere (eqb (getD b mark 0) 1) (number 8 true b at)) ≡ number 8 true b at
-ticket-again b mark at e h = ticket-where _ _ (λ (p : eqb (getD b mark 0) 1 ≡ false). h (mark-zero (getD b mark 0) e p))
+ticket-again b mark at e h =
+    ticket-where _ _ (λ (p : eqb (getD b mark 0) 1 ≡ false). h (mark-zero (getD b mark 0) e p))
 
 pub timer-fits : (armed : Bool) (ticket : ℕ) → ticket < 18446744073709551616 → FitsTimer (timerWhere armed ticket)
 unfolding timerWhere choose
@@ -99,7 +103,8 @@ pub last-fits : (n : ℕ) → lastReadable n ≡ true → FitsLast (lastOf n)
 unfolding lastReadable lastOf either choose
 last-fits n e = by-tests (ltb n 256) (eqb n 65535) refl e
   where
-    by-tests : (low unknown : Bool) → ltb n 256 ≡ low → choose low true unknown ≡ true → FitsLast (choose unknown Unknown (At n))
+    by-tests : (low unknown : Bool) → ltb n 256 ≡ low → choose low true unknown ≡ true
+        → FitsLast (choose unknown Unknown (At n))
     by-tests low true p q = tt
     by-tests true false p q = ltb-true n 256 p
     by-tests false false p q = absurd (false≢true q)

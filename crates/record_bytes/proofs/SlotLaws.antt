@@ -1,7 +1,7 @@
 -- Slots as bytes and back are the slots again.
-use Prim.Native.Nat.{ℕ, zero, suc, _+_, _*_, _<_, _≤_}
+use Prim.Native.Nat.{ℕ, zero, suc, _+_, _*_, _≤_}
 use mathlib.Core.Bool.{Bool, true, false}
-use mathlib.Core.List.{List, [], _∷_, _++_, map}
+use mathlib.Core.List.{List, [], _∷_, map}
 use mathlib.Core.Path.{_≡_, refl, sym, ap, subst, _∙_}
 use native.Mathlib.Numerals.{add-one}
 use native.Mathlib.Omega.{arith}
@@ -16,8 +16,8 @@ use Rattle.incoming.specs.Slots.{missing}
 use Rattle.record_bytes.specs.Fits.{Octets, FitsSlot, FitsSlots}
 use Rattle.record_bytes.specs.Canonical.{LengthsClear}
 use Rattle.record_bytes.specs.Parts.{markOf}
-use Rattle.record_bytes.specs.Held.{lengthWhere, slotBytes, slotsBytes, slotIn, slotsBelow, slotsIn, slotReadable, readableBelow, slotsReadable}
-use Rattle.record_bytes.proofs.ByteLaws.{octets-joined}
+use Rattle.record_bytes.specs.Held.{lengthWhere, slotsBytes, slotIn, slotsBelow, slotsIn}
+use Rattle.record_bytes.specs.Held.{slotReadable, readableBelow, slotsReadable}
 use Rattle.record_bytes.proofs.PartLaws.{mark-back, mark-readable, mark-small}
 
 -- A slot as bytes and back.
@@ -36,7 +36,9 @@ length-again false n fits = sym fits
 again-same : (xs : List Slot) → FitsSlots xs → map again xs ≡ xs
 again-same [] fits = refl
 again-same (x ∷ xs) fits =
-    λ i. record { held = mark-back (x .held) i; length = length-again (x .held) (x .length) (fits .0) i } ∷ again-same xs (fits .1) i
+    λ i.
+    record { held = mark-back (x .held) i; length = length-again (x .held) (x .length) (fits .0) i }
+    ∷ again-same xs (fits .1) i
 
 -- The n slots of a list from `at` on, each written out.
 abbrev spelled : ℕ → List Slot → ℕ → List Slot
@@ -65,7 +67,8 @@ module _ (xs : List Slot) (size : length xs ≡ 32) where
 
   pub slots-back : FitsSlots xs → slotsIn (slotsBytes xs) ≡ xs
   slots-back fits =
-      subst (λ (l : List Slot). slotsIn (slotsBytes l) ≡ map again l) spelled-same (back-spelled xs) ∙ again-same xs fits
+      subst (λ (l : List Slot). slotsIn (slotsBytes l) ≡ map again l) spelled-same (back-spelled xs)
+      ∙ again-same xs fits
 
   pub slots-readable : slotsReadable (slotsBytes xs) ≡ true
   slots-readable = subst (λ (l : List Slot). slotsReadable (slotsBytes l) ≡ true) spelled-same (readable-spelled xs)
@@ -90,7 +93,8 @@ unfolding number
 lengths-clear [] f h e = refl
 lengths-clear (x ∷ xs) zero h e = length-clear (x .held) (x .length) e
 lengths-clear (x ∷ xs) (suc f) h e =
-    let mark : getD (slotsBytes xs) (4 * f + 2) 0 ≡ 0 = sym (behind-first x xs (4 * f + 2) (4 * suc f + 2) (omega arith)) ∙ e in
+    let mark : getD (slotsBytes xs) (4 * f + 2) 0 ≡ 0 =
+    sym (behind-first x xs (4 * f + 2) (4 * suc f + 2) (omega arith)) ∙ e in
     let rest : number 2 true (slotsBytes xs) (4 * f) ≡ 0 = lengths-clear xs f (omega arith) mark in
     omega (
       arith,

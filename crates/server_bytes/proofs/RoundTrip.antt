@@ -1,8 +1,8 @@
 -- The server's record as bytes and back is the record again; canonical bytes as a record and back are the bytes again.
-use Prim.Native.Nat.{ℕ, zero, suc, _/_, _≤_, _<_}
-use mathlib.Core.Bool.{Bool, true, false, true≢false}
+use Prim.Native.Nat.{ℕ, _/_, _≤_, _<_}
+use mathlib.Core.Bool.{Bool, true, false}
 use mathlib.Core.List.{List, _++_}
-use mathlib.Core.Path.{_≡_, refl, sym, ap, subst, _∙_}
+use mathlib.Core.Path.{_≡_, sym, ap, subst, _∙_}
 use native.Mathlib.Omega.{arith}
 use lib.Dec.{eqb}
 use lib.ListN.{length, getD, replicate}
@@ -15,92 +15,18 @@ use Rattle.record_bytes.specs.Fits.{Octets, FitsFields}
 use Rattle.record_bytes.specs.Parts.{markOf, clear, countWhere, timerWhere, uuidIn}
 use Rattle.record_bytes.specs.Layout.{readable as sharedReadable, callIn, outgoingIn, incomingIn, fieldsIn, fieldBytes}
 use Rattle.record_bytes.proofs.ByteLaws.{number-below}
-use Rattle.record_bytes.proofs.Keeping.{choice-keeps}
-use Rattle.record_bytes.proofs.Back.{fields-back, bytes-readable, length-fields, octets-fields, slots-clear, timer-clear}
+use Rattle.record_bytes.proofs.Back.{fields-back, bytes-readable, length-fields, octets-fields}
+use Rattle.record_bytes.proofs.Back.{slots-clear, timer-clear}
 use Rattle.record_bytes.proofs.Reading.{clear-part, count-again}
 use Rattle.record_bytes.proofs.Again.{bytes-fit, fields-again}
-use Rattle.server_record.specs.declared.Idle.the-variants.{Fresh, Spent, Repeatable}
-use Rattle.server_record.specs.declared.Reply.the-variants.{Data, Fault}
-use Rattle.server_record.specs.declared.State.{State}
-use Rattle.server_record.specs.declared.State.the-variants.{Idle as IdleState, Collect, Running, Replying, Held}
 use Rattle.server_record.specs.declared.Server.{Server}
 use Rattle.server_record.specs.Rules.{sound}
 use Rattle.server_bytes.specs.Canonical.{Canonical}
-use Rattle.server_bytes.specs.Fits.{FitsState, FitsServer}
-use Rattle.server_bytes.specs.Layout.{stateOf, stateNumber, statusOf, readable, serverOf, serverIn, fieldsOf, serverBytes}
-
-state-back : (s : State) → stateOf (stateNumber s) (statusOf s) ≡ s
-unfolding stateOf choose
-state-back (IdleState Fresh) = refl
-state-back (IdleState Spent) = refl
-state-back (IdleState Repeatable) = refl
-state-back Collect = refl
-state-back Running = refl
-state-back Replying = refl
-state-back (Held Data) = refl
-state-back (Held (Fault status)) = refl
-
-state-small : (s : State) → stateNumber s ≤ 7
-state-small (IdleState Fresh) = omega arith
-state-small (IdleState Spent) = omega arith
-state-small (IdleState Repeatable) = omega arith
-state-small Collect = omega arith
-state-small Running = omega arith
-state-small Replying = omega arith
-state-small (Held Data) = omega arith
-state-small (Held (Fault status)) = omega arith
-
-status-small : (s : State) → FitsState s → statusOf s < 4294967296
-status-small (IdleState idle) fits = omega arith
-status-small Collect fits = omega arith
-status-small Running fits = omega arith
-status-small Replying fits = omega arith
-status-small (Held Data) fits = omega arith
-status-small (Held (Fault status)) fits = fits
-
-no-status : (s : State) → eqb (stateNumber s) 7 ≡ false → statusOf s ≡ 0
-no-status (IdleState idle) e = refl
-no-status Collect e = refl
-no-status Running e = refl
-no-status Replying e = refl
-no-status (Held Data) e = refl
-no-status (Held (Fault status)) e = absurd (true≢false e)
-
--- A number up to 7 is that of its state; and its status is 0 where it is not 7.
-state-again : (n status : ℕ) → n ≤ 7 → stateNumber (stateOf n status) ≡ n
-unfolding stateOf choose
-state-again zero status h = refl
-state-again (suc zero) status h = refl
-state-again (suc (suc zero)) status h = refl
-state-again (suc (suc (suc zero))) status h = refl
-state-again (suc (suc (suc (suc zero)))) status h = refl
-state-again (suc (suc (suc (suc (suc zero))))) status h = refl
-state-again (suc (suc (suc (suc (suc (suc zero)))))) status h = refl
-state-again (suc (suc (suc (suc (suc (suc (suc zero))))))) status h = refl
-state-again (suc (suc (suc (suc (suc (suc (suc (suc n)))))))) status h = absurd (omega arith)
-
-status-again : (n status : ℕ) → n ≤ 7 → (eqb n 7 ≡ false → status ≡ 0) → statusOf (stateOf n status) ≡ status
-unfolding stateOf choose
-status-again zero status h none = sym (none refl)
-status-again (suc zero) status h none = sym (none refl)
-status-again (suc (suc zero)) status h none = sym (none refl)
-status-again (suc (suc (suc zero))) status h none = sym (none refl)
-status-again (suc (suc (suc (suc zero)))) status h none = sym (none refl)
-status-again (suc (suc (suc (suc (suc zero))))) status h none = sym (none refl)
-status-again (suc (suc (suc (suc (suc (suc zero)))))) status h none = sym (none refl)
-status-again (suc (suc (suc (suc (suc (suc (suc zero))))))) status h none = refl
-status-again (suc (suc (suc (suc (suc (suc (suc (suc n)))))))) status h none = absurd (omega arith)
-
-state-fits : (n status : ℕ) → status < 4294967296 → FitsState (stateOf n status)
-unfolding stateOf
-state-fits n status h =
-    choice-keeps FitsState (eqb n 1) _ _ tt
-    (choice-keeps FitsState (eqb n 2) _ _ tt
-    (choice-keeps FitsState (eqb n 3) _ _ tt
-    (choice-keeps FitsState (eqb n 4) _ _ tt
-    (choice-keeps FitsState (eqb n 5) _ _ tt
-    (choice-keeps FitsState (eqb n 6) _ _ tt
-    (choice-keeps FitsState (eqb n 7) _ _ h tt))))))
+use Rattle.server_bytes.specs.Fits.{FitsServer}
+use Rattle.server_bytes.specs.Layout.{stateOf, stateNumber, statusOf, readable, serverOf, serverIn, fieldsOf}
+use Rattle.server_bytes.specs.Layout.{serverBytes}
+use Rattle.server_bytes.proofs.StateLaws.{state-back, state-small, state-again, state-fits}
+use Rattle.server_bytes.proofs.StateLaws.{status-small, status-again, no-status}
 
 -- A number of four bytes has four more bytes that are 0.
 high-clear : (v : ℕ) (rest : List ℕ) → v < 4294967296 → clear 4 (digits 4 (v / 256 / 256 / 256 / 256) ++ rest) ≡ true
@@ -258,4 +184,5 @@ module _ (b : List ℕ) (canonical : Canonical b) where
   unfolding serverBytes
   server-again =
       ap fieldBytes fields-same
-      ∙ fields-again b (canonical .size) (canonical .octets) (known b (canonical .readable) .shared) (canonical .resend) (canonical .slots)
+      ∙ fields-again b (canonical .size) (canonical .octets) (known b (canonical .readable) .shared)
+        (canonical .resend) (canonical .slots)
