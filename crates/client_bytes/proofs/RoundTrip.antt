@@ -14,10 +14,10 @@ use Rattle.record_bytes.specs.Fits.{Octets, FitsFields}
 use Rattle.record_bytes.specs.Parts.{clear, countWhere, timerWhere, uuidIn}
 use Rattle.record_bytes.specs.Layout.{readable as sharedReadable, callIn, outgoingIn, incomingIn, fieldsIn, fieldBytes}
 use Rattle.record_bytes.proofs.PartLaws.{timer-same, ticket-small, ticket-clear}
-use Rattle.record_bytes.proofs.Back.{fields-back, bytes-readable, length-fields, octets-fields}
-use Rattle.record_bytes.proofs.Back.{slots-clear, timer-clear}
+use Rattle.record_bytes.proofs.FieldsBack.{fields-back, bytes-readable, length-fields, octets-fields}
+use Rattle.record_bytes.proofs.FieldsBack.{slots-clear, timer-clear}
 use Rattle.record_bytes.proofs.Reading.{clear-part, armed-again, ticket-again, timer-fits, count-again}
-use Rattle.record_bytes.proofs.Again.{known as shared-known, bytes-fit, fields-again}
+use Rattle.record_bytes.proofs.FieldsAgain.{known as shared-known, bytes-fit, fields-again}
 use Rattle.client_record.specs.declared.Client.{Client}
 use Rattle.client_record.specs.Rules.{countsSound, sound}
 use Rattle.client_bytes.specs.Canonical.{Canonical}

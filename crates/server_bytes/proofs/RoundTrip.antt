@@ -15,10 +15,10 @@ use Rattle.record_bytes.specs.Fits.{Octets, FitsFields}
 use Rattle.record_bytes.specs.Parts.{markOf, clear, countWhere, timerWhere, uuidIn}
 use Rattle.record_bytes.specs.Layout.{readable as sharedReadable, callIn, outgoingIn, incomingIn, fieldsIn, fieldBytes}
 use Rattle.record_bytes.proofs.ByteLaws.{number-below}
-use Rattle.record_bytes.proofs.Back.{fields-back, bytes-readable, length-fields, octets-fields}
-use Rattle.record_bytes.proofs.Back.{slots-clear, timer-clear}
+use Rattle.record_bytes.proofs.FieldsBack.{fields-back, bytes-readable, length-fields, octets-fields}
+use Rattle.record_bytes.proofs.FieldsBack.{slots-clear, timer-clear}
 use Rattle.record_bytes.proofs.Reading.{clear-part, count-again}
-use Rattle.record_bytes.proofs.Again.{bytes-fit, fields-again}
+use Rattle.record_bytes.proofs.FieldsAgain.{bytes-fit, fields-again}
 use Rattle.server_record.specs.declared.Server.{Server}
 use Rattle.server_record.specs.Rules.{sound}
 use Rattle.server_bytes.specs.Canonical.{Canonical}
