@@ -16,7 +16,7 @@ use Rattle.record_bytes.specs.Layout.{readable as sharedReadable, callIn, outgo
 use Rattle.record_bytes.proofs.PartLaws.{timer-same, ticket-small, ticket-clear}
 use Rattle.record_bytes.proofs.FieldsBack.{fields-back, bytes-readable, length-fields, octets-fields}
 use Rattle.record_bytes.proofs.FieldsBack.{slots-clear, timer-clear}
-use Rattle.record_bytes.proofs.Reading.{clear-part, armed-again, ticket-again, timer-fits, count-again}
+use Rattle.record_bytes.proofs.Reading.{clear-part, armed-again, ticket-again, timer-fits, count-again, count-broken}
 use Rattle.record_bytes.proofs.FieldsAgain.{known as shared-known, bytes-fit, fields-again}
 use Rattle.client_record.specs.declared.Client.{Client}
 use Rattle.client_record.specs.Rules.{countsSound, sound}
@@ -123,8 +123,8 @@ client-fits b size octets allowed =
 
 -- Bytes that are not readable stand for a record that breaks its rules, so every event refuses them with 2.
 pub unreadable-broken : (b : List ℕ) → readable b ≡ false → sound (clientIn b) ≡ false
-unfolding clientIn clientOf sound countsSound countWhere both choose
-unreadable-broken b e = ap (λ (r : Bool). sound (clientOf r (fieldsIn b))) e
+unfolding clientIn clientOf sound countsSound both choose
+unreadable-broken b e = rw (count-broken (readable b) (fieldsIn b .count) e)
 
 module _ (b : List ℕ) (canonical : Canonical b) where
   fields-same : fieldsOf (clientIn b) ≡ fieldsIn b

@@ -109,7 +109,11 @@ last-fits n e = by-tests (ltb n 256) (eqb n 65535) refl e
     by-tests true false p q = ltb-true n 256 p
     by-tests false false p q = absurd (false≢true q)
 
--- and the count of a side, which is the bytes' own where they are readable.
+-- and the count of a side. It is the bytes' own where they are readable, else one that no record may have.
 pub count-again : (readable : Bool) (count : ℕ) → readable ≡ true → countWhere readable count ≡ count
 unfolding countWhere
 count-again readable count e = choose-true readable count 255 e
+
+pub count-broken : (readable : Bool) (count : ℕ) → readable ≡ false → leb (countWhere readable count) 5 ≡ false
+unfolding countWhere choose
+count-broken readable count e = ap (λ (r : Bool). leb (countWhere r count) 5) e

@@ -5,7 +5,6 @@ use mathlib.Core.List.{List, [], _∷_, map}
 use mathlib.Core.Path.{_≡_, refl, sym, ap, subst, _∙_}
 use native.Mathlib.Numerals.{add-one}
 use native.Mathlib.Omega.{arith}
-use lib.Dec.{eqb}
 use lib.ListN.{length, getD, drop, drop-of-length-le}
 use lib.Seq.{drop-cons}
 use Rattle.words.specs.Choice.{choose, both}
@@ -16,29 +15,22 @@ use Rattle.incoming.specs.Slots.{missing}
 use Rattle.record_bytes.specs.Fits.{Octets, FitsSlot, FitsSlots}
 use Rattle.record_bytes.specs.Canonical.{LengthsClear}
 use Rattle.record_bytes.specs.Parts.{markOf}
-use Rattle.record_bytes.specs.Held.{lengthWhere, slotsBytes, slotIn, slotsBelow, slotsIn}
+use Rattle.record_bytes.specs.Held.{lengthWhere, slotBytes, slotsBytes, slotIn, slotsBelow, slotsIn}
 use Rattle.record_bytes.specs.Held.{slotReadable, readableBelow, slotsReadable}
-use Rattle.record_bytes.proofs.PartLaws.{mark-back, mark-readable, mark-small}
+use Rattle.record_bytes.proofs.PartLaws.{mark-readable, mark-small}
 
 -- A slot as bytes and back.
 abbrev again : Slot → Slot
-again x = record {
-  held = eqb (markOf (x .held)) 1;
-  length = lengthWhere (eqb (markOf (x .held)) 1) (number 2 true (digits 2 (lengthWhere (x .held) (x .length))) 0);
-}
+again x = slotIn (slotBytes (x .held) (x .length)) 0
 
-length-again : (held : Bool) (n : ℕ) → FitsSlot held n
-    → lengthWhere (eqb (markOf held) 1) (number 2 true (digits 2 (lengthWhere held n)) 0) ≡ n
-unfolding lengthWhere markOf choose number
-length-again true n fits = value-bytes 2 true n fits
-length-again false n fits = sym fits
+slot-back : (held : Bool) (n : ℕ) → FitsSlot held n → slotIn (slotBytes held n) 0 ≡ record { held = held; length = n }
+unfolding slotIn lengthWhere markOf choose number
+slot-back true n fits = λ i. record { held = true; length = value-bytes 2 true n fits i }
+slot-back false n fits = λ i. record { held = false; length = sym fits i }
 
 again-same : (xs : List Slot) → FitsSlots xs → map again xs ≡ xs
 again-same [] fits = refl
-again-same (x ∷ xs) fits =
-    λ i.
-    record { held = mark-back (x .held) i; length = length-again (x .held) (x .length) (fits .0) i }
-    ∷ again-same xs (fits .1) i
+again-same (x ∷ xs) fits = λ i. slot-back (x .held) (x .length) (fits .0) i ∷ again-same xs (fits .1) i
 
 -- The n slots of a list from `at` on, each written out.
 abbrev spelled : ℕ → List Slot → ℕ → List Slot

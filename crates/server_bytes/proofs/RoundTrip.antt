@@ -17,7 +17,7 @@ use Rattle.record_bytes.specs.Layout.{readable as sharedReadable, callIn, outgo
 use Rattle.record_bytes.proofs.ByteLaws.{number-below}
 use Rattle.record_bytes.proofs.FieldsBack.{fields-back, bytes-readable, length-fields, octets-fields}
 use Rattle.record_bytes.proofs.FieldsBack.{slots-clear, timer-clear}
-use Rattle.record_bytes.proofs.Reading.{clear-part, count-again}
+use Rattle.record_bytes.proofs.Reading.{clear-part, count-again, count-broken}
 use Rattle.record_bytes.proofs.FieldsAgain.{bytes-fit, fields-again}
 use Rattle.server_record.specs.declared.Server.{Server}
 use Rattle.server_record.specs.Rules.{sound}
@@ -145,8 +145,8 @@ server-fits b size octets allowed =
 
 -- Bytes that are not readable stand for a record that breaks its rules, so every event refuses them with 2.
 pub unreadable-broken : (b : List ℕ) → readable b ≡ false → sound (serverIn b) ≡ false
-unfolding serverIn serverOf sound countWhere both choose
-unreadable-broken b e = ap (λ (r : Bool). sound (serverOf r (number 4 true b 48) (fieldsIn b))) e
+unfolding serverIn serverOf sound both choose
+unreadable-broken b e = rw (count-broken (readable b) (fieldsIn b .count) e)
 
 module _ (b : List ℕ) (canonical : Canonical b) where
   -- The ticket at 48 is the status, as its high bytes are 0.
