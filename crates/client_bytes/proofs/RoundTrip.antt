@@ -151,4 +151,4 @@ module _ (b : List ℕ) (canonical : Canonical b) where
   client-again =
       ap fieldBytes fields-same
       ∙ fields-again b (canonical .size) (canonical .octets) (known b (canonical .readable) .shared) (canonical .wait)
-        (canonical .slots)
+      (canonical .slots)

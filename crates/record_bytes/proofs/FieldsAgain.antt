@@ -106,7 +106,7 @@ module _ (b : List ℕ) (size : length b ≡ 272) (octets : Octets b) (allowed :
   digits-at n at = digits-part n b at byte
 
   front-again
-    : frontBytes (getD b 0 0) (markOf (eqb (getD b 1 0) 1)) (getD b 2 0) (getD b 3 0) (outgoingIn b)
+      : frontBytes (getD b 0 0) (markOf (eqb (getD b 1 0) 1)) (getD b 2 0) (getD b 3 0) (outgoingIn b)
       (lastNumber (lastOf (number 2 true b 10))) (number 2 true b 14)
       ≡ part 16 b 0
   unfolding outgoingIn
@@ -128,11 +128,11 @@ module _ (b : List ℕ) (size : length b ≡ 272) (octets : Octets b) (allowed :
       ∷ (last i ++ (digits-at 2 12 i ++ digits-at 2 14 i)))))))))))
 
   numbers-again
-    : numberBytes (number 4 true b 16) (number 4 true b 20) (number 4 true b 24) (number 4 true b 28) ≡ part 16 b 16
+      : numberBytes (number 4 true b 16) (number 4 true b 20) (number 4 true b 24) (number 4 true b 28) ≡ part 16 b 16
   numbers-again = λ i. digits-at 4 16 i ++ (digits-at 4 20 i ++ (digits-at 4 24 i ++ digits-at 4 28 i))
 
   back-again
-    : backBytes (markOf (isArmed (timerWhere (eqb (getD b 64 0) 1) (number 8 true b 40))))
+      : backBytes (markOf (isArmed (timerWhere (eqb (getD b 64 0) 1) (number 8 true b 40))))
       (markOf (eqb (getD b 65 0) 1))
       ≡ part 40 b 56
   back-again =
@@ -154,8 +154,8 @@ module _ (b : List ℕ) (size : length b ≡ 272) (octets : Octets b) (allowed :
     unfolding fieldBytes fieldsIn callIn outgoingIn incomingIn
     fields-again =
         (λ i.
-          laidBytes (front-again i) (numbers-again i) (digits-at 8 32 i) (ticket-digits i) (digits-at 8 48 i)
-          (back-again i) (uuid-part b 96 (omega arith) i) (uuid-part b 112 (omega arith) i)
-          (uuid-part b 128 (omega arith) i) (slots-same i))
+        laidBytes (front-again i) (numbers-again i) (digits-at 8 32 i) (ticket-digits i) (digits-at 8 48 i)
+        (back-again i) (uuid-part b 96 (omega arith) i) (uuid-part b 112 (omega arith) i)
+        (uuid-part b 128 (omega arith) i) (slots-same i))
         ∙ ap (λ (l : List ℕ). l ++ drop 144 b) (part-take 144 b 0 (omega arith))
         ∙ take-append-drop 144 b

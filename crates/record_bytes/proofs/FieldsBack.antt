@@ -48,11 +48,14 @@ spelled f = record {
   ticket = f .ticket;
 }
 
--- Three of the ten parts that its bytes are.
+-- Three of the ten parts that its bytes are, the first without its first four bytes too.
 abbrev frontOf : Fields → List ℕ
 frontOf f =
     frontBytes (f .state) (markOf (f .call .idempotent)) (f .count) (f .resends) (f .outgoing)
     (lastNumber (f .incoming .last)) (f .call .operation)
+
+abbrev countsOf : Fields → List ℕ
+countsOf f = drop 4 (frontOf f)
 
 abbrev numbersOf : Fields → List ℕ
 numbersOf f = numberBytes (f .number) (f .call .version) (f .outgoing .length) (f .boot)
@@ -140,20 +143,16 @@ module _ (f : Fields) (fits : FitsFields f) where
   pub length-fields : length (fieldBytes f) ≡ 272
   length-fields = subst (λ (g : Fields). length (fieldBytes g) ≡ 272) spelled-same size-spelled
 
-  octets-front : Octets (frontOf f)
-  octets-front =
-      (fits .state,
-      (mark-small (f .call .idempotent),
-      (fits .count,
-      (fits .resends,
-      (fits .outgoing .count,
-      (omega arith,
-      (fits .outgoing .sent,
-      (omega arith,
-      (fits .outgoing .acknowledged,
-      (omega arith,
+  octets-counts : Octets (countsOf f)
+  octets-counts =
+      let o = fits .outgoing in
+      let shorts =
       octets-three (digits 2 (lastNumber (f .incoming .last))) (digits 2 (f .outgoing .serial))
-      (digits 2 (f .call .operation)) (octets-digits 2 _) (octets-digits 2 _) (octets-digits 2 _)))))))))))
+      (digits 2 (f .call .operation)) (octets-digits 2 _) (octets-digits 2 _) (octets-digits 2 _) in
+      (o .count, (omega arith, (o .sent, (omega arith, (o .acknowledged, (omega arith, shorts))))))
+
+  octets-front : Octets (frontOf f)
+  octets-front = (fits .state, (mark-small (f .call .idempotent), (fits .count, (fits .resends, octets-counts))))
 
   octets-numbers : Octets (numbersOf f)
   octets-numbers =

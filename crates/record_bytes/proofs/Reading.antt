@@ -49,10 +49,10 @@ zeros-part (suc n) s at h =
 pub clear-part : (n : ℕ) (s : List ℕ) (at : ℕ) → clear n (drop at s) ≡ true → part n s at ≡ replicate n 0
 clear-part n s at e =
     zeros-part n s at (λ (i : ℕ) (low : at ≤ i) (high : i < at + n).
-        let place : at + (i - at) ≡ i = omega arith in
-        ap (λ (k : ℕ). getD s k 0) (sym place)
-        ∙ sym (getD-drop at s (i - at) 0)
-        ∙ clear-at n (drop at s) e (i - at) (omega arith))
+    let place : at + (i - at) ≡ i = omega arith in
+    ap (λ (k : ℕ). getD s k 0) (sym place)
+    ∙ sym (getD-drop at s (i - at) 0)
+    ∙ clear-at n (drop at s) e (i - at) (omega arith))
 
 -- A mark is 1, or else 0;
 pub mark-zero : (m : ℕ) → leb m 1 ≡ true → eqb m 1 ≡ false → m ≡ 0

@@ -185,4 +185,4 @@ module _ (b : List ℕ) (canonical : Canonical b) where
   server-again =
       ap fieldBytes fields-same
       ∙ fields-again b (canonical .size) (canonical .octets) (known b (canonical .readable) .shared)
-        (canonical .resend) (canonical .slots)
+      (canonical .resend) (canonical .slots)
