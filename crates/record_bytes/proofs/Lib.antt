@@ -4,3 +4,9 @@ pub mod Keeping
 pub mod NumberLaws
 pub mod HeldLaws
 pub mod Laying
+pub mod PartLaws
+pub mod SlotLaws
+pub mod FieldsBack
+pub mod Reading
+pub mod SlotReading
+pub mod FieldsAgain
