@@ -86,7 +86,7 @@ impl Client {
                 call.interface.len(),
                 call.version,
                 call.operation,
-                message_length(request),
+                message_length(request.len()),
             )
         };
         self.memory.keep(result, request);

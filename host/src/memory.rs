@@ -66,7 +66,30 @@ impl Memory {
     }
 }
 
-/// The length of a message as the library takes it; one too long stays too long, also above 32 bits.
-pub(crate) fn message_length(message: &[u8]) -> u32 {
-    message.len().min(MESSAGE_SIZE + 1) as u32
+/// A length as the library takes it, in 32 bits. One that is too long for a message stays too long.
+pub(crate) fn message_length(length: usize) -> u32 {
+    length.min(MESSAGE_SIZE + 1) as u32
+}
+
+#[cfg(test)]
+mod tests {
+    use super::*;
+
+    #[test]
+    fn a_length_that_is_too_long_stays_so_in_32_bits() {
+        assert_eq!(message_length(0), 0);
+        assert_eq!(message_length(44_544), 44_544);
+        assert_eq!(message_length(44_545), 44_545);
+        assert_eq!(message_length((1 << 32) + 10), 44_545);
+        assert_eq!(message_length(usize::MAX), 44_545);
+    }
+
+    #[test]
+    fn a_part_outside_the_slot_buffer_is_empty() {
+        let memory = Memory::new();
+        assert_eq!(memory.part(31, 1392).len(), 1392);
+        assert_eq!(memory.part(31, 1393).len(), 0);
+        assert_eq!(memory.part(65_535, 1).len(), 0);
+        assert_eq!(memory.part(0, u64::MAX).len(), 0);
+    }
 }

@@ -73,7 +73,7 @@ impl Server {
         let record = &mut self.memory.record;
         // SAFETY: as in `new`.
         let result = unsafe {
-            door::morphelai_server_reply(record.as_mut_ptr(), record.len(), message_length(reply))
+            door::morphelai_server_reply(record.as_mut_ptr(), record.len(), message_length(reply.len()))
         };
         self.memory.keep(result, reply);
         self.memory.outcome(result)

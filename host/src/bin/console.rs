@@ -161,8 +161,8 @@ impl Console {
         if let Some(refusal) = started.refusal() {
             return Ok(End::Failed(format!("not started: refused {refusal}")));
         }
-        let text = format!("{} bytes", request.len());
-        self.network.transcript.event(&self.activity, self.client.number(), "start", &text, &NOTHING);
+        let number = self.client.number();
+        self.network.transcript.message(&self.activity, number, "start", Some(request.len()), "");
         while !self.is_over() {
             match self.turn()? {
                 Some(Notice::Last) => return Ok(End::Answered(Answer::Reply(self.client.message()))),
@@ -205,8 +205,7 @@ impl Console {
     fn timer(&mut self, kind: ClientTimer, name: &str, ticket: u64) -> Result<Option<Notice>, Failure> {
         let number = self.client.number();
         let outcome = self.client.timer(kind, ticket);
-        let text = format!("{name} {ticket}");
-        self.network.transcript.event(&self.activity, number, "timer", &text, &outcome);
+        self.network.transcript.timer(&self.activity, number, name, ticket, &outcome);
         let notice = pass(&mut self.network, self.peer, &outcome)?;
         self.follow();
         Ok(notice)
@@ -243,8 +242,6 @@ impl Console {
         self.end.is_some_and(|end| end <= Instant::now())
     }
 }
-
-const NOTHING: Outcome<'static> = Outcome::Done { pdu: None, notice: None };
 
 /// Sends the PDU of an outcome. Gives the notice.
 fn pass(network: &mut Network, peer: SocketAddrV4, outcome: &Outcome<'_>) -> Result<Option<Notice>, Failure> {

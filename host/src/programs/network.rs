@@ -110,11 +110,12 @@ impl Network {
             Err(error) if error.kind() == ErrorKind::ConnectionRefused => self.socket.send_to(pdu, to),
             sent => sent,
         };
-        match sent {
+        if let Err(error) = sent {
             // A PDU that cannot be sent is a lost one; the timers take care of it.
-            Err(error) => self.transcript.pdu("lost", pdu, &error.to_string()),
-            Ok(_) => self.transcript.pdu(event, pdu, ""),
+            self.transcript.pdu("lost", pdu, &error.to_string());
+            return Ok(());
         }
+        self.transcript.pdu(event, pdu, "");
         match &mut self.capture {
             Some(capture) => capture.add(self.local, to, pdu),
             None => Ok(()),

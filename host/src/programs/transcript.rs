@@ -42,11 +42,21 @@ impl Transcript {
         }
     }
 
-    /// An event without a PDU of its own, of a call.
-    pub fn event(&self, activity: &[u8; 16], number: u32, event: &str, text: &str, outcome: &Outcome<'_>) {
+    /// A start or an answer with a message of so many bytes, or without one.
+    pub fn message(&self, activity: &[u8; 16], number: u32, event: &str, bytes: Option<usize>, told: &str) {
         if self.on {
-            let columns = format!("{}  {event:<8}  {text:<9}  {number:>4}", short(activity));
-            self.line(&format!("{columns:<86}  {}", told(outcome)));
+            let bytes = bytes.map(|bytes| bytes.to_string()).unwrap_or_default();
+            let columns = event_columns(activity, number, event, "");
+            self.line(&format!("{columns:<68}  {bytes:>5}  {told}"));
+        }
+    }
+
+    /// A timer that ran out, with its ticket and what the library made of it.
+    pub fn timer(&self, activity: &[u8; 16], number: u32, name: &str, ticket: u64, outcome: &Outcome<'_>) {
+        if self.on {
+            let told = format!("ticket {ticket} {}", told(outcome));
+            let columns = event_columns(activity, number, "timer", name);
+            self.line(&format!("{columns:<75}  {}", told));
         }
     }
 
@@ -63,6 +73,10 @@ fn told(outcome: &Outcome<'_>) -> String {
         Outcome::Done { notice: Some(notice), .. } => notice.to_string(),
         Outcome::Done { notice: None, .. } => String::new(),
     }
+}
+
+fn event_columns(activity: &[u8; 16], number: u32, event: &str, name: &str) -> String {
+    format!("{}  {event:<8}  {name:<9}  {number:>4}", short(activity))
 }
 
 fn pdu_columns(event: &str, datagram: &[u8], told: &str) -> String {

@@ -54,11 +54,19 @@ impl Service {
             false => Answer::Fault(UNKNOWN_INTERFACE),
         };
         let number = self.server.number();
-        let (outcome, text) = match &answer {
-            Answer::Reply(reply) => (self.server.reply(reply), format!("{} bytes", reply.len())),
-            Answer::Fault(status) => (self.server.fault(*status), format!("{status:#x}")),
+        let outcome = match &answer {
+            Answer::Reply(reply) => {
+                network.transcript.message(&self.activity, number, "reply", Some(reply.len()), "");
+                self.server.reply(reply)
+            }
+            Answer::Fault(status) => {
+                network.transcript.message(&self.activity, number, "fault", None, &format!("{status:#010x}"));
+                self.server.fault(*status)
+            }
         };
-        network.transcript.event(&self.activity, number, "answer", &text, &outcome);
+        if let Some(refusal) = outcome.refusal() {
+            return Err(Failure::Failed(format!("a call cannot be answered: refused {refusal}")));
+        }
         send(network, self.peer, &outcome)?;
         self.go_on(network)
     }
@@ -68,7 +76,7 @@ impl Service {
         let Some(ticket) = self.resend.run_out(Instant::now()) else { return Ok(()) };
         let number = self.server.number();
         let outcome = self.server.timer(ticket);
-        network.transcript.event(&self.activity, number, "timer", &format!("RESEND {ticket}"), &outcome);
+        network.transcript.timer(&self.activity, number, "RESEND", ticket, &outcome);
         send(network, self.peer, &outcome)?;
         self.go_on(network)
     }
