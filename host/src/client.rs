@@ -60,12 +60,7 @@ impl Client {
     /// record of a host).
     pub fn new(activity: &[u8; 16], tickets: u64) -> Result<Client, Refusal> {
         let mut memory = Memory::new();
-        let record = &mut memory.record;
-        // SAFETY: each pointer goes with the length of the memory that it points to, and none overlap.
-        let result = unsafe {
-            door::morphelai_client_fresh(record.as_mut_ptr(), record.len(), activity.as_ptr(), activity.len(), tickets)
-        };
-        match Refusal::of(result as u8) {
+        match Refusal::of(door::client_fresh(&mut memory.record, activity, tickets) as u8) {
             None => Ok(Client { memory }),
             Some(refusal) => Err(refusal),
         }
@@ -73,22 +68,15 @@ impl Client {
 
     /// Starts a call with this request, which is kept for every transmit. Refused while a call is out.
     pub fn start(&mut self, call: &Call, request: &[u8]) -> Outcome<'_> {
-        let record = &mut self.memory.record;
-        // SAFETY: as in `new`; UUIDs are 16 bytes by their type.
-        let result = unsafe {
-            door::morphelai_client_start(
-                record.as_mut_ptr(),
-                record.len(),
-                u8::from(call.idempotent),
-                call.object.as_ptr(),
-                call.object.len(),
-                call.interface.as_ptr(),
-                call.interface.len(),
-                call.version,
-                call.operation,
-                message_length(request.len()),
-            )
-        };
+        let result = door::client_start(
+            &mut self.memory.record,
+            u8::from(call.idempotent),
+            &call.object,
+            &call.interface,
+            call.version,
+            call.operation,
+            message_length(request.len()),
+        );
         self.memory.keep(result, request);
         self.memory.outcome(result)
     }
@@ -96,36 +84,14 @@ impl Client {
     /// Sends the next fragment of the request, in [`ClientState::SendFrags`].
     pub fn transmit(&mut self) -> Outcome<'_> {
         let Memory { record, pdu, message, .. } = &mut self.memory;
-        // SAFETY: as in `new`; record, message and PDU buffer are fields of their own.
-        let result = unsafe {
-            door::morphelai_client_transmit(
-                record.as_mut_ptr(),
-                record.len(),
-                message.as_ptr(),
-                message.len(),
-                pdu.as_mut_ptr(),
-                pdu.len(),
-            )
-        };
+        let result = door::client_transmit(record, message, pdu);
         self.memory.outcome(result)
     }
 
     /// Takes a datagram that came, whole.
     pub fn arrive(&mut self, datagram: &[u8]) -> Outcome<'_> {
         let Memory { record, slots, pdu, .. } = &mut self.memory;
-        // SAFETY: as in `new`; the datagram is borrowed from elsewhere.
-        let result = unsafe {
-            door::morphelai_client_arrive(
-                record.as_mut_ptr(),
-                record.len(),
-                datagram.as_ptr(),
-                datagram.len(),
-                slots.as_mut_ptr(),
-                slots.len(),
-                pdu.as_mut_ptr(),
-                pdu.len(),
-            )
-        };
+        let result = door::client_arrive(record, datagram, slots, pdu);
         self.memory.outcome(result)
     }
 
@@ -136,21 +102,14 @@ impl Client {
             ClientTimer::Wait => 1,
             ClientTimer::Ack => 2,
         };
-        // SAFETY: as in `new`.
-        let result = unsafe {
-            door::morphelai_client_timer(record.as_mut_ptr(), record.len(), kind, ticket, pdu.as_mut_ptr(), pdu.len())
-        };
+        let result = door::client_timer(record, kind, ticket, pdu);
         self.memory.outcome(result)
     }
 
     /// Fragment `number` of the reply where it lies, if it is handed up; else nothing.
     pub fn part(&self, number: u16) -> &[u8] {
         let Memory { record, slots, .. } = &self.memory;
-        // SAFETY: as in `new`; both are only read.
-        let length = unsafe {
-            door::morphelai_client_part(record.as_ptr(), record.len(), number, slots.as_ptr(), slots.len())
-        };
-        self.memory.part(number, length)
+        self.memory.part(number, door::client_part(record, number, slots))
     }
 
     /// The reply as far as it is handed up: its contiguous parts, joined.

@@ -52,10 +52,7 @@ impl Header {
     /// Reads the header of a datagram; the body is what follows it.
     pub fn read(datagram: &[u8]) -> Result<Header, Refusal> {
         let mut bytes = [0; HEADER_SIZE];
-        // SAFETY: each pointer goes with the length of the memory that it points to, and none overlap.
-        let result = unsafe {
-            door::morphelai_read(datagram.as_ptr(), datagram.len(), bytes.as_mut_ptr(), bytes.len())
-        };
+        let result = door::read(datagram, &mut bytes);
         match Refusal::of(result as u8) {
             None => Ok(Header { bytes }),
             Some(refusal) => Err(refusal),
@@ -65,17 +62,7 @@ impl Header {
     /// Writes a PDU of this header and a body to the front of the buffer. Gives the PDU's length. Version,
     /// representation and body length are set by the writer.
     pub fn write(&self, body: &[u8], pdu: &mut [u8; PDU_SIZE]) -> Result<usize, Refusal> {
-        // SAFETY: as in `read`.
-        let result = unsafe {
-            door::morphelai_write(
-                self.bytes.as_ptr(),
-                self.bytes.len(),
-                body.as_ptr(),
-                body.len(),
-                pdu.as_mut_ptr(),
-                pdu.len(),
-            )
-        };
+        let result = door::write(&self.bytes, body, pdu);
         match Refusal::of(result as u8) {
             None => Ok(usize::from((result >> 16) as u16)),
             Some(refusal) => Err(refusal),

@@ -1,6 +1,6 @@
 //! A safe wrapper of the proved library of the connectionless RPC protocol, for hosts in Rust.
 //!
-//! A [`Client`] is the console's side of an activity, a [`Server`] the controller's. Each owns the memory that its side
+//! A [`Client`] is the console's side of an activity, a [`Server`] the controller's. Each owns the memory that it
 //! lends. The host owns socket and clock: it hands in what happened, sends the PDU that comes back, and tells its stub
 //! the notice. `docs/USING.md` says what a host owes.
 //!
@@ -26,6 +26,7 @@ pub mod header;
 pub mod programs;
 
 mod client;
+mod exports;
 mod memory;
 mod outcome;
 mod refusal;

@@ -4,6 +4,9 @@ use crate::door;
 use crate::memory::{message_length, Memory};
 use crate::{Outcome, Refusal, FRAGMENTS};
 
+/// The kind of the timer RESEND.
+const RESEND: u8 = 3;
+
 /// One server of one activity. It owns what is lent: record, slot buffer, PDU buffer and the reply that is out. It
 /// cannot be copied: a record that is restored from an earlier copy is not the last one.
 pub struct Server {
@@ -38,12 +41,7 @@ impl Server {
     /// counter to start from (0 for the first record of a host).
     pub fn new(activity: &[u8; 16], boot: u32, tickets: u64) -> Result<Server, Refusal> {
         let mut memory = Memory::new();
-        let (record, length) = (memory.record.as_mut_ptr(), memory.record.len());
-        // SAFETY: each pointer goes with the length of the memory that it points to, and none overlap.
-        let result = unsafe {
-            door::morphelai_server_fresh(record, length, activity.as_ptr(), activity.len(), boot, tickets)
-        };
-        match Refusal::of(result as u8) {
+        match Refusal::of(door::server_fresh(&mut memory.record, activity, boot, tickets) as u8) {
             None => Ok(Server { memory }),
             Some(refusal) => Err(refusal),
         }
@@ -52,29 +50,13 @@ impl Server {
     /// Takes a datagram that came, whole. At the notice dispatch the call is to be executed.
     pub fn arrive(&mut self, datagram: &[u8]) -> Outcome<'_> {
         let Memory { record, slots, pdu, .. } = &mut self.memory;
-        // SAFETY: as in `new`; the datagram is borrowed from elsewhere.
-        let result = unsafe {
-            door::morphelai_server_arrive(
-                record.as_mut_ptr(),
-                record.len(),
-                datagram.as_ptr(),
-                datagram.len(),
-                slots.as_mut_ptr(),
-                slots.len(),
-                pdu.as_mut_ptr(),
-                pdu.len(),
-            )
-        };
+        let result = door::server_arrive(record, datagram, slots, pdu);
         self.memory.outcome(result)
     }
 
     /// Answers the running call with this reply, which is kept for every transmit.
     pub fn reply(&mut self, reply: &[u8]) -> Outcome<'_> {
-        let record = &mut self.memory.record;
-        // SAFETY: as in `new`.
-        let result = unsafe {
-            door::morphelai_server_reply(record.as_mut_ptr(), record.len(), message_length(reply.len()))
-        };
+        let result = door::server_reply(&mut self.memory.record, message_length(reply.len()));
         self.memory.keep(result, reply);
         self.memory.outcome(result)
     }
@@ -82,48 +64,28 @@ impl Server {
     /// Answers the running call with a fault of this status.
     pub fn fault(&mut self, status: u32) -> Outcome<'_> {
         let Memory { record, pdu, .. } = &mut self.memory;
-        // SAFETY: as in `new`.
-        let result = unsafe {
-            door::morphelai_server_fault(record.as_mut_ptr(), record.len(), status, pdu.as_mut_ptr(), pdu.len())
-        };
+        let result = door::server_fault(record, status, pdu);
         self.memory.outcome(result)
     }
 
     /// Sends the next fragment of the reply, in [`ServerState::Replying`].
     pub fn transmit(&mut self) -> Outcome<'_> {
         let Memory { record, pdu, message, .. } = &mut self.memory;
-        // SAFETY: as in `new`; record, message and PDU buffer are fields of their own.
-        let result = unsafe {
-            door::morphelai_server_transmit(
-                record.as_mut_ptr(),
-                record.len(),
-                message.as_ptr(),
-                message.len(),
-                pdu.as_mut_ptr(),
-                pdu.len(),
-            )
-        };
+        let result = door::server_transmit(record, message, pdu);
         self.memory.outcome(result)
     }
 
     /// Takes the timer RESEND that ran out, with the ticket that it was started with.
     pub fn timer(&mut self, ticket: u64) -> Outcome<'_> {
         let Memory { record, pdu, .. } = &mut self.memory;
-        // SAFETY: as in `new`.
-        let result = unsafe {
-            door::morphelai_server_timer(record.as_mut_ptr(), record.len(), 3, ticket, pdu.as_mut_ptr(), pdu.len())
-        };
+        let result = door::server_timer(record, RESEND, ticket, pdu);
         self.memory.outcome(result)
     }
 
     /// Fragment `number` of the request where it lies, if it is handed up; else nothing.
     pub fn part(&self, number: u16) -> &[u8] {
         let Memory { record, slots, .. } = &self.memory;
-        // SAFETY: as in `new`; both are only read.
-        let length = unsafe {
-            door::morphelai_server_part(record.as_ptr(), record.len(), number, slots.as_ptr(), slots.len())
-        };
-        self.memory.part(number, length)
+        self.memory.part(number, door::server_part(record, number, slots))
     }
 
     /// The request as far as it is handed up: its contiguous parts, joined. Take it before the call is answered.

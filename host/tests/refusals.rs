@@ -1,8 +1,8 @@
 //! What is refused, and that it changes nothing; timers by their tickets.
 
 use morphelai::{
-    door, Call, Cause, Client, ClientState, ClientTimer, Header, Notice, Outcome, PduType, Refusal, Server, ServerState,
-    HEADER_SIZE, PDU_SIZE, RECORD_SIZE,
+    door, Call, Cause, Client, ClientState, ClientTimer, Header, Notice, Outcome, PduType, Refusal, Server,
+    ServerState, HEADER_SIZE, PDU_SIZE, RECORD_SIZE,
 };
 
 const ACTIVITY: [u8; 16] = [1; 16];
@@ -32,8 +32,7 @@ fn running() -> (Server, Vec<u8>) {
 
 #[test]
 fn the_record_has_the_size_that_the_wrapper_lends() {
-    // SAFETY: it takes nothing.
-    assert_eq!(unsafe { door::morphelai_record_size() }, RECORD_SIZE);
+    assert_eq!(door::record_size(), RECORD_SIZE);
 }
 
 #[test]

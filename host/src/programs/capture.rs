@@ -36,9 +36,7 @@ impl Capture {
             record.extend(word.to_le_bytes());
         }
         record.extend(packet);
-        self.file
-            .write_all(&record)
-            .map_err(|error| Failure::system(&format!("cannot write {}", self.name), &error))
+        self.file.write_all(&record).map_err(|error| Failure::system(&format!("cannot write {}", self.name), &error))
     }
 }
 
@@ -100,9 +98,7 @@ mod tests {
 
     #[test]
     fn a_known_checksum() {
-        let header = [
-            0x45, 0, 0, 0x73, 0, 0, 0x40, 0, 0x40, 0x11, 0, 0, 0xc0, 0xa8, 0, 1, 0xc0, 0xa8, 0, 0xc7,
-        ];
+        let header = [0x45, 0, 0, 0x73, 0, 0, 0x40, 0, 0x40, 0x11, 0, 0, 0xc0, 0xa8, 0, 1, 0xc0, 0xa8, 0, 0xc7];
         assert_eq!(checksum(&header), 0xb861);
     }
 

@@ -97,7 +97,11 @@ mod tests {
     use super::*;
 
     fn parse(line: &str) -> Result<Arguments, Failure> {
-        Arguments::parse(line.split_whitespace().map(OsString::from).collect(), &["--to", "--wait"], &["--idempotent"])
+        Arguments::parse(
+            line.split_whitespace().map(OsString::from).collect(),
+            &["--to", "--wait"],
+            &["--idempotent"],
+        )
     }
 
     fn refuses<T>(result: Result<T, Failure>) -> bool {
