@@ -1,7 +1,8 @@
 //! Whole calls of a client and a server in memory.
 
 use morphelai::programs::random::Random;
-use morphelai::{Call, Client, ClientState, ClientTimer, Notice, Outcome, Server, ServerState, MESSAGE_SIZE};
+use morphelai::{Call, Client, ClientState, ClientTimer, Header, Notice, Outcome, Server, ServerState};
+use morphelai::{MESSAGE_SIZE, PDU_SIZE};
 
 const ACTIVITY: [u8; 16] = *b"an activity here";
 
@@ -63,6 +64,21 @@ fn parts_are_handed_up_as_far_as_they_are_contiguous() {
     assert_eq!(server.message(), request);
     assert_eq!(server.part(2), &request[2784..]);
     assert_eq!(server.part(65_535), []);
+}
+
+#[test]
+fn a_fragment_may_be_empty() {
+    let (mut client, mut server) = pair();
+    assert_eq!(client.start(&call(false), &[1; 3000]).refusal(), None);
+    let pdus: Vec<Vec<u8>> = (0..3).flat_map(|_| copy(client.transmit())).collect();
+    let mut told = None;
+    for (pdu, body) in pdus.iter().zip([&b"open"[..], b"", b"ed"]) {
+        let mut buffer = [0; PDU_SIZE];
+        let header = Header::read(pdu).expect("a header");
+        let length = header.write(body, &mut buffer).expect("a PDU");
+        told = server.arrive(&buffer[..length]).notice();
+    }
+    assert_eq!((told, server.message()), (Some(Notice::Dispatch), b"opened".to_vec()));
 }
 
 #[test]
