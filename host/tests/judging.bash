@@ -1,6 +1,9 @@
 # How tests/hosts runs and judges its cases. The script sets `bin`, the programs' folder, and `work`, its own.
 # shellcheck shell=bash disable=SC2154
 
+# Whether a console hung in this group of cases.
+hung=0
+
 # ok NAME TEXT, fail NAME TEXT: the line of a case.
 ok() { echo "ok    $1: $2"; }
 fail() { echo "FAIL  $1: $2"; }
@@ -41,7 +44,10 @@ listen() {
 calls() {
     local name=$1 least=$2 file="$work/$1.console" status=0 good failed last
     shift 2
-    timeout 40 "$bin/console" --to "127.0.0.1:$port" --calls 5 "$@" >"$file" 2>&1 || status=$?
+    # One hang is enough to see.
+    ((hung == 0)) || { fail "$name" "not run, an earlier case hung"; return 0; }
+    timeout 20 "$bin/console" --to "127.0.0.1:$port" --calls 5 "$@" >"$file" 2>&1 || status=$?
+    hung=$((status == 124))
     good=$(grep -c '^call [0-9]*: good, ' "$file" || true)
     failed=$(grep -cE '^call [0-9]*: failed, cause [12]: .* it may have been executed' "$file" || true)
     last=$(tail -n 1 "$file")

@@ -59,15 +59,27 @@ fn fill(request: &[u8]) -> Answer {
     Answer::Reply((0..size).map(|at| request[at % request.len()] ^ (at / request.len()) as u8).collect())
 }
 
-/// Whether an answer is one that the call must have. An idempotent call may have been executed more than once.
+/// Whether an answer is one that the call must have, judged by the request and not by what `execute` does. An
+/// idempotent call may have been executed more than once.
 pub fn is_right(operation: u16, idempotent: bool, request: &[u8], answer: &Answer) -> bool {
     match (operation, answer) {
+        (ECHO, Answer::Reply(reply)) => reply == request,
+        (REVERSE, Answer::Reply(reply)) => reply.iter().rev().eq(request),
+        (FAULT, Answer::Fault(status)) => *status == UNKNOWN_INTERFACE,
         (COUNT, Answer::Reply(reply)) => match reply.as_slice().try_into().map(u32::from_le_bytes) {
             Ok(count) => count == 1 || idempotent && count > 1,
             Err(_) => false,
         },
-        _ => *answer == execute(operation, request, 1),
+        (FILL, Answer::Reply(reply)) => is_filled(request, reply),
+        _ => false,
     }
+}
+
+/// As long as the request says, and the request over and over, each time with the number of the time added bit by bit.
+fn is_filled(request: &[u8], reply: &[u8]) -> bool {
+    let asked = request.first_chunk().map(|first| u32::from_le_bytes(*first) as usize);
+    let same = |(time, part): (usize, &[u8])| part.iter().zip(request).all(|(got, sent)| got ^ sent == time as u8);
+    asked == Some(reply.len()) && reply.chunks(request.len()).enumerate().all(same)
 }
 
 #[cfg(test)]
@@ -97,7 +109,20 @@ mod tests {
         assert!(is_right(COUNT, true, &[], &twice));
         assert!(!is_right(COUNT, true, &[], &Answer::Reply(vec![0; 4])));
         assert!(!is_right(COUNT, true, &[], &Answer::Reply(vec![1])));
-        assert!(!is_right(ECHO, true, &[3], &Answer::Reply(vec![4])));
-        assert!(!is_right(ECHO, true, &[3], &Answer::Fault(1)));
+    }
+
+    #[test]
+    fn what_is_executed_is_right_and_nothing_else() {
+        let request: Vec<u8> = [[9, 1, 0, 0], [7; 4], [1, 2, 3, 4]].concat();
+        for operation in [ECHO, REVERSE, FAULT, COUNT, FILL] {
+            let answer = execute(operation, &request, 1);
+            assert!(is_right(operation, false, &request, &answer), "operation {operation}");
+            for other in [Answer::Fault(1), Answer::Reply(vec![]), Answer::Reply(request[1..].to_vec())] {
+                assert!(!is_right(operation, false, &request, &other), "operation {operation}, {other:?}");
+            }
+            let Answer::Reply(mut reply) = answer else { continue };
+            reply[3] ^= 1;
+            assert!(!is_right(operation, false, &request, &Answer::Reply(reply)), "operation {operation}");
+        }
     }
 }
