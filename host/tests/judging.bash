@@ -21,6 +21,9 @@ ends() {
     judge "$name" "$expected" "$status" "$(tail -n 1 "$work/$name.out")" "$pattern"
 }
 
+# events SIDE FILE: the events of a side in a transcript, each with the PDU's type or the timer's name.
+events() { awk -v side="$1" '$2 == side { printf "%s %s;", $4, $5 }' "$2"; }
+
 # says NAME PATTERN: the first line of a case that has ended has the pattern.
 says() { judge "$1, told" 0 0 "$(head -n 1 "$work/$1.out")" "$2"; }
 
@@ -28,6 +31,7 @@ says() { judge "$1, told" 0 0 "$(head -n 1 "$work/$1.out")" "$2"; }
 listen() {
     local file=$1
     shift
+    : >"$file"
     timeout 55 "$@" >"$file" 2>"$file.err" &
     controller=$!
     port=
