@@ -1,10 +1,10 @@
-//! A whole small console over UDP, to copy: `console_loop PORT TEXT...` calls operation 1 of the controller at
-//! 127.0.0.1:PORT once for each TEXT, and prints the replies. docs/USING.md explains it.
+//! A whole small console over UDP, to copy: `console_loop PORT TEXT...` calls the controller at 127.0.0.1:PORT,
+//! operation 0, once for each TEXT, and prints the replies. docs/USING.md explains it.
+use morphelai::programs::operations::{ECHO, INTERFACE, VERSION};
 use morphelai::{Call, Client, ClientState, ClientTimer, Notice, Outcome, PDU_SIZE};
-use std::io::{Read, Write};
 use std::net::{Ipv4Addr, UdpSocket};
 use std::time::{Duration, Instant};
-use std::{env, error::Error, fs::File, io, num::NonZeroU16, process::ExitCode};
+use std::{env, error::Error, fs::File, io, io::Read, io::Write, num::NonZeroU16, process::ExitCode};
 
 const TIMERS: [(ClientTimer, Duration); 2] =
     [(ClientTimer::Wait, Duration::from_millis(200)), (ClientTimer::Ack, Duration::from_millis(50))];
@@ -77,7 +77,7 @@ fn post(socket: &UdpSocket, outcome: Outcome) -> Result<Option<Notice>, String> 
 
 fn run(port: NonZeroU16, texts: &[String]) -> Result<(), Box<dyn Error>> {
     let mut console = Console::new(port)?;
-    let call = Call { idempotent: false, object: [0; 16], interface: [9; 16], version: 1, operation: 1 };
+    let call = Call { idempotent: false, object: [0; 16], interface: INTERFACE, version: VERSION, operation: ECHO };
     for text in texts {
         writeln!(io::stdout(), "{}", String::from_utf8_lossy(&console.call(&call, text.as_bytes())?))?;
     }

@@ -30,15 +30,14 @@ struct activity {
     size_t reply_length;
     struct sockaddr_in console;
     bool ticking;    /* whether our timer for RESEND runs, */
-    uint64_t ticket; /* the ticket that it was started with, */
-    int64_t due;     /* and when it runs out. */
+    uint64_t ticket; /* with which ticket it was started, */
+    int64_t due;     /* and when it runs out */
 };
 
 /* A place is never given up, so no activity gets a second fresh record while this runs (docs/USING.md: restarts). */
 static struct activity activities[ACTIVITIES];
 static size_t activity_count;
-static uint8_t pdu[MORPHELAI_PDU_SIZE];
-static uint8_t request[MORPHELAI_MESSAGE_SIZE];
+static uint8_t pdu[MORPHELAI_PDU_SIZE], request[MORPHELAI_MESSAGE_SIZE];
 static int udp;
 static uint32_t boot;
 static unsigned long executed;
@@ -53,32 +52,29 @@ static int64_t now(void) {
 static void settle(struct activity *a, uint64_t result) {
     size_t length = morphelai_pdu_length(result);
     if (length > 0) sendto(udp, pdu, length, 0, (const struct sockaddr *)&a->console, sizeof a->console);
-    if (!morphelai_armed(a->record, MORPHELAI_RESEND)) {
-        a->ticking = false;
-        return;
-    }
+    bool armed = morphelai_armed(a->record, MORPHELAI_RESEND);
     uint64_t ticket = morphelai_ticket(a->record, MORPHELAI_RESEND);
-    if (a->ticking && a->ticket == ticket) return;
-    a->ticking = true;
+    bool runs_on = a->ticking && a->ticket == ticket;
+    if (armed && !runs_on) a->due = now() + RESEND_MILLISECONDS;
+    a->ticking = armed;
     a->ticket = ticket;
-    a->due = now() + RESEND_MILLISECONDS;
 }
 
 /* Joins the parts of the request that was dispatched. A part may be empty, so all 32 are asked for. */
 static size_t take_request(const struct activity *a) {
     size_t length = 0;
     for (uint16_t part = 0; part < MORPHELAI_FRAGMENTS; part++) {
-        size_t part_length =
-            (size_t)morphelai_server_part(a->record, sizeof a->record, part, a->slots, sizeof a->slots);
-        memcpy(request + length, a->slots + (size_t)part * MORPHELAI_BODY_SIZE, part_length);
-        length += part_length;
+        size_t size = (size_t)morphelai_server_part(a->record, sizeof a->record, part, a->slots, sizeof a->slots);
+        memcpy(request + length, a->slots + (size_t)part * MORPHELAI_BODY_SIZE, size);
+        length += size;
     }
     return length;
 }
 
-/* The shop's own work. It writes the reply and its length; false: the operation is answered by a fault. */
-static bool operate(uint16_t operation, size_t request_length, uint8_t *reply, size_t *reply_length) {
-    if (operation == FAULTED_OPERATION) return false;
+/* The shop's own work. It writes the reply and its length; false: the call is answered by a fault. What is called is
+   in the record: morphelai_operation, and morphelai_interface, _version and _object where there is more than one. */
+static bool operate(const uint8_t *record, size_t request_length, uint8_t *reply, size_t *reply_length) {
+    if (morphelai_operation(record) == FAULTED_OPERATION) return false;
     memcpy(reply, request, request_length);
     *reply_length = request_length;
     return true;
@@ -89,7 +85,7 @@ static void execute(struct activity *a) {
     size_t length = 0;
     uint64_t result;
     executed++;
-    if (operate(morphelai_operation(a->record), take_request(a), a->reply, &length)) {
+    if (operate(a->record, take_request(a), a->reply, &length)) {
         result = morphelai_server_reply(a->record, sizeof a->record, (uint32_t)length);
         if (morphelai_answer(result) == MORPHELAI_DONE) a->reply_length = length;
     } else {
@@ -107,13 +103,19 @@ static void transmit_reply(struct activity *a) {
     }
 }
 
-/* The activity of a header, with a fresh record where a request or a ping names it for the first time, or NULL. */
-static struct activity *activity_of(const uint8_t *header) {
+static bool is_same(struct sockaddr_in one, struct sockaddr_in other) {
+    return one.sin_addr.s_addr == other.sin_addr.s_addr && one.sin_port == other.sin_port;
+}
+
+/* The activity of a header that this console sent. A request or a ping that names it first gets it a fresh record. */
+static struct activity *activity_of(const uint8_t *header, struct sockaddr_in console) {
     const uint8_t *uuid = header + MORPHELAI_HEADER_ACTIVITY;
     for (size_t i = 0; i < activity_count; i++)
-        if (memcmp(activities[i].uuid, uuid, MORPHELAI_UUID_SIZE) == 0) return &activities[i];
+        if (memcmp(activities[i].uuid, uuid, MORPHELAI_UUID_SIZE) == 0)
+            return is_same(activities[i].console, console) ? &activities[i] : NULL;
     if (header[MORPHELAI_HEADER_TYPE] > 1 || activity_count == ACTIVITIES) return NULL;
     struct activity *a = &activities[activity_count++];
+    a->console = console;
     memcpy(a->uuid, uuid, MORPHELAI_UUID_SIZE);
     morphelai_server_fresh(a->record, sizeof a->record, a->uuid, sizeof a->uuid, boot, 0);
     return a;
@@ -123,16 +125,15 @@ static struct activity *activity_of(const uint8_t *header) {
 static void receive(void) {
     uint8_t datagram[MORPHELAI_PDU_SIZE + 1], header[MORPHELAI_HEADER_SIZE];
     struct sockaddr_in sender;
-    socklen_t sender_length = sizeof sender;
-    ssize_t got =
-        recvfrom(udp, datagram, sizeof datagram, MSG_DONTWAIT, (struct sockaddr *)&sender, &sender_length);
+    socklen_t size = sizeof sender;
+    ssize_t got = recvfrom(udp, datagram, sizeof datagram, MSG_DONTWAIT, (struct sockaddr *)&sender, &size);
+    if (got < 0) return;
     size_t length = (size_t)got;
-    if (got < 0 || morphelai_answer(morphelai_read(datagram, length, header, sizeof header)) != MORPHELAI_DONE) return;
-    struct activity *a = activity_of(header);
+    if (morphelai_answer(morphelai_read(datagram, length, header, sizeof header)) != MORPHELAI_DONE) return;
+    struct activity *a = activity_of(header, sender);
     if (a == NULL) return;
     uint64_t result = morphelai_server_arrive(a->record, sizeof a->record, datagram, length, a->slots, sizeof a->slots,
                                               pdu, sizeof pdu);
-    if (morphelai_answer(result) == MORPHELAI_DONE) a->console = sender;
     settle(a, result);
     if (morphelai_notice(result) == MORPHELAI_NOTICE_DISPATCH) execute(a);
     transmit_reply(a);
@@ -166,11 +167,11 @@ static void serve(int64_t end) {
 /* Binds the socket and says where it listens; false: it cannot. */
 static bool listens(uint16_t port) {
     struct sockaddr_in own = {.sin_family = AF_INET, .sin_port = htons(port)};
-    socklen_t own_length = sizeof own;
+    socklen_t size = sizeof own;
     own.sin_addr.s_addr = htonl(INADDR_LOOPBACK);
     udp = socket(AF_INET, SOCK_DGRAM, 0);
     if (udp < 0 || bind(udp, (const struct sockaddr *)&own, sizeof own) != 0 ||
-        getsockname(udp, (struct sockaddr *)&own, &own_length) != 0) {
+        getsockname(udp, (struct sockaddr *)&own, &size) != 0) {
         fprintf(stderr, "controller_c: cannot listen on 127.0.0.1:%u: %s\n", port, strerror(errno));
         return false;
     }
