@@ -1,1 +1,2 @@
--- The client's record as bytes.
+-- The client's record as bytes and back.
+pub mod RoundTrip

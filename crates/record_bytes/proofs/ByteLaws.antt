@@ -5,8 +5,8 @@ use mathlib.Core.List.{List, [], _∷_, _++_}
 use mathlib.Core.Path.{_≡_, refl}
 use native.Mathlib.Omega.{arith}
 use native.Mathlib.Nat.{pow-suc}
-use lib.ListN.{length, getD, length-reverse}
-use Rattle.words.specs.Number.{le, turned, part, number}
+use lib.ListN.{length, getD, replicate, length-reverse}
+use Rattle.words.specs.Number.{le, digits, turned, part, number}
 use Rattle.words.proofs.Number.{All, all-turned, all-part, length-part}
 use Rattle.record_bytes.specs.Fits.{Octets}
 
@@ -33,8 +33,23 @@ pub octets-joined : (a b : List ℕ) → Octets a → Octets b → Octets (a ++ 
 octets-joined [] b h k = k
 octets-joined (x ∷ xs) b h k = (h .0, octets-joined xs b (h .1) k)
 
+pub octets-three : (a b c : List ℕ) → Octets a → Octets b → Octets c → Octets (a ++ (b ++ c))
+octets-three a b c h k l = octets-joined a (b ++ c) h (octets-joined b c k l)
+
+pub octets-four : (a b c d : List ℕ) → Octets a → Octets b → Octets c → Octets d → Octets (a ++ (b ++ (c ++ d)))
+octets-four a b c d h k l m = octets-joined a (b ++ (c ++ d)) h (octets-three b c d k l m)
+
 pub octets-part : (n : ℕ) (s : List ℕ) (at : ℕ) → Octets s → Octets (part n s at)
 octets-part n s at h = all-octets (part n s at) (all-part (λ (b : ℕ). b < 256) n s at (octet-at s h))
+
+-- The bytes of a number are bytes; and so are zeros.
+pub octets-digits : (n v : ℕ) → Octets (digits n v)
+octets-digits zero v = tt
+octets-digits (suc n) v = (omega arith, octets-digits n _)
+
+pub octets-zeros : (n : ℕ) → Octets (replicate n 0)
+octets-zeros zero = tt
+octets-zeros (suc n) = (omega arith, octets-zeros n)
 
 pub length-turned : (little : Bool) (l : List ℕ) → length (turned little l) ≡ length l
 length-turned true l = refl

@@ -16,7 +16,8 @@ use Rattle.outgoing.specs.declared.Outgoing.{Outgoing}
 use Rattle.outgoing.specs.Message.{fragments}
 use Rattle.outgoing.specs.Sending.{nextSerial, oneMore, afterSend, afterPing, inByte, acknowledgedTo, firstToSend, rewound, messageOf, started, replied, noMessage}
 use Rattle.timers.specs.Tickets.{usedUp, nextTicket, armedAfresh}
-use Rattle.record_bytes.specs.Fits.{Octets, Uuid, FitsCall, FitsOutgoing, FitsLast, FitsSlots, FitsIncoming, FitsTimer}
+use Rattle.record_bytes.specs.Fits.{Uuid, FitsCall, FitsOutgoing, FitsLast, FitsSlots, FitsIncoming, FitsTimer}
+use Rattle.record_bytes.proofs.ByteLaws.{octets-zeros}
 
 -- What holds of both ways holds of a choice between them, each known to be taken only by its test.
 pub choice-by : {A : Type 0} (P : A → Type 0) (test : Bool) (a b : A)
@@ -161,11 +162,7 @@ armed-fits tickets h = next-ticket-fits tickets h
 
 -- The UUID and the call of a record that has none.
 pub blank-uuid : Uuid (replicate 16 0)
-blank-uuid = record { size = refl; octets = zeros 16 }
-  where
-    zeros : (n : ℕ) → Octets (replicate n 0)
-    zeros zero = tt
-    zeros (suc n) = (omega arith, zeros n)
+blank-uuid = record { size = refl; octets = octets-zeros 16 }
 
 pub blank-call-fits : FitsCall blankCall
 unfolding blankCall

@@ -1,4 +1,4 @@
--- Ten parts put one behind the other are one put.
+-- Ten parts, one behind the other: put one by one they are one put.
 use Prim.Native.Nat.{ℕ, _+_, _≤_, _<_}
 use mathlib.Core.List.{List, _++_, append-assoc}
 use mathlib.Core.Path.{_≡_}
@@ -7,7 +7,9 @@ use lib.ListN.{length, length-append}
 use Rattle.outgoing.specs.declared.Outgoing.{Outgoing}
 use Rattle.words.specs.Place.{placed}
 use Rattle.words.proofs.Place.{put-behind, placed-none}
+use Rattle.record_bytes.specs.Fits.{Octets}
 use Rattle.record_bytes.specs.Layout.{frontBytes, laidBytes}
+use Rattle.record_bytes.proofs.ByteLaws.{octets-four}
 
 next : (k : ℕ) (p b d : List ℕ) → length p ≡ k → k + length b ≤ length d → placed k b (placed 0 p d) ≡ placed 0 (p ++ b) d
 next k p b d e h = put-behind 0 k p b d (omega arith) h
@@ -36,6 +38,14 @@ module _ (a b t u v n x y z h out : List ℕ)
         next 128 (((((((a ++ b) ++ t) ++ u) ++ v) ++ n) ++ x) ++ y) z out (simp length-append (omega arith)) (omega arith),
         next 144 ((((((((a ++ b) ++ t) ++ u) ++ v) ++ n) ++ x) ++ y) ++ z) h out (simp length-append (omega arith)) (omega arith),
       ) (simp append-assoc)
+
+-- Ten parts that are bytes are bytes.
+pub octets-laid : (a b t u v n x y z h : List ℕ)
+    → Octets a → Octets b → Octets t → Octets u → Octets v → Octets n → Octets x → Octets y → Octets z → Octets h
+    → Octets (laidBytes a b t u v n x y z h)
+octets-laid a b t u v n x y z h pa pb pt pu pv pn px py pz ph =
+    octets-four a b t (u ++ (v ++ (n ++ (x ++ (y ++ (z ++ h)))))) pa pb pt
+    (octets-four u v n (x ++ (y ++ (z ++ h))) pu pv pn (octets-four x y z h px py pz ph))
 
 -- Equal fields give equal bytes.
 pub front-same : {idempotent idempotent' last last' : ℕ} (state count resends operation : ℕ) (o : Outgoing)

@@ -4,3 +4,6 @@ pub mod Keeping
 pub mod NumberLaws
 pub mod HeldLaws
 pub mod Laying
+pub mod PartLaws
+pub mod SlotLaws
+pub mod Back

@@ -13,6 +13,7 @@ use Rattle.incoming.specs.declared.Incoming.{Incoming}
 use Rattle.outgoing.specs.declared.Outgoing.{Outgoing}
 use Rattle.timers.specs.declared.Timer.{Timer}
 use Rattle.timers.specs.declared.Timer.the-variants.{Off, Armed}
+use Rattle.record_bytes.specs.declared.Fields.{Fields}
 
 -- Every element is a byte.
 abbrev pub Octets : List ℕ → Type 0
@@ -63,3 +64,18 @@ pub record FitsIncoming (m : Incoming) : Type 0 where
 abbrev pub FitsTimer : Timer → Type 0
 FitsTimer Off = Unit {0}
 FitsTimer (Armed ticket) = ticket < 18446744073709551616
+
+-- All that the bytes of a record hold.
+pub record FitsFields (f : Fields) : Type 0 where
+  pub state : f .state < 256
+  pub count : f .count < 256
+  pub resends : f .resends < 256
+  pub activity : Uuid (f .activity)
+  pub number : f .number < 4294967296
+  pub boot : f .boot < 4294967296
+  pub call : FitsCall (f .call)
+  pub outgoing : FitsOutgoing (f .outgoing)
+  pub incoming : FitsIncoming (f .incoming)
+  pub tickets : f .tickets < 18446744073709551616
+  pub timer : FitsTimer (f .timer)
+  pub ticket : f .ticket < 18446744073709551616

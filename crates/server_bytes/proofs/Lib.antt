@@ -1,1 +1,2 @@
--- The server's record as bytes.
+-- The server's record as bytes and back.
+pub mod RoundTrip

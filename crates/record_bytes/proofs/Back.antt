@@ -1,0 +1,175 @@
+-- What the bytes of a record hold, as bytes and back, is what it was; and those bytes are 272, and readable.
+use Prim.Native.Nat.{ℕ, _+_, _*_, _≤_, _<_}
+use mathlib.Core.Bool.{Bool, true}
+use mathlib.Core.List.{List, [], _∷_, _++_}
+use mathlib.Core.Path.{_≡_, refl, ap, subst, _∙_}
+use native.Mathlib.Omega.{arith}
+use lib.Dec.{eqb}
+use lib.ListN.{length, drop, replicate}
+use Rattle.words.specs.Choice.{choose, both}
+use Rattle.words.specs.Number.{digits, part, number}
+use Rattle.words.proofs.Number.{value-bytes, part-all}
+use Rattle.words.proofs.Tests.{both-hold}
+use Rattle.record_bytes.specs.declared.Fields.{Fields}
+use Rattle.record_bytes.specs.Fits.{Octets, FitsFields}
+use Rattle.record_bytes.specs.Parts.{markOf, isArmed, timerTicket, lastNumber, clear}
+use Rattle.record_bytes.specs.Held.{slotsBytes}
+use Rattle.record_bytes.specs.Layout.{marksReadable, countsReadable, sparesReadable, readable, callIn, outgoingIn, incomingIn, fieldsIn, frontBytes, numberBytes, backBytes, fieldBytes}
+use Rattle.record_bytes.proofs.ByteLaws.{octets-joined, octets-three, octets-four, octets-digits, octets-zeros}
+use Rattle.record_bytes.proofs.HeldLaws.{length-slots}
+use Rattle.record_bytes.proofs.Laying.{octets-laid}
+use Rattle.record_bytes.proofs.PartLaws.{mark-back, mark-readable, mark-small, timer-back, last-back, last-readable, uuid-part}
+use Rattle.record_bytes.proofs.SlotLaws.{slots-back, slots-readable, octets-slots}
+
+-- The same fields, their UUIDs written out byte by byte, so that their bytes compute.
+spelled : Fields → Fields
+spelled f = record {
+  state = f .state;
+  count = f .count;
+  resends = f .resends;
+  activity = part 16 (f .activity) 0;
+  number = f .number;
+  boot = f .boot;
+  call = record {
+    idempotent = f .call .idempotent;
+    object = part 16 (f .call .object) 0;
+    interface = part 16 (f .call .interface) 0;
+    version = f .call .version;
+    operation = f .call .operation;
+  };
+  outgoing = f .outgoing;
+  incoming = f .incoming;
+  tickets = f .tickets;
+  timer = f .timer;
+  armed = f .armed;
+  ticket = f .ticket;
+}
+
+-- Three of the ten parts that its bytes are.
+abbrev frontOf : Fields → List ℕ
+frontOf f =
+    frontBytes (f .state) (markOf (f .call .idempotent)) (f .count) (f .resends) (f .outgoing) (lastNumber (f .incoming .last))
+    (f .call .operation)
+
+abbrev numbersOf : Fields → List ℕ
+numbersOf f = numberBytes (f .number) (f .call .version) (f .outgoing .length) (f .boot)
+
+abbrev backOf : Fields → List ℕ
+backOf f = backBytes (markOf (isArmed (f .timer))) (markOf (f .armed))
+
+module _ (f : Fields) (fits : FitsFields f) where
+  spelled-same : spelled f ≡ f
+  unfolding spelled
+  spelled-same = λ i. record {
+    state = f .state;
+    count = f .count;
+    resends = f .resends;
+    activity = part-all 16 (f .activity) (fits .activity .size) i;
+    number = f .number;
+    boot = f .boot;
+    call = record {
+      idempotent = f .call .idempotent;
+      object = part-all 16 (f .call .object) (fits .call .object .size) i;
+      interface = part-all 16 (f .call .interface) (fits .call .interface .size) i;
+      version = f .call .version;
+      operation = f .call .operation;
+    };
+    outgoing = f .outgoing;
+    incoming = f .incoming;
+    tickets = f .tickets;
+    timer = f .timer;
+    armed = f .armed;
+    ticket = f .ticket;
+  }
+
+  size-spelled : length (fieldBytes (spelled f)) ≡ 272
+  unfolding fieldBytes spelled
+  size-spelled =
+      let held : length (slotsBytes (f .incoming .slots)) ≡ 128 =
+      omega (arith, length-slots (f .incoming .slots), fits .incoming .size) in
+      omega arith
+
+  back-spelled : fieldsIn (fieldBytes (spelled f)) ≡ spelled f
+  unfolding fieldsIn callIn outgoingIn incomingIn fieldBytes spelled number
+  back-spelled = λ i. record {
+    state = f .state;
+    count = f .count;
+    resends = f .resends;
+    activity = uuid-part (fieldBytes (spelled f)) 96 (omega (arith, size-spelled)) i;
+    number = value-bytes 4 true (f .number) (fits .number) i;
+    boot = value-bytes 4 true (f .boot) (fits .boot) i;
+    call = record {
+      idempotent = mark-back (f .call .idempotent) i;
+      object = uuid-part (fieldBytes (spelled f)) 112 (omega (arith, size-spelled)) i;
+      interface = uuid-part (fieldBytes (spelled f)) 128 (omega (arith, size-spelled)) i;
+      version = value-bytes 4 true (f .call .version) (fits .call .version) i;
+      operation = value-bytes 2 true (f .call .operation) (fits .call .operation) i;
+    };
+    outgoing = record {
+      length = value-bytes 4 true (f .outgoing .length) (fits .outgoing .length) i;
+      count = f .outgoing .count;
+      sent = f .outgoing .sent;
+      acknowledged = f .outgoing .acknowledged;
+      serial = value-bytes 2 true (f .outgoing .serial) (fits .outgoing .serial) i;
+    };
+    incoming = record {
+      slots = slots-back (f .incoming .slots) (fits .incoming .size) (fits .incoming .slots) i;
+      last = last-back (f .incoming .last) (fits .incoming .last) i;
+    };
+    tickets = value-bytes 8 true (f .tickets) (fits .tickets) i;
+    timer = timer-back (f .timer) (fits .timer) i;
+    armed = mark-back (f .armed) i;
+    ticket = value-bytes 8 true (f .ticket) (fits .ticket) i;
+  }
+
+  readable-spelled : readable (fieldBytes (spelled f)) ≡ true
+  unfolding readable marksReadable countsReadable sparesReadable clear both choose fieldBytes spelled number
+  readable-spelled =
+      both-hold _ _
+      (both-hold _ _ (mark-readable (f .call .idempotent))
+      (both-hold _ _ (mark-readable (isArmed (f .timer))) (mark-readable (f .armed))))
+      (both-hold _ _ (last-readable (f .incoming .last) (fits .incoming .last))
+      (slots-readable (f .incoming .slots) (fits .incoming .size)))
+
+  pub bytes-readable : readable (fieldBytes f) ≡ true
+  bytes-readable = subst (λ (g : Fields). readable (fieldBytes g) ≡ true) spelled-same readable-spelled
+
+  pub length-fields : length (fieldBytes f) ≡ 272
+  length-fields = subst (λ (g : Fields). length (fieldBytes g) ≡ 272) spelled-same size-spelled
+
+  octets-front : Octets (frontOf f)
+  octets-front =
+      (fits .state,
+      (mark-small (f .call .idempotent),
+      (fits .count,
+      (fits .resends,
+      (fits .outgoing .count,
+      (omega arith,
+      (fits .outgoing .sent,
+      (omega arith,
+      (fits .outgoing .acknowledged,
+      (omega arith,
+      octets-three (digits 2 (lastNumber (f .incoming .last))) (digits 2 (f .outgoing .serial)) (digits 2 (f .call .operation))
+      (octets-digits 2 _) (octets-digits 2 _) (octets-digits 2 _)))))))))))
+
+  octets-numbers : Octets (numbersOf f)
+  octets-numbers =
+      octets-four (digits 4 (f .number)) (digits 4 (f .call .version)) (digits 4 (f .outgoing .length)) (digits 4 (f .boot))
+      (octets-digits 4 _) (octets-digits 4 _) (octets-digits 4 _) (octets-digits 4 _)
+
+  octets-back : Octets (backOf f)
+  octets-back =
+      octets-joined (replicate 8 0) (markOf (isArmed (f .timer)) ∷ (markOf (f .armed) ∷ replicate 30 0)) (octets-zeros 8)
+      (mark-small (isArmed (f .timer)), (mark-small (f .armed), octets-zeros 30))
+
+  pub octets-fields : Octets (fieldBytes f)
+  unfolding fieldBytes
+  octets-fields =
+      octets-laid (frontOf f) (numbersOf f) (digits 8 (f .tickets)) (digits 8 (timerTicket (f .timer))) (digits 8 (f .ticket))
+      (backOf f) (f .activity) (f .call .object) (f .call .interface) (slotsBytes (f .incoming .slots))
+      octets-front octets-numbers (octets-digits 8 _) (octets-digits 8 _) (octets-digits 8 _)
+      octets-back (fits .activity .octets) (fits .call .object .octets) (fits .call .interface .octets)
+      (octets-slots (f .incoming .slots))
+
+  pub fields-back : fieldsIn (fieldBytes f) ≡ f
+  fields-back = subst (λ (g : Fields). fieldsIn (fieldBytes g) ≡ g) spelled-same back-spelled
