@@ -4,3 +4,7 @@ pub mod ClientFields
 pub mod ClientKeeps
 pub mod ServerFields
 pub mod ServerKeeps
+pub mod Unpacking
+pub mod Sizes
+pub mod Leaving
+pub mod Refusals
