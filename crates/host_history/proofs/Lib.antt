@@ -8,3 +8,4 @@ pub mod Unpacking
 pub mod Sizes
 pub mod Leaving
 pub mod Refusals
+pub mod Shown
