@@ -1,2 +1,3 @@
 -- The client's record as bytes and back.
+pub mod StateLaws
 pub mod RoundTrip

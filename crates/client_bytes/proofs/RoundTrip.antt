@@ -1,41 +1,29 @@
--- The client's record as bytes and back is the record again.
-use Prim.Native.Nat.{_≤_, _<_}
-use mathlib.Core.Bool.{Bool, true}
-use mathlib.Core.Path.{_≡_, refl, ap, _∙_}
+-- The client's record as bytes and back is the record again; canonical bytes as a record and back are the bytes again.
+use Prim.Native.Nat.{ℕ, _≤_, _<_}
+use mathlib.Core.Bool.{Bool, true, false}
+use mathlib.Core.List.{List}
+use mathlib.Core.Path.{_≡_, refl, sym, ap, subst, _∙_}
 use native.Mathlib.Omega.{arith}
-use borrow.Author.Tests.{le-leb}
+use lib.Dec.{eqb}
+use lib.ListN.{length, getD}
+use borrow.Author.Tests.{le-leb, leb-true}
 use Rattle.words.specs.Choice.{choose, both}
-use Rattle.words.proofs.Tests.{both-hold}
-use Rattle.record_bytes.specs.declared.Fields.{Fields}
-use Rattle.record_bytes.specs.Fits.{FitsFields}
-use Rattle.record_bytes.specs.Parts.{clear, countWhere}
-use Rattle.record_bytes.specs.Layout.{fieldsIn, fieldBytes}
-use Rattle.record_bytes.proofs.PartLaws.{timer-same, ticket-small}
-use Rattle.record_bytes.proofs.Back.{fields-back, bytes-readable}
-use Rattle.client_record.specs.declared.State.{State}
-use Rattle.client_record.specs.declared.State.the-variants.{Queued, SendFrags, Dispatched, ReceiveFrags, AckPending, Complete, Fault}
+use Rattle.words.specs.Number.{le, number}
+use Rattle.words.proofs.Tests.{both-hold, both-true}
+use Rattle.record_bytes.specs.Fits.{Octets, FitsFields}
+use Rattle.record_bytes.specs.Parts.{clear, countWhere, timerWhere, uuidIn}
+use Rattle.record_bytes.specs.Layout.{readable as sharedReadable, callIn, outgoingIn, incomingIn, fieldsIn, fieldBytes}
+use Rattle.record_bytes.proofs.PartLaws.{timer-same, ticket-small, ticket-clear}
+use Rattle.record_bytes.proofs.FieldsBack.{fields-back, bytes-readable, length-fields, octets-fields}
+use Rattle.record_bytes.proofs.FieldsBack.{slots-clear, timer-clear}
+use Rattle.record_bytes.proofs.Reading.{clear-part, armed-again, ticket-again, timer-fits, count-again, count-broken}
+use Rattle.record_bytes.proofs.FieldsAgain.{known as shared-known, bytes-fit, fields-again}
 use Rattle.client_record.specs.declared.Client.{Client}
+use Rattle.client_record.specs.Rules.{countsSound, sound}
+use Rattle.client_bytes.specs.Canonical.{Canonical}
 use Rattle.client_bytes.specs.Fits.{FitsClient}
-use Rattle.client_bytes.specs.Layout.{stateOf, stateNumber, readable, clientOf, clientIn, fieldsOf, clientBytes}
-
-state-back : (s : State) → stateOf (stateNumber s) ≡ s
-unfolding stateOf choose
-state-back Queued = refl
-state-back SendFrags = refl
-state-back Dispatched = refl
-state-back ReceiveFrags = refl
-state-back AckPending = refl
-state-back Complete = refl
-state-back Fault = refl
-
-state-small : (s : State) → stateNumber s ≤ 6
-state-small Queued = omega arith
-state-small SendFrags = omega arith
-state-small Dispatched = omega arith
-state-small ReceiveFrags = omega arith
-state-small AckPending = omega arith
-state-small Complete = omega arith
-state-small Fault = omega arith
+use Rattle.client_bytes.specs.Layout.{readable, clientOf, clientIn, fieldsOf, clientBytes}
+use Rattle.client_bytes.proofs.StateLaws.{state-back, state-small, state-again}
 
 module _ (c : Client) (fits : FitsClient c) where
   -- What the bytes hold fits them, and they are readable.
@@ -58,7 +46,9 @@ module _ (c : Client) (fits : FitsClient c) where
 
   pub client-readable : readable (clientBytes c) ≡ true
   unfolding readable clientBytes fieldBytes fieldsOf clear both choose
-  client-readable = both-hold _ _ (le-leb _ _ (state-small (c .state))) (both-hold _ _ refl (bytes-readable (fieldsOf c) fields-fit))
+  client-readable =
+      both-hold _ _ (le-leb _ _ (state-small (c .state)))
+      (both-hold _ _ refl (bytes-readable (fieldsOf c) fields-fit))
 
   same : clientOf true (fieldsOf c) ≡ c
   unfolding clientOf fieldsOf countWhere choose
@@ -83,3 +73,82 @@ module _ (c : Client) (fits : FitsClient c) where
       ap (λ (r : Bool). clientOf r (fieldsIn (clientBytes c))) client-readable
       ∙ ap (clientOf true) (fields-back (fieldsOf c) fields-fit)
       ∙ same
+
+  -- The bytes of a record are canonical.
+  pub client-canonical : Canonical (clientBytes c)
+  unfolding clientBytes fieldsOf fieldBytes number
+  client-canonical = record {
+    size = length-fields (fieldsOf c) fields-fit;
+    octets = octets-fields (fieldsOf c) fields-fit;
+    readable = client-readable;
+    wait = timer-clear (fieldsOf c) fields-fit;
+    ack = ticket-clear (c .ack);
+    slots = slots-clear (fieldsOf c) fields-fit;
+  }
+
+-- Readable bytes, by their parts.
+record Known (b : List ℕ) : Type 0 where
+  state : getD b 0 0 ≤ 6
+  boot : number 4 true b 28 ≡ 0
+  shared : sharedReadable b ≡ true
+
+known : (b : List ℕ) → readable b ≡ true → Known b
+unfolding readable number
+known b e =
+    let state = both-true _ _ e in
+    let rest = both-true _ _ (state .1) in
+    record {
+      state = leb-true (getD b 0 0) 6 (state .0);
+      boot = ap le (clear-part 4 b 28 (rest .0));
+      shared = rest .1;
+    }
+
+-- The record that readable bytes stand for fits them.
+pub client-fits : (b : List ℕ) → length b ≡ 272 → Octets b → readable b ≡ true → FitsClient (clientIn b)
+unfolding clientIn clientOf
+client-fits b size octets allowed =
+    let f = bytes-fit b size octets (known b allowed .shared) in
+    record {
+      activity = f .activity;
+      number = f .number;
+      call = f .call;
+      outgoing = f .outgoing;
+      incoming = f .incoming;
+      waits = subst (λ (n : ℕ). n < 256) (sym (count-again (readable b) _ allowed)) (f .count);
+      resends = f .resends;
+      tickets = f .tickets;
+      wait = f .timer;
+      ack = timer-fits _ _ (f .ticket);
+    }
+
+-- Bytes that are not readable stand for a record that breaks its rules, so every event refuses them with 2.
+pub unreadable-broken : (b : List ℕ) → readable b ≡ false → sound (clientIn b) ≡ false
+unfolding clientIn clientOf sound countsSound both choose
+unreadable-broken b e = rw (count-broken (readable b) (fieldsIn b .count) e)
+
+module _ (b : List ℕ) (canonical : Canonical b) where
+  fields-same : fieldsOf (clientIn b) ≡ fieldsIn b
+  unfolding fieldsOf clientIn clientOf fieldsIn
+  fields-same = λ i. record {
+    state = state-again (getD b 0 0) (known b (canonical .readable) .state) i;
+    count = count-again (readable b) (getD b 2 0) (canonical .readable) i;
+    resends = getD b 3 0;
+    activity = uuidIn b 96;
+    number = number 4 true b 16;
+    boot = sym (known b (canonical .readable) .boot) i;
+    call = callIn b;
+    outgoing = outgoingIn b;
+    incoming = incomingIn b;
+    tickets = number 8 true b 32;
+    timer = timerWhere (eqb (getD b 64 0) 1) (number 8 true b 40);
+    armed = armed-again (eqb (getD b 65 0) 1) (number 8 true b 48) i;
+    ticket = ticket-again b 65 48 (shared-known b (known b (canonical .readable) .shared) .second) (canonical .ack) i;
+  }
+
+  -- Canonical bytes as a record and back are the bytes again.
+  pub client-again : clientBytes (clientIn b) ≡ b
+  unfolding clientBytes
+  client-again =
+      ap fieldBytes fields-same
+      ∙ fields-again b (canonical .size) (canonical .octets) (known b (canonical .readable) .shared) (canonical .wait)
+      (canonical .slots)

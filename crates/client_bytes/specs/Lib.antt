@@ -1,3 +1,4 @@
--- The client's record as bytes, and what fits them.
+-- The client's record as bytes, what fits them, and what canonical bytes are.
 pub mod Layout
 pub mod Fits
+pub mod Canonical

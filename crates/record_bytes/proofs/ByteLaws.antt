@@ -5,7 +5,7 @@ use mathlib.Core.List.{List, [], _∷_, _++_}
 use mathlib.Core.Path.{_≡_, refl}
 use native.Mathlib.Omega.{arith}
 use native.Mathlib.Nat.{pow-suc}
-use lib.ListN.{length, getD, replicate, length-reverse}
+use lib.ListN.{length, getD, drop, replicate, length-reverse}
 use Rattle.words.specs.Number.{le, digits, turned, part, number}
 use Rattle.words.proofs.Number.{All, all-turned, all-part, length-part}
 use Rattle.record_bytes.specs.Fits.{Octets}
@@ -25,7 +25,7 @@ octet-at [] h i = omega arith
 octet-at (b ∷ bs) h zero = h .0
 octet-at (b ∷ bs) h (suc i) = octet-at bs (h .1) i
 
--- Bytes turned round, bytes joined and parts of bytes are bytes.
+-- Bytes turned round, bytes joined, and parts and what is left of bytes are bytes.
 pub octets-turned : (little : Bool) (l : List ℕ) → Octets l → Octets (turned little l)
 octets-turned little l h = all-octets (turned little l) (all-turned (λ (b : ℕ). b < 256) little l (octets-all l h))
 
@@ -38,6 +38,11 @@ octets-three a b c h k l = octets-joined a (b ++ c) h (octets-joined b c k l)
 
 pub octets-four : (a b c d : List ℕ) → Octets a → Octets b → Octets c → Octets d → Octets (a ++ (b ++ (c ++ d)))
 octets-four a b c d h k l m = octets-joined a (b ++ (c ++ d)) h (octets-three b c d k l m)
+
+pub octets-drop : (n : ℕ) (s : List ℕ) → Octets s → Octets (drop n s)
+octets-drop zero s h = h
+octets-drop (suc n) [] h = tt
+octets-drop (suc n) (b ∷ bs) h = octets-drop n bs (h .1)
 
 pub octets-part : (n : ℕ) (s : List ℕ) (at : ℕ) → Octets s → Octets (part n s at)
 octets-part n s at h = all-octets (part n s at) (all-part (λ (b : ℕ). b < 256) n s at (octet-at s h))

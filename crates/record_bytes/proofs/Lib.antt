@@ -6,4 +6,7 @@ pub mod HeldLaws
 pub mod Laying
 pub mod PartLaws
 pub mod SlotLaws
-pub mod Back
+pub mod FieldsBack
+pub mod Reading
+pub mod SlotReading
+pub mod FieldsAgain

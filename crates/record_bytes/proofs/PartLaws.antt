@@ -1,14 +1,14 @@
 -- A part of a record as bytes and back is the part again; and what is read back is what was written.
 use Prim.Native.Nat.{ℕ, zero, suc, _+_, _^_, _≤_, _<_}
-use mathlib.Core.Bool.{Bool, true, false, false≢true}
-use mathlib.Core.List.{List, [], _∷_}
+use mathlib.Core.Bool.{Bool, true, false}
+use mathlib.Core.List.{List}
 use mathlib.Core.Path.{_≡_, refl, sym, ap, _∙_}
 use native.Mathlib.Omega.{arith}
 use lib.Dec.{eqb, leb}
 use lib.ListN.{length, take, drop, replicate, length-drop}
 use lib.Seq.{length-take-le}
 use borrow.Author.Tests.{lt-ltb, ne-eqb}
-use Rattle.words.specs.Choice.{choose, both, either}
+use Rattle.words.specs.Choice.{choose, either}
 use Rattle.words.specs.Number.{digits, part, number}
 use Rattle.words.proofs.Number.{value-bytes, part-take, part-all}
 use Rattle.incoming.specs.declared.Last.{Last}
@@ -59,6 +59,12 @@ pub timer-back : (t : Timer) → FitsTimer t
     → timerWhere (eqb (markOf (isArmed t)) 1) (number 8 true (digits 8 (timerTicket t)) 0) ≡ t
 timer-back t fits =
     rw (mark-back (isArmed t), number-back 8 (timerTicket t) (ticket-small t fits)) (timer-same t)
+
+-- A timer that is not armed is written with ticket 0.
+pub ticket-clear : (t : Timer) → markOf (isArmed t) ≡ 0 → number 8 true (digits 8 (timerTicket t)) 0 ≡ 0
+unfolding markOf choose number
+ticket-clear Off e = refl
+ticket-clear (Armed ticket) e = absurd (omega (arith, e))
 
 -- The known last.
 last-small : (l : Last) → FitsLast l → lastNumber l < 65536

@@ -1,11 +1,10 @@
 -- Slots as bytes and back are the slots again.
-use Prim.Native.Nat.{ℕ, zero, suc, _+_, _<_, _≤_}
+use Prim.Native.Nat.{ℕ, zero, suc, _+_, _*_, _≤_}
 use mathlib.Core.Bool.{Bool, true, false}
-use mathlib.Core.List.{List, [], _∷_, _++_, map}
+use mathlib.Core.List.{List, [], _∷_, map}
 use mathlib.Core.Path.{_≡_, refl, sym, ap, subst, _∙_}
 use native.Mathlib.Numerals.{add-one}
 use native.Mathlib.Omega.{arith}
-use lib.Dec.{eqb}
 use lib.ListN.{length, getD, drop, drop-of-length-le}
 use lib.Seq.{drop-cons}
 use Rattle.words.specs.Choice.{choose, both}
@@ -14,28 +13,24 @@ use Rattle.words.proofs.Number.{value-bytes}
 use Rattle.incoming.specs.declared.Slot.{Slot}
 use Rattle.incoming.specs.Slots.{missing}
 use Rattle.record_bytes.specs.Fits.{Octets, FitsSlot, FitsSlots}
+use Rattle.record_bytes.specs.Canonical.{LengthsClear}
 use Rattle.record_bytes.specs.Parts.{markOf}
-use Rattle.record_bytes.specs.Held.{lengthWhere, slotBytes, slotsBytes, slotIn, slotsBelow, slotsIn, slotReadable, readableBelow, slotsReadable}
-use Rattle.record_bytes.proofs.ByteLaws.{octets-joined}
-use Rattle.record_bytes.proofs.PartLaws.{mark-back, mark-readable, mark-small}
+use Rattle.record_bytes.specs.Held.{lengthWhere, slotBytes, slotsBytes, slotIn, slotsBelow, slotsIn}
+use Rattle.record_bytes.specs.Held.{slotReadable, readableBelow, slotsReadable}
+use Rattle.record_bytes.proofs.PartLaws.{mark-readable, mark-small}
 
 -- A slot as bytes and back.
 abbrev again : Slot → Slot
-again x = record {
-  held = eqb (markOf (x .held)) 1;
-  length = lengthWhere (eqb (markOf (x .held)) 1) (number 2 true (digits 2 (lengthWhere (x .held) (x .length))) 0);
-}
+again x = slotIn (slotBytes (x .held) (x .length)) 0
 
-length-again : (held : Bool) (n : ℕ) → FitsSlot held n
-    → lengthWhere (eqb (markOf held) 1) (number 2 true (digits 2 (lengthWhere held n)) 0) ≡ n
-unfolding lengthWhere markOf choose number
-length-again true n fits = value-bytes 2 true n fits
-length-again false n fits = sym fits
+slot-back : (held : Bool) (n : ℕ) → FitsSlot held n → slotIn (slotBytes held n) 0 ≡ record { held = held; length = n }
+unfolding slotIn lengthWhere markOf choose number
+slot-back true n fits = λ i. record { held = true; length = value-bytes 2 true n fits i }
+slot-back false n fits = λ i. record { held = false; length = sym fits i }
 
 again-same : (xs : List Slot) → FitsSlots xs → map again xs ≡ xs
 again-same [] fits = refl
-again-same (x ∷ xs) fits =
-    λ i. record { held = mark-back (x .held) i; length = length-again (x .held) (x .length) (fits .0) i } ∷ again-same xs (fits .1) i
+again-same (x ∷ xs) fits = λ i. slot-back (x .held) (x .length) (fits .0) i ∷ again-same xs (fits .1) i
 
 -- The n slots of a list from `at` on, each written out.
 abbrev spelled : ℕ → List Slot → ℕ → List Slot
@@ -64,7 +59,8 @@ module _ (xs : List Slot) (size : length xs ≡ 32) where
 
   pub slots-back : FitsSlots xs → slotsIn (slotsBytes xs) ≡ xs
   slots-back fits =
-      subst (λ (l : List Slot). slotsIn (slotsBytes l) ≡ map again l) spelled-same (back-spelled xs) ∙ again-same xs fits
+      subst (λ (l : List Slot). slotsIn (slotsBytes l) ≡ map again l) spelled-same (back-spelled xs)
+      ∙ again-same xs fits
 
   pub slots-readable : slotsReadable (slotsBytes xs) ≡ true
   slots-readable = subst (λ (l : List Slot). slotsReadable (slotsBytes l) ≡ true) spelled-same (readable-spelled xs)
@@ -73,3 +69,28 @@ module _ (xs : List Slot) (size : length xs ≡ 32) where
 pub octets-slots : (xs : List Slot) → Octets (slotsBytes xs)
 octets-slots [] = tt
 octets-slots (x ∷ xs) = (omega arith, (omega arith, (mark-small (x .held), (omega arith, octets-slots xs))))
+
+-- A slot that is not held is written with length 0.
+length-clear : (held : Bool) (n : ℕ) → markOf held ≡ 0 → number 2 true (digits 2 (lengthWhere held n)) 0 ≡ 0
+unfolding markOf lengthWhere choose number
+length-clear true n e = absurd (omega (arith, e))
+length-clear false n e = refl
+
+behind-first : (x : Slot) (xs : List Slot) (k place : ℕ) → place ≡ suc (suc (suc (suc k)))
+    → getD (slotsBytes (x ∷ xs)) place 0 ≡ getD (slotsBytes xs) k 0
+behind-first x xs k place e = ap (λ (n : ℕ). getD (slotsBytes (x ∷ xs)) n 0) e
+
+pub lengths-clear : (xs : List Slot) → LengthsClear (slotsBytes xs)
+unfolding number
+lengths-clear [] f h e = refl
+lengths-clear (x ∷ xs) zero h e = length-clear (x .held) (x .length) e
+lengths-clear (x ∷ xs) (suc f) h e =
+    let mark : getD (slotsBytes xs) (4 * f + 2) 0 ≡ 0 =
+    sym (behind-first x xs (4 * f + 2) (4 * suc f + 2) (omega arith)) ∙ e in
+    let rest : number 2 true (slotsBytes xs) (4 * f) ≡ 0 = lengths-clear xs f (omega arith) mark in
+    omega (
+      arith,
+      rest,
+      behind-first x xs (4 * f) (4 * suc f) (omega arith),
+      behind-first x xs (4 * f + 1) (4 * suc f + 1) (omega arith),
+    )

@@ -1,55 +1,32 @@
--- The server's record as bytes and back is the record again.
+-- The server's record as bytes and back is the record again; canonical bytes as a record and back are the bytes again.
 use Prim.Native.Nat.{ℕ, _/_, _≤_, _<_}
-use mathlib.Core.Bool.{Bool, true}
+use mathlib.Core.Bool.{Bool, true, false}
 use mathlib.Core.List.{List, _++_}
-use mathlib.Core.Path.{_≡_, refl, ap, _∙_}
+use mathlib.Core.Path.{_≡_, sym, ap, subst, _∙_}
 use native.Mathlib.Omega.{arith}
-use borrow.Author.Tests.{le-leb}
+use lib.Dec.{eqb}
+use lib.ListN.{length, getD, replicate}
+use borrow.Author.Tests.{le-leb, leb-true, eqb-true}
 use Rattle.words.specs.Choice.{choose, both}
-use Rattle.words.specs.Number.{digits, number}
+use Rattle.words.specs.Number.{le, digits, part, number}
 use Rattle.words.proofs.Number.{value-bytes}
-use Rattle.words.proofs.Tests.{both-hold}
-use Rattle.record_bytes.specs.declared.Fields.{Fields}
-use Rattle.record_bytes.specs.Fits.{FitsFields}
-use Rattle.record_bytes.specs.Parts.{markOf, clear, countWhere}
-use Rattle.record_bytes.specs.Layout.{fieldsIn, fieldBytes}
-use Rattle.record_bytes.proofs.Back.{fields-back, bytes-readable}
-use Rattle.server_record.specs.declared.Idle.the-variants.{Fresh, Spent, Repeatable}
-use Rattle.server_record.specs.declared.Reply.the-variants.{Data, Fault}
-use Rattle.server_record.specs.declared.State.{State}
-use Rattle.server_record.specs.declared.State.the-variants.{Idle as IdleState, Collect, Running, Replying, Held}
+use Rattle.words.proofs.Tests.{both-hold, both-true}
+use Rattle.record_bytes.specs.Fits.{Octets, FitsFields}
+use Rattle.record_bytes.specs.Parts.{markOf, clear, countWhere, timerWhere, uuidIn}
+use Rattle.record_bytes.specs.Layout.{readable as sharedReadable, callIn, outgoingIn, incomingIn, fieldsIn, fieldBytes}
+use Rattle.record_bytes.proofs.ByteLaws.{number-below}
+use Rattle.record_bytes.proofs.FieldsBack.{fields-back, bytes-readable, length-fields, octets-fields}
+use Rattle.record_bytes.proofs.FieldsBack.{slots-clear, timer-clear}
+use Rattle.record_bytes.proofs.Reading.{clear-part, count-again, count-broken}
+use Rattle.record_bytes.proofs.FieldsAgain.{bytes-fit, fields-again}
 use Rattle.server_record.specs.declared.Server.{Server}
-use Rattle.server_bytes.specs.Fits.{FitsState, FitsServer}
-use Rattle.server_bytes.specs.Layout.{stateOf, stateNumber, statusOf, readable, serverOf, serverIn, fieldsOf, serverBytes}
-
-state-back : (s : State) → stateOf (stateNumber s) (statusOf s) ≡ s
-unfolding stateOf choose
-state-back (IdleState Fresh) = refl
-state-back (IdleState Spent) = refl
-state-back (IdleState Repeatable) = refl
-state-back Collect = refl
-state-back Running = refl
-state-back Replying = refl
-state-back (Held Data) = refl
-state-back (Held (Fault status)) = refl
-
-state-small : (s : State) → stateNumber s ≤ 7
-state-small (IdleState Fresh) = omega arith
-state-small (IdleState Spent) = omega arith
-state-small (IdleState Repeatable) = omega arith
-state-small Collect = omega arith
-state-small Running = omega arith
-state-small Replying = omega arith
-state-small (Held Data) = omega arith
-state-small (Held (Fault status)) = omega arith
-
-status-small : (s : State) → FitsState s → statusOf s < 4294967296
-status-small (IdleState idle) fits = omega arith
-status-small Collect fits = omega arith
-status-small Running fits = omega arith
-status-small Replying fits = omega arith
-status-small (Held Data) fits = omega arith
-status-small (Held (Fault status)) fits = fits
+use Rattle.server_record.specs.Rules.{sound}
+use Rattle.server_bytes.specs.Canonical.{Canonical}
+use Rattle.server_bytes.specs.Fits.{FitsServer}
+use Rattle.server_bytes.specs.Layout.{stateOf, stateNumber, statusOf, readable, serverOf, serverIn, fieldsOf}
+use Rattle.server_bytes.specs.Layout.{serverBytes}
+use Rattle.server_bytes.proofs.StateLaws.{state-back, state-small, state-again, state-fits}
+use Rattle.server_bytes.proofs.StateLaws.{status-small, status-again, no-status}
 
 -- A number of four bytes has four more bytes that are 0.
 high-clear : (v : ℕ) (rest : List ℕ) → v < 4294967296 → clear 4 (digits 4 (v / 256 / 256 / 256 / 256) ++ rest) ≡ true
@@ -112,3 +89,100 @@ module _ (s : Server) (fits : FitsServer s) where
       ∙ ap (λ (n : ℕ). serverOf true n (fieldsIn (serverBytes s))) status-back
       ∙ ap (serverOf true (statusOf (s .state))) (fields-back (fieldsOf s) fields-fit)
       ∙ same
+
+  -- The bytes of a record are canonical.
+  pub server-canonical : Canonical (serverBytes s)
+  unfolding serverBytes fieldsOf fieldBytes
+  server-canonical = record {
+    size = length-fields (fieldsOf s) fields-fit;
+    octets = octets-fields (fieldsOf s) fields-fit;
+    readable = server-readable;
+    resend = timer-clear (fieldsOf s) fields-fit;
+    status = λ (e : eqb (stateNumber (s .state)) 7 ≡ false). status-back ∙ no-status (s .state) e;
+    slots = slots-clear (fieldsOf s) fields-fit;
+  }
+
+-- Readable bytes, by their parts.
+record Known (b : List ℕ) : Type 0 where
+  state : getD b 0 0 ≤ 7
+  resends : getD b 3 0 ≡ 0
+  second : getD b 65 0 ≡ 0
+  high : part 4 b 52 ≡ replicate 4 0
+  shared : sharedReadable b ≡ true
+
+known : (b : List ℕ) → readable b ≡ true → Known b
+unfolding readable
+known b e =
+    let state = both-true _ _ e in
+    let rest = both-true _ _ (state .1) in
+    let own = both-true _ _ (rest .0) in
+    let second = both-true _ _ (own .1) in
+    record {
+      state = leb-true (getD b 0 0) 7 (state .0);
+      resends = eqb-true (getD b 3 0) 0 (own .0);
+      second = eqb-true (getD b 65 0) 0 (second .0);
+      high = clear-part 4 b 52 (second .1);
+      shared = rest .1;
+    }
+
+-- The record that readable bytes stand for fits them.
+pub server-fits : (b : List ℕ) → length b ≡ 272 → Octets b → readable b ≡ true → FitsServer (serverIn b)
+unfolding serverIn serverOf
+server-fits b size octets allowed =
+    let f = bytes-fit b size octets (known b allowed .shared) in
+    record {
+      activity = f .activity;
+      boot = f .boot;
+      number = f .number;
+      call = f .call;
+      outgoing = f .outgoing;
+      incoming = f .incoming;
+      resends = subst (λ (n : ℕ). n < 256) (sym (count-again (readable b) _ allowed)) (f .count);
+      tickets = f .tickets;
+      resend = f .timer;
+      state = state-fits _ _ (number-below 4 true b 48 octets);
+    }
+
+-- Bytes that are not readable stand for a record that breaks its rules, so every event refuses them with 2.
+pub unreadable-broken : (b : List ℕ) → readable b ≡ false → sound (serverIn b) ≡ false
+unfolding serverIn serverOf sound both choose
+unreadable-broken b e = rw (count-broken (readable b) (fieldsIn b .count) e)
+
+module _ (b : List ℕ) (canonical : Canonical b) where
+  -- The ticket at 48 is the status, as its high bytes are 0.
+  status-whole : number 4 true b 48 ≡ number 8 true b 48
+  unfolding number
+  status-whole =
+      let whole = ap (λ (l : List ℕ). le (part 4 b 48 ++ l)) (known b (canonical .readable) .high) in
+      omega (arith, whole)
+
+  fields-same : fieldsOf (serverIn b) ≡ fieldsIn b
+  unfolding fieldsOf serverIn serverOf fieldsIn
+  fields-same =
+      let k = known b (canonical .readable) in
+      let status : statusOf (stateOf (getD b 0 0) (number 4 true b 48)) ≡ number 8 true b 48 =
+      status-again (getD b 0 0) (number 4 true b 48) (k .state) (canonical .status) ∙ status-whole in
+      let armed : false ≡ eqb (getD b 65 0) 1 = sym (ap (λ (n : ℕ). eqb n 1) (k .second)) in
+      λ i. record {
+        state = state-again (getD b 0 0) (number 4 true b 48) (k .state) i;
+        count = count-again (readable b) (getD b 2 0) (canonical .readable) i;
+        resends = sym (k .resends) i;
+        activity = uuidIn b 96;
+        number = number 4 true b 16;
+        boot = number 4 true b 28;
+        call = callIn b;
+        outgoing = outgoingIn b;
+        incoming = incomingIn b;
+        tickets = number 8 true b 32;
+        timer = timerWhere (eqb (getD b 64 0) 1) (number 8 true b 40);
+        armed = armed i;
+        ticket = status i;
+      }
+
+  -- Canonical bytes as a record and back are the bytes again.
+  pub server-again : serverBytes (serverIn b) ≡ b
+  unfolding serverBytes
+  server-again =
+      ap fieldBytes fields-same
+      ∙ fields-again b (canonical .size) (canonical .octets) (known b (canonical .readable) .shared)
+      (canonical .resend) (canonical .slots)

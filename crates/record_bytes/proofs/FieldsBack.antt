@@ -1,10 +1,9 @@
 -- What the bytes of a record hold, as bytes and back, is what it was; and those bytes are 272, and readable.
-use Prim.Native.Nat.{ℕ, _+_, _*_, _≤_, _<_}
-use mathlib.Core.Bool.{Bool, true}
-use mathlib.Core.List.{List, [], _∷_, _++_}
-use mathlib.Core.Path.{_≡_, refl, ap, subst, _∙_}
+use Prim.Native.Nat.{ℕ}
+use mathlib.Core.Bool.{true}
+use mathlib.Core.List.{List, _∷_}
+use mathlib.Core.Path.{_≡_, subst}
 use native.Mathlib.Omega.{arith}
-use lib.Dec.{eqb}
 use lib.ListN.{length, drop, replicate}
 use Rattle.words.specs.Choice.{choose, both}
 use Rattle.words.specs.Number.{digits, part, number}
@@ -12,14 +11,18 @@ use Rattle.words.proofs.Number.{value-bytes, part-all}
 use Rattle.words.proofs.Tests.{both-hold}
 use Rattle.record_bytes.specs.declared.Fields.{Fields}
 use Rattle.record_bytes.specs.Fits.{Octets, FitsFields}
+use Rattle.record_bytes.specs.Canonical.{TicketClear, LengthsClear}
 use Rattle.record_bytes.specs.Parts.{markOf, isArmed, timerTicket, lastNumber, clear}
 use Rattle.record_bytes.specs.Held.{slotsBytes}
-use Rattle.record_bytes.specs.Layout.{marksReadable, countsReadable, sparesReadable, readable, callIn, outgoingIn, incomingIn, fieldsIn, frontBytes, numberBytes, backBytes, fieldBytes}
+use Rattle.record_bytes.specs.Layout.{marksReadable, countsReadable, sparesReadable, readable}
+use Rattle.record_bytes.specs.Layout.{callIn, outgoingIn, incomingIn, fieldsIn}
+use Rattle.record_bytes.specs.Layout.{frontBytes, numberBytes, backBytes, fieldBytes}
 use Rattle.record_bytes.proofs.ByteLaws.{octets-joined, octets-three, octets-four, octets-digits, octets-zeros}
 use Rattle.record_bytes.proofs.HeldLaws.{length-slots}
 use Rattle.record_bytes.proofs.Laying.{octets-laid}
-use Rattle.record_bytes.proofs.PartLaws.{mark-back, mark-readable, mark-small, timer-back, last-back, last-readable, uuid-part}
-use Rattle.record_bytes.proofs.SlotLaws.{slots-back, slots-readable, octets-slots}
+use Rattle.record_bytes.proofs.PartLaws.{mark-back, mark-readable, mark-small, timer-back, ticket-clear}
+use Rattle.record_bytes.proofs.PartLaws.{last-back, last-readable, uuid-part}
+use Rattle.record_bytes.proofs.SlotLaws.{slots-back, slots-readable, lengths-clear, octets-slots}
 
 -- The same fields, their UUIDs written out byte by byte, so that their bytes compute.
 spelled : Fields → Fields
@@ -45,11 +48,14 @@ spelled f = record {
   ticket = f .ticket;
 }
 
--- Three of the ten parts that its bytes are.
+-- Three of the ten parts that its bytes are, the first without its first four bytes too.
 abbrev frontOf : Fields → List ℕ
 frontOf f =
-    frontBytes (f .state) (markOf (f .call .idempotent)) (f .count) (f .resends) (f .outgoing) (lastNumber (f .incoming .last))
-    (f .call .operation)
+    frontBytes (f .state) (markOf (f .call .idempotent)) (f .count) (f .resends) (f .outgoing)
+    (lastNumber (f .incoming .last)) (f .call .operation)
+
+abbrev countsOf : Fields → List ℕ
+countsOf f = drop 4 (frontOf f)
 
 abbrev numbersOf : Fields → List ℕ
 numbersOf f = numberBytes (f .number) (f .call .version) (f .outgoing .length) (f .boot)
@@ -137,39 +143,46 @@ module _ (f : Fields) (fits : FitsFields f) where
   pub length-fields : length (fieldBytes f) ≡ 272
   length-fields = subst (λ (g : Fields). length (fieldBytes g) ≡ 272) spelled-same size-spelled
 
+  octets-counts : Octets (countsOf f)
+  octets-counts =
+      let o = fits .outgoing in
+      let shorts =
+      octets-three (digits 2 (lastNumber (f .incoming .last))) (digits 2 (f .outgoing .serial))
+      (digits 2 (f .call .operation)) (octets-digits 2 _) (octets-digits 2 _) (octets-digits 2 _) in
+      (o .count, (omega arith, (o .sent, (omega arith, (o .acknowledged, (omega arith, shorts))))))
+
   octets-front : Octets (frontOf f)
-  octets-front =
-      (fits .state,
-      (mark-small (f .call .idempotent),
-      (fits .count,
-      (fits .resends,
-      (fits .outgoing .count,
-      (omega arith,
-      (fits .outgoing .sent,
-      (omega arith,
-      (fits .outgoing .acknowledged,
-      (omega arith,
-      octets-three (digits 2 (lastNumber (f .incoming .last))) (digits 2 (f .outgoing .serial)) (digits 2 (f .call .operation))
-      (octets-digits 2 _) (octets-digits 2 _) (octets-digits 2 _)))))))))))
+  octets-front = (fits .state, (mark-small (f .call .idempotent), (fits .count, (fits .resends, octets-counts))))
 
   octets-numbers : Octets (numbersOf f)
   octets-numbers =
-      octets-four (digits 4 (f .number)) (digits 4 (f .call .version)) (digits 4 (f .outgoing .length)) (digits 4 (f .boot))
-      (octets-digits 4 _) (octets-digits 4 _) (octets-digits 4 _) (octets-digits 4 _)
+      octets-four (digits 4 (f .number)) (digits 4 (f .call .version)) (digits 4 (f .outgoing .length))
+      (digits 4 (f .boot)) (octets-digits 4 _) (octets-digits 4 _) (octets-digits 4 _) (octets-digits 4 _)
 
   octets-back : Octets (backOf f)
   octets-back =
-      octets-joined (replicate 8 0) (markOf (isArmed (f .timer)) ∷ (markOf (f .armed) ∷ replicate 30 0)) (octets-zeros 8)
-      (mark-small (isArmed (f .timer)), (mark-small (f .armed), octets-zeros 30))
+      octets-joined (replicate 8 0) (markOf (isArmed (f .timer)) ∷ (markOf (f .armed) ∷ replicate 30 0))
+      (octets-zeros 8) (mark-small (isArmed (f .timer)), (mark-small (f .armed), octets-zeros 30))
 
   pub octets-fields : Octets (fieldBytes f)
   unfolding fieldBytes
   octets-fields =
-      octets-laid (frontOf f) (numbersOf f) (digits 8 (f .tickets)) (digits 8 (timerTicket (f .timer))) (digits 8 (f .ticket))
-      (backOf f) (f .activity) (f .call .object) (f .call .interface) (slotsBytes (f .incoming .slots))
+      octets-laid (frontOf f) (numbersOf f) (digits 8 (f .tickets)) (digits 8 (timerTicket (f .timer)))
+      (digits 8 (f .ticket)) (backOf f) (f .activity) (f .call .object) (f .call .interface)
+      (slotsBytes (f .incoming .slots))
       octets-front octets-numbers (octets-digits 8 _) (octets-digits 8 _) (octets-digits 8 _)
       octets-back (fits .activity .octets) (fits .call .object .octets) (fits .call .interface .octets)
       (octets-slots (f .incoming .slots))
+
+  -- What is not judged is written 0: the length of a slot that is not held, and the first timer's ticket.
+  pub slots-clear : LengthsClear (drop 144 (fieldBytes f))
+  unfolding fieldBytes spelled
+  slots-clear =
+      subst (λ (g : Fields). LengthsClear (drop 144 (fieldBytes g))) spelled-same (lengths-clear (f .incoming .slots))
+
+  pub timer-clear : TicketClear 64 40 (fieldBytes f)
+  unfolding fieldBytes number
+  timer-clear e = ticket-clear (f .timer) e
 
   pub fields-back : fieldsIn (fieldBytes f) ≡ f
   fields-back = subst (λ (g : Fields). fieldsIn (fieldBytes g) ≡ g) spelled-same back-spelled

@@ -1,0 +1,19 @@
+-- The bytes that encoding gives of a client's record.
+use Prim.Native.Nat.{ℕ}
+use mathlib.Core.Bool.{true}
+use mathlib.Core.List.{List}
+use mathlib.Core.Path.{_≡_}
+use lib.ListN.{length, drop}
+use Rattle.record_bytes.specs.Fits.{Octets}
+use Rattle.record_bytes.specs.Canonical.{TicketClear, LengthsClear}
+use Rattle.client_bytes.specs.Layout.{readable as isReadable}
+
+-- 272 readable bytes. The ticket of WAIT stands at 40 and its mark at 64, that of ACK at 48 and its mark at 65; each
+-- is 0 where the timer is not armed. A slot that is not held has length 0.
+pub record Canonical (b : List ℕ) : Type 0 where
+  pub size : length b ≡ 272
+  pub octets : Octets b
+  pub readable : isReadable b ≡ true
+  pub wait : TicketClear 64 40 b
+  pub ack : TicketClear 65 48 b
+  pub slots : LengthsClear (drop 144 b)
