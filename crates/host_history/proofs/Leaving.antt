@@ -3,6 +3,7 @@ use Prim.Native.Nat.{ℕ}
 use mathlib.Core.Bool.{Bool, false, not}
 use mathlib.Core.List.{List, []}
 use mathlib.Core.Path.{_≡_, refl, sym, ap, subst, _∙_}
+use native.Mathlib.Omega.{arith}
 use lib.Dec.{eqb}
 use lib.ListN.{length}
 use borrow.Author.Tests.{ne-eqb}
@@ -89,3 +90,21 @@ module _ (a : Answer) (n : Notice) (s : Sent) (next bytes slots out slots' out' 
       let q = quiet other in
       subst (λ (x : Export). Refused x bytes slots out)
       (sym (same-left other (q .0) (q .1) (q .2) (q .3))) (left-refused bytes slots out a)
+
+-- A refusal is not answered 0.
+module _ (bytes slots out : List ℕ) where
+  left-undone : (a : Answer) → (numberOf a ≡ 0 → ⊥) → Undone (left bytes slots out (numberOf a))
+  left-undone a other done = other (ap numberOf (sym (answer-alone a) ∙ done))
+
+  pub refusing-undone : Undone (refusing bytes slots out)
+  unfolding refusing
+  refusing-undone = left-undone WrongLength (λ (e : 1 ≡ 0). omega arith)
+
+  pub kind-undone : (sound : Bool) → Undone (otherKind sound bytes slots out)
+  unfolding otherKind otherTimer
+  kind-undone sound =
+      choice-keeps (λ (n : ℕ). Undone (left bytes slots out n)) (not (eqb (length out) 1472)) 1 _
+      (left-undone WrongLength (λ (e : 1 ≡ 0). omega arith))
+      (choice-keeps (λ (n : ℕ). Undone (left bytes slots out n)) (not sound) 2 15
+      (left-undone BrokenRecord (λ (e : 2 ≡ 0). omega arith))
+      (left-undone NoRow (λ (e : 15 ≡ 0). omega arith)))

@@ -9,3 +9,4 @@ pub mod Sizes
 pub mod Leaving
 pub mod Refusals
 pub mod Shown
+pub mod ClientCalls
