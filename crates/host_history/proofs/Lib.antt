@@ -10,3 +10,5 @@ pub mod Leaving
 pub mod Refusals
 pub mod Shown
 pub mod ClientCalls
+pub mod ServerCalls
+pub mod Unchanged
