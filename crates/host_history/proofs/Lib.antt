@@ -12,3 +12,4 @@ pub mod Shown
 pub mod ClientCalls
 pub mod ServerCalls
 pub mod Unchanged
+pub mod SameRun

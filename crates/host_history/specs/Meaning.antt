@@ -9,15 +9,18 @@ use Rattle.words.specs.Choice.{choose, both}
 use Rattle.answers.specs.declared.Answer.the-variants.{Done}
 use Rattle.client_record.specs.declared.TimerKind.the-variants.{Wait, Ack}
 use Rattle.record_bytes.specs.Fits.{Octets}
+use Rattle.client_bytes.specs.Canonical.{Canonical as ClientCanonical}
+use Rattle.server_bytes.specs.Canonical.{Canonical as ServerCanonical}
 use Rattle.history.specs.World.{World}
 use Rattle.history.specs.Events.{ClientEvent, ServerEvent, Event, Start, ClientTransmit as TransmitOfClient, ClientArrive as ArriveOfClient, ClientTimer as TimerOfClient, ServerArrive as ArriveOfServer, ServerTransmit as TransmitOfServer, ServerTimer as TimerOfServer, Reply, Fault, OfClient, OfServer}
+use Rattle.history.specs.Steps.{answerTo, noticeOf, leftIn}
 use Rattle.history.specs.Fairness.{Premise}
 use Rattle.history.specs.Freshness.{Unwritten}
 use Rattle.morphelai.specs.Export.{Export}
 use Rattle.morphelai.specs.ClientDoor.{clientFresh}
 use Rattle.morphelai.specs.ServerDoor.{serverFresh}
 use Rattle.host_history.specs.Arguments.{LentFits}
-use Rattle.host_history.specs.Results.{answerIn}
+use Rattle.host_history.specs.Results.{answerIn, noticeIn}
 use Rattle.host_history.specs.Hosts.{HostWorld, worldOf, ClientCall, ServerCall, HostCall, ClientStart, ClientTransmit, ClientArrive, ClientTimer, ServerArrive, ServerTransmit, ServerTimer, ServerReply, ServerFault, ToClient, ToServer, callGiven, exported, hostStep}
 
 -- A start's arguments are those of an event where idempotent is 0 or 1 and its UUIDs have 16 bytes each.
@@ -87,6 +90,22 @@ abbrev pub FairHost : HostWorld → List HostCall → Type 0
 FairHost h [] = Unit {0}
 FairHost h (call ∷ calls) =
     (answerIn (exported h call .result) ≡ Done → PremiseOf (worldOf h) (meant call)) × FairHost (hostStep h call) calls
+
+-- Both records are the canonical bytes of a record, which its encoding gives.
+pub record Keeps (h : HostWorld) : Type 0 where
+  pub client : ClientCanonical (h .client .machine)
+  pub server : ServerCanonical (h .server .machine)
+
+-- What a host is told of a call is what the theorem's world tells of the event that it is: the answer, the notice and
+-- what is left in the PDU buffer. A call that is no event is refused.
+pub record TellsOf (w : World) (x : Export) (e : Event) : Type 0 where
+  pub answer : answerIn (x .result) ≡ answerTo w e
+  pub notice : noticeIn (x .result) ≡ noticeOf w e
+  pub buffer : x .out ≡ leftIn w e
+
+abbrev pub Tells : World → Export → List Event → Type 0
+Tells w x [] = answerIn (x .result) ≡ Done → ⊥
+Tells w x (e ∷ es) = TellsOf w x e
 
 -- A record that morphelai_client_fresh left and answered 0 for, of any memory.
 pub record FreshClientBytes (bytes : List ℕ) : Type 0 where
