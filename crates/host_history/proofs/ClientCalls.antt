@@ -81,7 +81,7 @@ ClientMeets side call x (OfClient e ∷ (f ∷ es)) = ⊥
 ClientMeets side call x (OfServer e ∷ es) = ⊥
 
 -- A UUID of 16 bytes is read as it was handed in, and so is the call.
-uuid-given : (u : List ℕ) → eqb (length u) 16 ≡ true → uuidIn u 0 ≡ u
+pub uuid-given : (u : List ℕ) → eqb (length u) 16 ≡ true → uuidIn u 0 ≡ u
 uuid-given u e = uuid-part u 0 (omega (arith, eqb-true (length u) 16 e)) ∙ part-all 16 u (eqb-true (length u) 16 e)
 
 -- What is known of a start's arguments where they are an event's.

@@ -13,3 +13,5 @@ pub mod ClientCalls
 pub mod ServerCalls
 pub mod Unchanged
 pub mod SameRun
+pub mod FreshHosts
+pub mod HostTheorem

@@ -4,3 +4,4 @@ pub mod Results
 pub mod Hosts
 pub mod Meaning
 pub mod Refusal
+pub mod HostClaim

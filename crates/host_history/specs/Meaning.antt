@@ -97,7 +97,7 @@ pub record Keeps (h : HostWorld) : Type 0 where
   pub server : ServerCanonical (h .server .machine)
 
 -- What a host is told of a call is what the theorem's world tells of the event that it is: the answer, the notice and
--- what is left in the PDU buffer. A call that is no event is refused.
+-- what is left in the PDU buffer. A call that is no event is refused, and none is more than one.
 pub record TellsOf (w : World) (x : Export) (e : Event) : Type 0 where
   pub answer : answerIn (x .result) ≡ answerTo w e
   pub notice : noticeIn (x .result) ≡ noticeOf w e
@@ -105,7 +105,8 @@ pub record TellsOf (w : World) (x : Export) (e : Event) : Type 0 where
 
 abbrev pub Tells : World → Export → List Event → Type 0
 Tells w x [] = answerIn (x .result) ≡ Done → ⊥
-Tells w x (e ∷ es) = TellsOf w x e
+Tells w x (e ∷ []) = TellsOf w x e
+Tells w x (e ∷ (f ∷ es)) = ⊥
 
 -- A record that morphelai_client_fresh left and answered 0 for, of any memory.
 pub record FreshClientBytes (bytes : List ℕ) : Type 0 where
