@@ -39,16 +39,23 @@ fair-host h (call ∷ calls) keeps small fair =
     (subst (λ (w : World). Fair w (eventsOf calls)) (same-step h call keeps (small .0))
     (fair-host (hostStep h call) calls (keeps-step h call keeps (small .0)) (small .1) (fair .1)))
 
--- Every history of a host that calls exports only is one of the theorem's world, and the claim holds of it.
-pub host-theorem : (h : HostWorld) → FreshHost h → (calls : List HostCall) → AllFit calls → FairHost h calls
+-- Every history of a host that calls exports only is one of the theorem's world, and the claim holds of it: where its
+-- events keep the theorem's premises,
+pub host-claim : (h : HostWorld) → FreshHost h → (calls : List HostCall) → AllFit calls → Fair (worldOf h) (eventsOf calls)
     → HostClaim h calls
-host-theorem h fresh calls small fair =
+host-claim h fresh calls small fair =
     let keeps = fresh-keeps h fresh in
     record {
       same = same-run h calls keeps small;
-      claim = theorem (worldOf h) (fresh-world h fresh) (eventsOf calls) (fair-host h calls keeps small fair);
+      claim = theorem (worldOf h) (fresh-world h fresh) (eventsOf calls) fair;
       kept = keeps-run h calls keeps small;
     }
+
+-- and so where the host keeps them at every call that it is answered 0 for.
+pub host-theorem : (h : HostWorld) → FreshHost h → (calls : List HostCall) → AllFit calls → FairHost h calls
+    → HostClaim h calls
+host-theorem h fresh calls small fair =
+    host-claim h fresh calls small (fair-host h calls (fresh-keeps h fresh) small fair)
 
 -- What the claim says of the world that the events leave, it says of what the host then keeps.
 pub at-host : (h : HostWorld) (calls : List HostCall) → HostClaim h calls → (P : World → Type 0)

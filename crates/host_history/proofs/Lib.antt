@@ -15,3 +15,4 @@ pub mod Unchanged
 pub mod SameRun
 pub mod FreshHosts
 pub mod HostTheorem
+pub mod Handing

@@ -5,3 +5,4 @@ pub mod Hosts
 pub mod Meaning
 pub mod Refusal
 pub mod HostClaim
+pub mod HandedUp
