@@ -10,31 +10,30 @@ use borrow.Author.Tests.{eq-eqb, eqb-true}
 use Rattle.words.specs.Choice.{choose, both}
 use Rattle.words.specs.Place.{placed}
 use Rattle.answers.specs.declared.Answer.the-variants.{Done}
-use Rattle.words.proofs.Tests.{choose-true, choose-false, both-hold, both-true}
+use Rattle.words.proofs.Tests.{choose-true, both-true}
 use Rattle.words.proofs.Number.{part-all}
 use Rattle.calls.specs.declared.Call.{Call}
 use Rattle.record_bytes.specs.Fits.{Octets, FitsCall}
 use Rattle.record_bytes.specs.Parts.{uuidIn}
 use Rattle.record_bytes.proofs.PartLaws.{uuid-part}
-use Rattle.record_bytes.proofs.Keeping.{choice-by, choice-keeps}
 use Rattle.client_record.specs.declared.Client.{Client}
 use Rattle.client_record.specs.declared.TimerKind.{TimerKind}
 use Rattle.client_record.specs.declared.TimerKind.the-variants.{Wait, Ack}
 use Rattle.client_record.specs.Rules.{sound}
-use Rattle.client.specs.Machine.{starting, transmitting, timing, arriving}
+use Rattle.client.specs.Machine.{starting, timing}
 use Rattle.client_bytes.specs.Layout.{clientIn, clientBytes}
 use Rattle.client_bytes.specs.Fits.{FitsClient}
 use Rattle.client_bytes.specs.Canonical.{Canonical}
 use Rattle.client_bytes.proofs.RoundTrip.{client-back, client-canonical, client-fits}
 use Rattle.history.specs.World.{Started, Side}
 use Rattle.history.specs.Events.{ClientEvent, Event, Start, ClientTransmit as TransmitOf, ClientArrive as ArriveOf, ClientTimer as TimerOf, OfClient, OfServer}
-use Rattle.history.specs.Steps.{bytesLent, Turn, clientTurn, startsAfter}
+use Rattle.history.specs.Steps.{Turn, clientTurn, startsAfter}
 use Rattle.history.proofs.Refused.{client-refused}
 use Rattle.morphelai.specs.Result.{resultOf}
-use Rattle.morphelai.specs.Export.{Export, sized, refusing, keptBytes, otherKind}
-use Rattle.morphelai.specs.ClientDoor.{clientResult, clientKept, clientGiven, clientStepped, clientArrived, clientStart, startSized, callOf, clientTransmit, clientArrive, clientTiming, clientTimer}
+use Rattle.morphelai.specs.Export.{Export, sized, refusing, keptBytes}
+use Rattle.morphelai.specs.ClientDoor.{clientResult, clientKept, clientGiven, clientStepped, clientStart, startSized, callOf, clientTransmit, clientArrive, clientTiming, clientTimer}
 use Rattle.host_history.specs.Arguments.{ClientFits}
-use Rattle.host_history.specs.Hosts.{sideOf, turnOf, ClientCall, ClientStart, ClientTransmit, ClientArrive, ClientTimer, callGiven, clientExport, clientSlots, clientSeen, startsSeen}
+use Rattle.host_history.specs.Hosts.{sideOf, ClientCall, ClientStart, ClientTransmit, ClientArrive, ClientTimer, callGiven, clientExport, clientSlots, startsSeen}
 use Rattle.host_history.specs.Meaning.{startable, meantToClient, ClientCallFits}
 use Rattle.host_history.specs.Refusal.{Undone}
 use Rattle.host_history.proofs.ClientKeeps.{client-turn-fits}
@@ -45,7 +44,9 @@ use Rattle.host_history.proofs.Leaving.{refusing-undone, kind-undone}
 -- The bytes of a record that fits, put in place of any 272 others, stand for it.
 pub client-placed : (bytes : List ℕ) (c : Client) → length bytes ≡ 272 → FitsClient c
     → Lies clientIn Canonical (placed 0 (clientBytes c) bytes) c
-client-placed = placed-lies clientIn clientBytes FitsClient Canonical (λ bytes canonical. canonical .size) client-canonical client-back
+client-placed =
+    placed-lies clientIn clientBytes FitsClient Canonical (λ bytes canonical. canonical .size) client-canonical
+    client-back
 
 module _ (side : Side (List ℕ)) (canonical : Canonical (side .machine)) where
   -- The side as the theorem's world has it, and what its record fits.
@@ -65,7 +66,8 @@ module _ (side : Side (List ℕ)) (canonical : Canonical (side .machine)) where
       }) (clientTurn known e .slots) (clientTurn known e)
   given-shown e slots small =
       shown clientIn clientBytes FitsClient Canonical (λ bytes good. good .size) client-canonical client-back
-      (side .machine) (clientTurn known e) slots canonical (client-turn-fits known e fits small) (client-turn-sent known e)
+      (side .machine) (clientTurn known e) slots canonical (client-turn-fits known e fits small)
+      (client-turn-sent known e)
       (λ (other : clientTurn known e .answer ≡ Done → ⊥). client-refused known e other .machine)
 
 -- The call is that event: it shows its turn, and goes on the books as it does.
@@ -105,7 +107,8 @@ module _ (side : Side (List ℕ)) (canonical : Canonical (side .machine)) where
   judged : (call : ClientCall) (x y : Export) (es : List Event) → ClientMeets side call x es
       → ClientMeets side call (choose (sized (side .machine)) x y) es
   judged call x y es meets =
-      subst (λ (z : Export). ClientMeets side call z es) (sym (choose-true (sized (side .machine)) x y size-here)) meets
+      subst (λ (z : Export). ClientMeets side call z es) (sym (choose-true (sized (side .machine)) x y size-here))
+      meets
 
   module _ (idempotent : ℕ) (object interface : List ℕ) (version operation n : ℕ) (message : List ℕ)
       (small : ClientCallFits (ClientStart idempotent object interface version operation n message)) where
@@ -118,7 +121,8 @@ module _ (side : Side (List ℕ)) (canonical : Canonical (side .machine)) where
     }
 
     same-call : Startable object interface
-        → callOf (eqb idempotent 1) object interface version operation ≡ callGiven idempotent object interface version operation
+        → callOf (eqb idempotent 1) object interface version operation
+        ≡ callGiven idempotent object interface version operation
     unfolding callOf
     same-call s = λ i. record {
       idempotent = eqb idempotent 1;
@@ -138,7 +142,8 @@ module _ (side : Side (List ℕ)) (canonical : Canonical (side .machine)) where
     startExport call = clientGiven (starting (clientIn (side .machine)) call n) (side .machine) [] []
 
     start-follows : Startable object interface
-        → ClientFollows side startCall (startExport (callOf (eqb idempotent 1) object interface version operation)) startEvent
+        → ClientFollows side startCall (startExport (callOf (eqb idempotent 1) object interface version operation))
+        startEvent
     unfolding clientResult clientKept
     start-follows s =
         subst (λ (call : Call). ClientFollows side startCall (startExport call) startEvent) (sym (same-call s))
@@ -164,14 +169,18 @@ module _ (side : Side (List ℕ)) (canonical : Canonical (side .machine)) where
 
   timer-follows : (kind : ℕ) (named : TimerKind) (ticket : ℕ) (out : List ℕ)
       → ticket < 18446744073709551616 → Octets out
-      → ClientFollows side (ClientTimer kind ticket out) (clientStepped (timing (clientIn (side .machine)) named ticket out) (side .machine))
-      (TimerOf named ticket out)
+      → ClientFollows side (ClientTimer kind ticket out)
+      (clientStepped (timing (clientIn (side .machine)) named ticket out) (side .machine)) (TimerOf named ticket out)
   unfolding clientResult clientKept
   timer-follows kind named ticket out small octets =
-      record { shows = given-shown side canonical (TimerOf named ticket out) [] (small, octets); starts = λ before t. refl }
+      record {
+        shows = given-shown side canonical (TimerOf named ticket out) [] (small, octets);
+        starts = λ before t. refl;
+      }
 
   -- Every call of the client meets what it is meant for.
-  pub client-meets : (call : ClientCall) → ClientCallFits call → ClientMeets side call (clientExport side call) (meantToClient call)
+  pub client-meets : (call : ClientCall) → ClientCallFits call
+      → ClientMeets side call (clientExport side call) (meantToClient call)
   unfolding clientTransmit clientArrive clientTimer clientTiming clientResult clientKept
   client-meets (ClientStart idempotent object interface version operation n message) small =
       start-meets idempotent object interface version operation n message small

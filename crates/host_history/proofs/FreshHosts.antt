@@ -1,5 +1,5 @@
 -- What morphelai_client_fresh and morphelai_server_fresh leave stands for fresh records.
-use Prim.Native.Nat.{ℕ, _<_}
+use Prim.Native.Nat.{ℕ}
 use mathlib.Core.Bool.{Bool, true, false}
 use mathlib.Core.List.{List, []}
 use mathlib.Core.Path.{_≡_, refl, sym, ap, subst, _∙_}
@@ -11,11 +11,9 @@ use Rattle.words.specs.Choice.{choose, both}
 use Rattle.words.proofs.Tests.{choose-true, both-true}
 use Rattle.record_bytes.specs.Fits.{Octets, Uuid}
 use Rattle.record_bytes.specs.Parts.{uuidIn}
-use Rattle.client_record.specs.declared.Client.{Client}
 use Rattle.client_record.specs.Record.{fresh as clientRecord}
 use Rattle.client_bytes.specs.Layout.{clientIn}
 use Rattle.client_bytes.specs.Canonical.{Canonical as ClientCanonical}
-use Rattle.server_record.specs.declared.Server.{Server}
 use Rattle.server_record.specs.Record.{fresh as serverRecord}
 use Rattle.server_bytes.specs.Layout.{serverIn}
 use Rattle.server_bytes.specs.Canonical.{Canonical as ServerCanonical}
@@ -38,7 +36,8 @@ unfolding choose refusing
 passed true x bytes e = refl
 passed false x bytes e = absurd (omega arith)
 
-left-there : (test : Bool) (x : Export) (bytes : List ℕ) → test ≡ true → choose test x (refusing bytes [] []) .bytes ≡ x .bytes
+left-there : (test : Bool) (x : Export) (bytes : List ℕ) → test ≡ true
+    → choose test x (refusing bytes [] []) .bytes ≡ x .bytes
 left-there test x bytes e = ap (λ (y : Export). y .bytes) (choose-true test x (refusing bytes [] []) e)
 
 -- The record lent has 272 bytes, and the activity 16.
@@ -90,7 +89,8 @@ module _ (bytes : List ℕ) (f : FreshServerBytes bytes) where
   server-uuid = sizes (f .lent) (f .activity) server-test .uuid (f .octets)
 
   -- The bytes stand for the record that server_record::fresh gives,
-  fresh-server-lies : Lies serverIn ServerCanonical bytes (serverRecord (uuidIn (f .activity) 0) (f .boot) (f .tickets))
+  fresh-server-lies :
+      Lies serverIn ServerCanonical bytes (serverRecord (uuidIn (f .activity) 0) (f .boot) (f .tickets))
   unfolding serverFresh
   fresh-server-lies =
       let s = serverRecord (uuidIn (f .activity) 0) (f .boot) (f .tickets) in

@@ -7,7 +7,7 @@ use native.Mathlib.Omega.{arith}
 use lib.Dec.{eqb, ltb, leb}
 use lib.ListN.{length, take, drop, getD}
 use borrow.Author.Tests.{eq-eqb, le-ltb, leb-true, leb-false}
-use Rattle.words.specs.Choice.{both}
+use Rattle.words.specs.Choice.{choose, both}
 use Rattle.words.proofs.Tests.{choose-true, choose-false}
 use Rattle.incoming.specs.declared.Incoming.{Incoming}
 use Rattle.incoming.specs.Slots.{missing, sound, contiguous}
@@ -44,7 +44,8 @@ part-read : (kept : Bool) (m : Incoming) (f : ℕ) (slots : List ℕ)
 unfolding partOf handedUp
 part-read kept m f slots =
     choice-keeps (λ (part : List ℕ). stretch (length part) (1392 * f) slots ≡ part) kept _ []
-    (choice-keeps (λ (part : List ℕ). stretch (length part) (1392 * f) slots ≡ part) (isHandedUp m f (length slots)) _ []
+    (choice-keeps (λ (part : List ℕ). stretch (length part) (1392 * f) slots ≡ part) (isHandedUp m f (length slots)) _
+    []
     (take-own (getD (m .slots) f missing .length) (drop (1392 * f) slots)) refl)
     refl
 
@@ -68,7 +69,8 @@ module _ (kept : Bool) (m : Incoming) (slots : List ℕ) where
 
   -- so further numbers add nothing.
   one-more : (n : ℕ) (t : Bool) → leb (contiguous m) n ≡ t → contiguous m ≤ suc n
-      → (contiguous m ≤ n → partsBelow kept m slots n ≡ parts kept m slots) → partsBelow kept m slots (suc n) ≡ parts kept m slots
+      → (contiguous m ≤ n → partsBelow kept m slots n ≡ parts kept m slots)
+      → partsBelow kept m slots (suc n) ≡ parts kept m slots
   unfolding partsBelow parts
   one-more n true e most before =
       let least = leb-true (contiguous m) n e in
@@ -93,24 +95,30 @@ unfolding contiguous
 handed kept m slots size =
     parts-read kept m slots 32 ∙ all-below kept m slots 32 (omega (arith, count-most (m .slots)))
 
--- What a host reads of either side's parts, what that side hands up in the theorem's world.
+-- What a host reads of either side's parts is what that side hands up in the theorem's world.
+sized-told : (bytes : List ℕ) (n : ℕ) → length bytes ≡ 272 → choose (sized bytes) n 0 ≡ n
+unfolding sized
+sized-told bytes n size = choose-true (eqb (length bytes) 272) n 0 (eq-eqb _ _ size)
+
 module _ (h : HostWorld) (keeps : Keeps h) where
   pub client-parts : clientParts (h .client) ≡ clientHandsUp (worldOf h .client .machine) (h .client .slots)
-  unfolding clientParts clientPart clientHandedUp clientHandsUp sized
+  unfolding clientParts clientPart clientHandedUp clientHandsUp
   client-parts =
-      let c = clientIn (h .client .machine) in
-      let size = keeps .client in
-      ap (λ (told : ℕ → ℕ). readBelow told (h .client .slots) 32)
-      (λ i (f : ℕ). choose-true (eqb (length (h .client .machine)) 272) (length (clientHandedUp c f (h .client .slots))) 0 (eq-eqb _ _ (size .size)) i)
-      ∙ handed (clientSound c) (c .incoming) (h .client .slots)
-      (client-fits (h .client .machine) (size .size) (size .octets) (size .readable) .incoming .size)
+      let bytes = h .client .machine in
+      let slots = h .client .slots in
+      let known = keeps .client in
+      ap (λ (told : ℕ → ℕ). readBelow told slots 32)
+      (λ i (f : ℕ). sized-told bytes (length (clientHandedUp (clientIn bytes) f slots)) (known .size) i)
+      ∙ handed (clientSound (clientIn bytes)) (clientIn bytes .incoming) slots
+      (client-fits bytes (known .size) (known .octets) (known .readable) .incoming .size)
 
   pub server-parts : serverParts (h .server) ≡ serverHandsUp (worldOf h .server .machine) (h .server .slots)
-  unfolding serverParts serverPart serverHandedUp serverHandsUp sized
+  unfolding serverParts serverPart serverHandedUp serverHandsUp
   server-parts =
-      let s = serverIn (h .server .machine) in
-      let size = keeps .server in
-      ap (λ (told : ℕ → ℕ). readBelow told (h .server .slots) 32)
-      (λ i (f : ℕ). choose-true (eqb (length (h .server .machine)) 272) (length (serverHandedUp s f (h .server .slots))) 0 (eq-eqb _ _ (size .size)) i)
-      ∙ handed (serverSound s) (s .incoming) (h .server .slots)
-      (server-fits (h .server .machine) (size .size) (size .octets) (size .readable) .incoming .size)
+      let bytes = h .server .machine in
+      let slots = h .server .slots in
+      let known = keeps .server in
+      ap (λ (told : ℕ → ℕ). readBelow told slots 32)
+      (λ i (f : ℕ). sized-told bytes (length (serverHandedUp (serverIn bytes) f slots)) (known .size) i)
+      ∙ handed (serverSound (serverIn bytes)) (serverIn bytes .incoming) slots
+      (server-fits bytes (known .size) (known .octets) (known .readable) .incoming .size)

@@ -1,7 +1,7 @@
 -- What a refusal leaves through the door: the answer's number alone, and all lent memory as it was.
 use Prim.Native.Nat.{ℕ}
 use mathlib.Core.Bool.{Bool, false, not}
-use mathlib.Core.List.{List, []}
+use mathlib.Core.List.{List}
 use mathlib.Core.Path.{_≡_, refl, sym, ap, subst, _∙_}
 use native.Mathlib.Omega.{arith}
 use lib.Dec.{eqb}
@@ -78,7 +78,8 @@ module _ (a : Answer) (n : Notice) (s : Sent) (next bytes slots out slots' out' 
       → given ≡ left bytes slots out (numberOf a)
   unfolding keptBytes
   same-left other untold unsent stored buffer =
-      let kept : keptBytes a next bytes ≡ bytes = choose-false (isDone a) (placed 0 next bytes) bytes (not-zero a other) in
+      let kept : keptBytes a next bytes ≡ bytes =
+      choose-false (isDone a) (placed 0 next bytes) bytes (not-zero a other) in
       let alone : resultOf a n s ≡ numberOf a = (λ i. resultOf a (untold i) (unsent i)) ∙ result-alone a in
       λ i. record { result = alone i; bytes = kept i; slots = stored i; out = buffer i }
 

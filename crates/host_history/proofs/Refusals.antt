@@ -1,5 +1,5 @@
--- A refused call leaves all lent memory as it was and tells nothing but its answer, whatever bytes and arguments it was
--- given.
+-- A refused call leaves all lent memory as it was and tells nothing but its answer, whatever bytes and arguments it
+-- was given.
 use Prim.Native.Nat.{ℕ}
 use mathlib.Core.Bool.{Bool}
 use mathlib.Core.List.{List, []}
@@ -8,16 +8,14 @@ use lib.Dec.{eqb}
 use Rattle.words.specs.Choice.{choose}
 use Rattle.answers.specs.declared.Answer.the-variants.{Done}
 use Rattle.calls.specs.declared.Call.{Call}
-use Rattle.calls.specs.Events.{Step, Arrival}
+use Rattle.calls.specs.Events.{Step}
 use Rattle.record_bytes.proofs.Keeping.{choice-keeps}
-use Rattle.client_record.specs.declared.Client.{Client}
 use Rattle.client_record.specs.declared.TimerKind.the-variants.{Wait, Ack}
 use Rattle.client_record.specs.Rules.{sound as clientSound}
 use Rattle.client.specs.declared.Outcome.{Outcome as ClientOutcome}
 use Rattle.client.specs.Machine.{starting, transmitting as clientTransmitting, timing as clientTiming, arriving as clientArriving}
 use Rattle.client.proofs.Refusals.{StepUntouched as ClientUntouched, start-refused, transmit-refused as client-transmit-refused, timer-refused as client-timer-refused, arrive-refused as client-arrive-refused}
 use Rattle.client_bytes.specs.Layout.{clientIn, clientBytes}
-use Rattle.server_record.specs.declared.Server.{Server}
 use Rattle.server_record.specs.Rules.{sound as serverSound}
 use Rattle.server.specs.declared.Outcome.{Outcome as ServerOutcome}
 use Rattle.server.specs.Machine.{replying, transmitting as serverTransmitting, timing as serverTiming, faulting, arriving as serverArriving}
@@ -55,7 +53,8 @@ module _ (bytes : List ℕ) where
       (λ (other : s .outcome .answer ≡ Done → ⊥).
       (law other .outcome .notice, law other .outcome .sent, refl, law other .buffer))
 
-  client-start-leaves : (call : Call) (n : ℕ) → Leaves bytes [] [] (clientGiven (starting (clientIn bytes) call n) bytes [] [])
+  client-start-leaves : (call : Call) (n : ℕ)
+      → Leaves bytes [] [] (clientGiven (starting (clientIn bytes) call n) bytes [] [])
   unfolding clientResult clientKept
   client-start-leaves call n undone =
       let o = starting (clientIn bytes) call n in
@@ -74,7 +73,8 @@ module _ (bytes : List ℕ) where
       let u = client-arrive-refused (clientIn bytes) datagram slots out other in
       (u .outcome .notice, u .outcome .sent, u .stored, u .buffer))
 
-  client-timer-leaves : (kind ticket : ℕ) (out : List ℕ) → Leaves bytes [] out (timedClient (clientIn bytes) kind ticket bytes out)
+  client-timer-leaves : (kind ticket : ℕ) (out : List ℕ)
+      → Leaves bytes [] out (timedClient (clientIn bytes) kind ticket bytes out)
   unfolding timedClient
   client-timer-leaves kind ticket out =
       choice-keeps (Leaves bytes [] out) (eqb kind 1) _ _
@@ -133,7 +133,8 @@ module _ (bytes : List ℕ) where
       let u = server-arrive-refused (serverIn bytes) datagram slots out other in
       (u .outcome .notice, u .outcome .sent, u .stored, u .buffer))
 
-  server-timer-leaves : (kind ticket : ℕ) (out : List ℕ) → Leaves bytes [] out (timedServer (serverIn bytes) kind ticket bytes out)
+  server-timer-leaves : (kind ticket : ℕ) (out : List ℕ)
+      → Leaves bytes [] out (timedServer (serverIn bytes) kind ticket bytes out)
   unfolding timedServer
   server-timer-leaves kind ticket out =
       choice-keeps (Leaves bytes [] out) (eqb kind 3) _ _

@@ -1,18 +1,16 @@
 -- What a host's calls make of what it keeps is what their events make of the theorem's world.
-use Prim.Native.Nat.{ℕ}
-use mathlib.Core.List.{List, [], _∷_, _++_}
+use mathlib.Core.List.{List, [], _∷_}
 use mathlib.Core.Path.{_≡_, refl, sym, ap, subst, _∙_}
 use Rattle.client_record.specs.declared.Client.{Client}
 use Rattle.server_record.specs.declared.Server.{Server}
-use Rattle.history.specs.World.{Started, World}
-use Rattle.history.specs.Events.{ClientEvent, ServerEvent, Event, OfClient, OfServer}
-use Rattle.history.specs.Steps.{Turn, clientTurn, serverTurn, startsAfter, repliesAfter, subjectOf, clientWorld, serverWorld, happens, answerTo, noticeOf, leftIn, step, run}
+use Rattle.history.specs.World.{World}
+use Rattle.history.specs.Events.{Event, OfClient, OfServer}
+use Rattle.history.specs.Steps.{Turn, clientTurn, serverTurn, clientWorld, serverWorld, happens, answerTo, noticeOf, leftIn, step, run}
 use Rattle.history.proofs.Histories.{run-append}
-use Rattle.morphelai.specs.Export.{Export}
 use Rattle.host_history.specs.Hosts.{HostWorld, worldOf, ClientCall, ServerCall, HostCall, ToClient, ToServer, clientExport, serverExport, exported, afterClient, afterServer, hostStep, hostRun}
 use Rattle.host_history.specs.Meaning.{meantToClient, meantToServer, meant, eventsOf, HostFits, AllFit, Keeps, Tells}
-use Rattle.host_history.proofs.ClientCalls.{ClientFollows, ClientMeets, client-meets}
-use Rattle.host_history.proofs.ServerCalls.{ServerFollows, ServerMeets, server-meets}
+use Rattle.host_history.proofs.ClientCalls.{ClientMeets, client-meets}
+use Rattle.host_history.proofs.ServerCalls.{ServerMeets, server-meets}
 use Rattle.host_history.proofs.Unchanged.{refused-same}
 
 -- All that is shown of a call that is those events.
@@ -22,7 +20,8 @@ pub record Same (h : HostWorld) (call : HostCall) (es : List Event) : Type 0 whe
   pub tells : Tells (worldOf h) (exported h call) es
 
 module _ (h : HostWorld) (keeps : Keeps h) (call : ClientCall) where
-  client-same : (es : List Event) → ClientMeets (h .client) call (clientExport (h .client) call) es → Same h (ToClient call) es
+  client-same : (es : List Event) → ClientMeets (h .client) call (clientExport (h .client) call) es
+      → Same h (ToClient call) es
   unfolding hostStep run step answerTo noticeOf leftIn happens
   client-same [] undone = record {
     world = ap worldOf (refused-same h (ToClient call) undone);
@@ -47,7 +46,8 @@ module _ (h : HostWorld) (keeps : Keeps h) (call : ClientCall) where
   client-same (OfServer e ∷ es) never = absurd never
 
 module _ (h : HostWorld) (keeps : Keeps h) (call : ServerCall) where
-  server-same : (es : List Event) → ServerMeets (h .server) call (serverExport (h .server) call) es → Same h (ToServer call) es
+  server-same : (es : List Event) → ServerMeets (h .server) call (serverExport (h .server) call) es
+      → Same h (ToServer call) es
   unfolding hostStep run step answerTo noticeOf leftIn happens
   server-same [] undone = record {
     world = ap worldOf (refused-same h (ToServer call) undone);
@@ -59,7 +59,8 @@ module _ (h : HostWorld) (keeps : Keeps h) (call : ServerCall) where
       record {
         world =
             ap (afterServer (worldOf h) call) (f .shows .same)
-            ∙ (λ i. serverWorld (worldOf h) turn (f .subject (worldOf h) (turn .answer) i) (f .replies (h .books) turn i));
+            ∙ (λ i.
+            serverWorld (worldOf h) turn (f .subject (worldOf h) (turn .answer) i) (f .replies (h .books) turn i));
         kept = record { client = keeps .client; server = f .shows .canonical };
         tells =
             record {
@@ -89,7 +90,8 @@ pub keeps-step : (h : HostWorld) (call : HostCall) → Keeps h → HostFits call
 keeps-step h call keeps small = same h call keeps small .kept
 
 -- and the host is told what the theorem's world tells.
-pub told : (h : HostWorld) (call : HostCall) → Keeps h → HostFits call → Tells (worldOf h) (exported h call) (meant call)
+pub told : (h : HostWorld) (call : HostCall) → Keeps h → HostFits call
+    → Tells (worldOf h) (exported h call) (meant call)
 told h call keeps small = same h call keeps small .tells
 
 -- So for every list of calls.
@@ -105,4 +107,5 @@ same-run h (call ∷ calls) keeps small =
 pub keeps-run : (h : HostWorld) (calls : List HostCall) → Keeps h → AllFit calls → Keeps (hostRun h calls)
 unfolding hostRun
 keeps-run h [] keeps small = keeps
-keeps-run h (call ∷ calls) keeps small = keeps-run (hostStep h call) calls (keeps-step h call keeps (small .0)) (small .1)
+keeps-run h (call ∷ calls) keeps small =
+    keeps-run (hostStep h call) calls (keeps-step h call keeps (small .0)) (small .1)

@@ -39,7 +39,8 @@ use Rattle.host_history.proofs.Leaving.{kind-undone}
 pub server-placed : (bytes : List ℕ) (s : Server) → length bytes ≡ 272 → FitsServer s
     → Lies serverIn Canonical (placed 0 (serverBytes s) bytes) s
 server-placed =
-    placed-lies serverIn serverBytes FitsServer Canonical (λ bytes canonical. canonical .size) server-canonical server-back
+    placed-lies serverIn serverBytes FitsServer Canonical (λ bytes canonical. canonical .size) server-canonical
+    server-back
 
 -- The call is that event: it shows its turn, is of the same start, and goes on the books as it does.
 pub record ServerFollows (side : Side (List ℕ)) (call : ServerCall) (x : Export) (e : ServerEvent) : Type 0 where
@@ -72,7 +73,8 @@ module _ (side : Side (List ℕ)) (canonical : Canonical (side .machine)) where
       }) (serverTurn known e .slots) (serverTurn known e)
   given-shown e slots small =
       shown serverIn serverBytes FitsServer Canonical (λ bytes good. good .size) server-canonical server-back
-      (side .machine) (serverTurn known e) slots canonical (server-turn-fits known e fits small) (server-turn-sent known e)
+      (side .machine) (serverTurn known e) slots canonical (server-turn-fits known e fits small)
+      (server-turn-sent known e)
       (λ (other : serverTurn known e .answer ≡ Done → ⊥). server-refused known e other .machine)
 
   size-here : sized (side .machine) ≡ true
@@ -83,7 +85,8 @@ module _ (side : Side (List ℕ)) (canonical : Canonical (side .machine)) where
   judged : (call : ServerCall) (x y : Export) (es : List Event) → ServerMeets side call x es
       → ServerMeets side call (choose (sized (side .machine)) x y) es
   judged call x y es meets =
-      subst (λ (z : Export). ServerMeets side call z es) (sym (choose-true (sized (side .machine)) x y size-here)) meets
+      subst (λ (z : Export). ServerMeets side call z es) (sym (choose-true (sized (side .machine)) x y size-here))
+      meets
 
   timer-follows : (kind ticket : ℕ) (out : List ℕ) → ticket < 18446744073709551616 → Octets out
       → ServerFollows side (ServerTimer kind ticket out)
@@ -104,7 +107,11 @@ module _ (side : Side (List ℕ)) (canonical : Canonical (side .machine)) where
       (record { shows = given-shown (ArriveOf p lent out) _ small; subject = λ w answer. refl; replies = λ b t. refl })
   server-meets (ServerTransmit message out) small =
       judged (ServerTransmit message out) _ _ (OfServer (TransmitOf message out) ∷ [])
-      (record { shows = given-shown (TransmitOf message out) [] small; subject = λ w answer. refl; replies = λ b t. refl })
+      (record {
+        shows = given-shown (TransmitOf message out) [] small;
+        subject = λ w answer. refl;
+        replies = λ b t. refl;
+      })
   server-meets (ServerTimer kind ticket out) small =
       judged (ServerTimer kind ticket out) _ _ (meantToServer (ServerTimer kind ticket out))
       (choice-pair (ServerMeets side (ServerTimer kind ticket out)) (eqb kind 3) _ _ _ _

@@ -3,7 +3,6 @@ use Prim.Native.Nat.{ℕ}
 use mathlib.Core.Bool.{Bool, true, false}
 use mathlib.Core.List.{List}
 use mathlib.Core.Path.{_≡_, refl, sym, ap, subst, _∙_}
-use lib.Dec.{eqb}
 use lib.ListN.{length}
 use borrow.Author.Tests.{eqb-false}
 use Rattle.words.specs.Choice.{choose}
@@ -16,25 +15,26 @@ use Rattle.record_bytes.proofs.Keeping.{choice-by}
 use Rattle.history.specs.Steps.{isDone, Turn}
 use Rattle.morphelai.specs.Result.{resultOf}
 use Rattle.morphelai.specs.Export.{Export, keptBytes}
-use Rattle.host_history.specs.Results.{answerIn, noticeIn, sentIn}
 use Rattle.host_history.specs.Hosts.{turnOf}
 use Rattle.host_history.proofs.Unpacking.{FitsSent, result-answer, result-notice, result-sent}
 
 -- The bytes are canonical and stand for that record.
-pub record Lies {Machine : Type 0} (recordIn : List ℕ → Machine) (Canonical : List ℕ → Type 0) (bytes : List ℕ) (m : Machine) : Type 0 where
+pub record Lies {Machine : Type 0} (recordIn : List ℕ → Machine) (Canonical : List ℕ → Type 0) (bytes : List ℕ)
+    (m : Machine) : Type 0 where
   pub canonical : Canonical bytes
   pub same : recordIn bytes ≡ m
 
 -- What a host sees of an export is that turn, and the bytes left are canonical.
-pub record Shows {Machine : Type 0} (recordIn : List ℕ → Machine) (Canonical : List ℕ → Type 0) (x : Export) (slots : List ℕ)
-    (t : Turn Machine) : Type 0 where
+pub record Shows {Machine : Type 0} (recordIn : List ℕ → Machine) (Canonical : List ℕ → Type 0) (x : Export)
+    (slots : List ℕ) (t : Turn Machine) : Type 0 where
   pub canonical : Canonical (x .bytes)
   pub same : turnOf recordIn x slots ≡ t
 
 -- For either machine's record, as its bytes lay it out.
 module _ {Machine : Type 0} (recordIn : List ℕ → Machine) (bytesOf : Machine → List ℕ) (Fits : Machine → Type 0)
     (Canonical : List ℕ → Type 0) (size : (bytes : List ℕ) → Canonical bytes → length bytes ≡ 272)
-    (encodes : (m : Machine) → Fits m → Canonical (bytesOf m)) (back : (m : Machine) → Fits m → recordIn (bytesOf m) ≡ m) where
+    (encodes : (m : Machine) → Fits m → Canonical (bytesOf m))
+    (back : (m : Machine) → Fits m → recordIn (bytesOf m) ≡ m) where
   -- The bytes of a record that fits, put in place of any 272 others.
   pub placed-lies : (bytes : List ℕ) (m : Machine) → length bytes ≡ 272 → Fits m
       → Lies recordIn Canonical (placed 0 (bytesOf m) bytes) m

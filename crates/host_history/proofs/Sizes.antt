@@ -2,7 +2,7 @@
 use Prim.Native.Nat.{ℕ, _≤_}
 use mathlib.Core.Bool.{true, false}
 use mathlib.Core.List.{List, []}
-use mathlib.Core.Path.{_≡_, refl, ap, _∙_}
+use mathlib.Core.Path.{_≡_, refl, ap}
 use native.Mathlib.Omega.{arith}
 use lib.Dec.{eqb}
 use lib.ListN.{length}
@@ -56,7 +56,8 @@ unfolding posting
 posted-fits h body out = sent-of-fits (writing h body out .result .length) (written-short h body out)
 
 -- What either side sends,
-client-sent-fits : (send : ClientSend) (c : Client) (message out : List ℕ) → FitsSent (clientSent send c message out .sent)
+client-sent-fits : (send : ClientSend) (c : Client) (message out : List ℕ)
+    → FitsSent (clientSent send c message out .sent)
 unfolding clientSent requestSent clientEmpty clientFack
 client-sent-fits NoneOfClient c message out = tt
 client-sent-fits (Request f) c message out = posted-fits _ _ out

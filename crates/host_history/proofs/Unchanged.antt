@@ -2,19 +2,17 @@
 use Prim.Native.Nat.{ℕ}
 use mathlib.Core.List.{List}
 use mathlib.Core.Path.{_≡_, refl}
-use Rattle.words.specs.Choice.{choose}
 use Rattle.words.proofs.Tests.{choose-false}
 use Rattle.answers.specs.declared.Answer.{Answer}
 use Rattle.answers.specs.declared.Answer.the-variants.{Done}
 use Rattle.client_record.specs.declared.Client.{Client}
 use Rattle.server_record.specs.declared.Server.{Server}
-use Rattle.history.specs.World.{Started, Replied, Side, Books, World}
+use Rattle.history.specs.World.{Started, Side, Books, World}
 use Rattle.history.specs.Steps.{isDone, sentAfter, lastStart, dispatchesAfter, completionsAfter, Turn, completionEntry, dispatchEntry}
 use Rattle.history.proofs.Refused.{same-own}
 use Rattle.morphelai.specs.Export.{Export}
-use Rattle.host_history.specs.Results.{answerIn}
 use Rattle.host_history.specs.Hosts.{HostWorld, worldOf, ClientCall, ServerCall, HostCall, ClientStart, ClientTransmit, ClientArrive, ClientTimer, ServerArrive, ServerTransmit, ServerTimer, ServerReply, ServerFault, ToClient, ToServer, clientExport, serverExport, exported, clientSlots, serverSlots, clientSeen, serverSeen, startsSeen, repliesSeen, subjectSeen, hostStep}
-use Rattle.host_history.specs.Refusal.{Undone, Refused, clientLends, serverLends}
+use Rattle.host_history.specs.Refusal.{Undone, clientLends, serverLends}
 use Rattle.host_history.proofs.Leaving.{not-zero}
 use Rattle.host_history.proofs.Refusals.{refused-leaves}
 
@@ -44,7 +42,8 @@ starts-same before (ClientArrive p lent out) t other = refl
 starts-same before (ClientTimer kind ticket out) t other = refl
 
 -- the replies,
-replies-same : (b : Books) (call : ServerCall) (t : Turn Server) → (t .answer ≡ Done → ⊥) → repliesSeen b call t ≡ b .replies
+replies-same : (b : Books) (call : ServerCall) (t : Turn Server) → (t .answer ≡ Done → ⊥)
+    → repliesSeen b call t ≡ b .replies
 replies-same b (ServerArrive p lent out) t other = refl
 replies-same b (ServerTransmit message out) t other = refl
 replies-same b (ServerTimer kind ticket out) t other = refl
@@ -62,7 +61,8 @@ standing-same w (ServerTimer kind ticket out) answer other = refl
 standing-same w (ServerReply n message) answer other = refl
 standing-same w (ServerFault status out) answer other = refl
 
-client-unchanged : (h : HostWorld) (call : ClientCall) → Undone (clientExport (h .client) call) → hostStep h (ToClient call) ≡ h
+client-unchanged : (h : HostWorld) (call : ClientCall) → Undone (clientExport (h .client) call)
+    → hostStep h (ToClient call) ≡ h
 unfolding hostStep sentAfter completionsAfter
 client-unchanged h call undone =
     let x = clientExport (h .client) call in
@@ -83,12 +83,14 @@ client-unchanged h call undone =
             dispatches = h .books .dispatches;
             replies = h .books .replies;
             completions =
-                completionsAfter (h .books .completions) (r .untold i) (completionEntry starts (t .machine) (t .slots));
+                completionsAfter (h .books .completions) (r .untold i)
+                (completionEntry starts (t .machine) (t .slots));
             standing = h .books .standing;
           };
     }
 
-server-unchanged : (h : HostWorld) (call : ServerCall) → Undone (serverExport (h .server) call) → hostStep h (ToServer call) ≡ h
+server-unchanged : (h : HostWorld) (call : ServerCall) → Undone (serverExport (h .server) call)
+    → hostStep h (ToServer call) ≡ h
 unfolding hostStep sentAfter dispatchesAfter
 server-unchanged h call undone =
     let x = serverExport (h .server) call in
@@ -106,7 +108,8 @@ server-unchanged h call undone =
       books =
           record {
             starts = h .books .starts;
-            dispatches = dispatchesAfter (h .books .dispatches) (r .untold i) (dispatchEntry of (t .machine) (t .slots));
+            dispatches =
+                dispatchesAfter (h .books .dispatches) (r .untold i) (dispatchEntry of (t .machine) (t .slots));
             replies = replies-same (h .books) call t undone i;
             completions = h .books .completions;
             standing = standing-same (worldOf h) call (t .answer) undone i;

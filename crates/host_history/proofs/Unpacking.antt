@@ -1,6 +1,5 @@
 -- What a host reads of a result is the answer, the notice and what was sent.
 use Prim.Native.Nat.{ℕ, _/_, _%_, _<_, _≤_}
-use mathlib.Core.Bool.{false}
 use mathlib.Core.Path.{_≡_, refl, ap, _∙_}
 use native.Mathlib.Omega.{arith}
 use lib.Dec.{eqb}
@@ -141,7 +140,8 @@ module _ (a : Answer) (n : Notice) (s : Sent) where
   pub result-sent : FitsSent s → sentIn (resultOf a n s) ≡ s
   unfolding sentIn resultOf
   result-sent fits =
-      ap sentAt (packed-length _ _ _ (noticeValue n) (answer-small a) (kind-small n) (length-small s)) ∙ sent-back s fits
+      ap sentAt (packed-length _ _ _ (noticeValue n) (answer-small a) (kind-small n) (length-small s))
+      ∙ sent-back s fits
 
 -- A result that is an answer's number alone tells nothing and sends nothing.
 pub result-alone : (a : Answer) → resultOf a Untold Nothing ≡ numberOf a

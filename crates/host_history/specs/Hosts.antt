@@ -1,6 +1,6 @@
 -- A host that calls exports only: what it keeps, the calls that it makes, and what it keeps after each.
 use Prim.Native.Nat.{ℕ}
-use mathlib.Core.List.{List, [], _∷_, _++_}
+use mathlib.Core.List.{List, [], _∷_}
 use lib.Dec.{eqb}
 use Rattle.client_record.specs.declared.Client.{Client}
 use Rattle.client_bytes.specs.Layout.{clientIn}

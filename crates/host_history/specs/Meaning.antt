@@ -12,7 +12,7 @@ use Rattle.record_bytes.specs.Fits.{Octets}
 use Rattle.client_bytes.specs.Canonical.{Canonical as ClientCanonical}
 use Rattle.server_bytes.specs.Canonical.{Canonical as ServerCanonical}
 use Rattle.history.specs.World.{World}
-use Rattle.history.specs.Events.{ClientEvent, ServerEvent, Event, Start, ClientTransmit as TransmitOfClient, ClientArrive as ArriveOfClient, ClientTimer as TimerOfClient, ServerArrive as ArriveOfServer, ServerTransmit as TransmitOfServer, ServerTimer as TimerOfServer, Reply, Fault, OfClient, OfServer}
+use Rattle.history.specs.Events.{Event, Start, ClientTransmit as TransmitOfClient, ClientArrive as ArriveOfClient, ClientTimer as TimerOfClient, ServerArrive as ArriveOfServer, ServerTransmit as TransmitOfServer, ServerTimer as TimerOfServer, Reply, Fault, OfClient, OfServer}
 use Rattle.history.specs.Steps.{answerTo, noticeOf, leftIn}
 use Rattle.history.specs.Fairness.{Premise}
 use Rattle.history.specs.Freshness.{Unwritten}

@@ -7,7 +7,6 @@ use Rattle.answers.specs.Number.{numberOf}
 use Rattle.calls.specs.declared.Notice.the-variants.{Nothing as Untold}
 use Rattle.calls.specs.declared.Sent.the-variants.{Nothing}
 use Rattle.history.specs.World.{Side}
-use Rattle.history.specs.Events.{Lent}
 use Rattle.history.specs.Steps.{bytesLent}
 use Rattle.morphelai.specs.Export.{Export}
 use Rattle.host_history.specs.Results.{answerIn, noticeIn, sentIn}
