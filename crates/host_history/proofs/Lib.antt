@@ -4,3 +4,15 @@ pub mod ClientFields
 pub mod ClientKeeps
 pub mod ServerFields
 pub mod ServerKeeps
+pub mod Unpacking
+pub mod Sizes
+pub mod Leaving
+pub mod Refusals
+pub mod Shown
+pub mod ClientCalls
+pub mod ServerCalls
+pub mod Unchanged
+pub mod SameRun
+pub mod FreshHosts
+pub mod HostTheorem
+pub mod Handing

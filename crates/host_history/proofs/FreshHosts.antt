@@ -1,0 +1,122 @@
+-- What morphelai_client_fresh and morphelai_server_fresh leave stands for fresh records.
+use Prim.Native.Nat.{ℕ}
+use mathlib.Core.Bool.{Bool, true, false}
+use mathlib.Core.List.{List, []}
+use mathlib.Core.Path.{_≡_, refl, sym, ap, subst, _∙_}
+use native.Mathlib.Omega.{arith}
+use lib.Dec.{eqb}
+use lib.ListN.{length}
+use borrow.Author.Tests.{eqb-true}
+use Rattle.words.specs.Choice.{choose, both}
+use Rattle.words.proofs.Tests.{choose-true, both-true}
+use Rattle.record_bytes.specs.Fits.{Octets, Uuid}
+use Rattle.record_bytes.specs.Parts.{uuidIn}
+use Rattle.client_record.specs.Record.{fresh as clientRecord}
+use Rattle.client_bytes.specs.Layout.{clientIn}
+use Rattle.client_bytes.specs.Canonical.{Canonical as ClientCanonical}
+use Rattle.server_record.specs.Record.{fresh as serverRecord}
+use Rattle.server_bytes.specs.Layout.{serverIn}
+use Rattle.server_bytes.specs.Canonical.{Canonical as ServerCanonical}
+use Rattle.history.specs.Freshness.{FreshClient, FreshServer, Fresh}
+use Rattle.history.proofs.Beginning.{client-record-fresh, server-record-fresh}
+use Rattle.morphelai.specs.Export.{Export, sized, refusing}
+use Rattle.morphelai.specs.ClientDoor.{clientFresh}
+use Rattle.morphelai.specs.ServerDoor.{serverFresh}
+use Rattle.host_history.specs.Hosts.{HostWorld, worldOf}
+use Rattle.host_history.specs.Meaning.{FreshClientBytes, FreshServerBytes, FreshHost, Keeps}
+use Rattle.host_history.proofs.ClientFields.{fresh-client-fits}
+use Rattle.host_history.proofs.ServerFields.{fresh-server-fits}
+use Rattle.host_history.proofs.Shown.{Lies}
+use Rattle.host_history.proofs.ClientCalls.{uuid-given, client-placed}
+use Rattle.host_history.proofs.ServerCalls.{server-placed}
+
+-- What is answered 0 passed its test, so its bytes are those left there.
+passed : (test : Bool) (x : Export) (bytes : List ℕ) → choose test x (refusing bytes [] []) .result ≡ 0 → test ≡ true
+unfolding choose refusing
+passed true x bytes e = refl
+passed false x bytes e = absurd (omega arith)
+
+left-there : (test : Bool) (x : Export) (bytes : List ℕ) → test ≡ true
+    → choose test x (refusing bytes [] []) .bytes ≡ x .bytes
+left-there test x bytes e = ap (λ (y : Export). y .bytes) (choose-true test x (refusing bytes [] []) e)
+
+-- The record lent has 272 bytes, and the activity 16.
+record Sized (lent activity : List ℕ) : Type 0 where
+  size : length lent ≡ 272
+  uuid : Octets activity → Uuid (uuidIn activity 0)
+
+sizes : (lent activity : List ℕ) → both (sized lent) (eqb (length activity) 16) ≡ true → Sized lent activity
+unfolding sized
+sizes lent activity e =
+    let tests = both-true _ _ e in
+    record {
+      size = eqb-true (length lent) 272 (tests .0);
+      uuid =
+          λ octets.
+          subst Uuid (sym (uuid-given activity (tests .1)))
+          (record { size = eqb-true (length activity) 16 (tests .1); octets = octets });
+    }
+
+module _ (bytes : List ℕ) (f : FreshClientBytes bytes) where
+  client-test : both (sized (f .lent)) (eqb (length (f .activity)) 16) ≡ true
+  unfolding clientFresh
+  client-test = passed _ _ (f .lent) (f .answered)
+
+  client-uuid : Uuid (uuidIn (f .activity) 0)
+  client-uuid = sizes (f .lent) (f .activity) client-test .uuid (f .octets)
+
+  -- The bytes stand for the record that client_record::fresh gives,
+  fresh-client-lies : Lies clientIn ClientCanonical bytes (clientRecord (uuidIn (f .activity) 0) (f .tickets))
+  unfolding clientFresh
+  fresh-client-lies =
+      let c = clientRecord (uuidIn (f .activity) 0) (f .tickets) in
+      subst (λ (b : List ℕ). Lies clientIn ClientCanonical b c) (sym (f .left ∙ left-there _ _ (f .lent) client-test))
+      (client-placed (f .lent) c (sizes (f .lent) (f .activity) client-test .size)
+      (fresh-client-fits (uuidIn (f .activity) 0) (f .tickets) client-uuid (f .small)))
+
+  -- which is fresh.
+  pub fresh-client : FreshClient (clientIn bytes)
+  fresh-client =
+      subst FreshClient (sym (fresh-client-lies .same))
+      (client-record-fresh (uuidIn (f .activity) 0) (f .tickets) (client-uuid .size))
+
+module _ (bytes : List ℕ) (f : FreshServerBytes bytes) where
+  server-test : both (sized (f .lent)) (eqb (length (f .activity)) 16) ≡ true
+  unfolding serverFresh
+  server-test = passed _ _ (f .lent) (f .answered)
+
+  server-uuid : Uuid (uuidIn (f .activity) 0)
+  server-uuid = sizes (f .lent) (f .activity) server-test .uuid (f .octets)
+
+  -- The bytes stand for the record that server_record::fresh gives,
+  fresh-server-lies :
+      Lies serverIn ServerCanonical bytes (serverRecord (uuidIn (f .activity) 0) (f .boot) (f .tickets))
+  unfolding serverFresh
+  fresh-server-lies =
+      let s = serverRecord (uuidIn (f .activity) 0) (f .boot) (f .tickets) in
+      subst (λ (b : List ℕ). Lies serverIn ServerCanonical b s) (sym (f .left ∙ left-there _ _ (f .lent) server-test))
+      (server-placed (f .lent) s (sizes (f .lent) (f .activity) server-test .size)
+      (fresh-server-fits (uuidIn (f .activity) 0) (f .boot) (f .tickets) server-uuid (f .booted) (f .small)))
+
+  -- which is fresh.
+  pub fresh-server : FreshServer (serverIn bytes)
+  fresh-server =
+      subst FreshServer (sym (fresh-server-lies .same))
+      (server-record-fresh (uuidIn (f .activity) 0) (f .boot) (f .tickets) (server-uuid .size) (f .booted))
+
+-- A host that begins keeps canonical bytes, and its world is a fresh one.
+module _ (h : HostWorld) (f : FreshHost h) where
+  pub fresh-keeps : Keeps h
+  fresh-keeps = record {
+    client = fresh-client-lies (h .client .machine) (f .client) .canonical;
+    server = fresh-server-lies (h .server .machine) (f .server) .canonical;
+  }
+
+  pub fresh-world : Fresh (worldOf h)
+  fresh-world = record {
+    client = fresh-client (h .client .machine) (f .client);
+    server = fresh-server (h .server .machine) (f .server);
+    client-unsent = f .client-unsent;
+    server-unsent = f .server-unsent;
+    books = f .books;
+  }
