@@ -3,3 +3,4 @@ pub mod Returns
 pub mod ClientReturns
 pub mod ServerReturns
 pub mod CodecReturns
+pub mod Exact
