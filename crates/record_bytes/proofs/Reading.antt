@@ -112,7 +112,7 @@ last-fits n e = by-tests (ltb n 256) (eqb n 65535) refl e
 -- and the count of a side. It is the bytes' own where they are readable, else one that no record may have.
 pub count-again : (readable : Bool) (count : ℕ) → readable ≡ true → countWhere readable count ≡ count
 unfolding countWhere
-count-again readable count e = choose-true readable count 255 e
+count-again readable count e = choose-true readable count _ e
 
 pub count-broken : (readable : Bool) (count : ℕ) → readable ≡ false → leb (countWhere readable count) 5 ≡ false
 unfolding countWhere choose
