@@ -1,14 +1,14 @@
 -- What morphelai_client_fresh and morphelai_server_fresh leave stands for fresh records.
-use Prim.Native.Nat.{ℕ}
+use Prim.Native.Nat.{ℕ, _<_}
 use mathlib.Core.Bool.{Bool, true, false}
 use mathlib.Core.List.{List, []}
 use mathlib.Core.Path.{_≡_, refl, sym, ap, subst, _∙_}
 use native.Mathlib.Omega.{arith}
 use lib.Dec.{eqb}
 use lib.ListN.{length}
-use borrow.Author.Tests.{eqb-true}
+use borrow.Author.Tests.{eqb-true, eq-eqb}
 use Rattle.words.specs.Choice.{choose, both}
-use Rattle.words.proofs.Tests.{choose-true, both-true}
+use Rattle.words.proofs.Tests.{choose-true, both-hold, both-true}
 use Rattle.record_bytes.specs.Fits.{Octets, Uuid}
 use Rattle.record_bytes.specs.Parts.{uuidIn}
 use Rattle.client_record.specs.Record.{fresh as clientRecord}
@@ -103,6 +103,44 @@ module _ (bytes : List ℕ) (f : FreshServerBytes bytes) where
   fresh-server =
       subst FreshServer (sym (fresh-server-lies .same))
       (server-record-fresh (uuidIn (f .activity) 0) (f .boot) (f .tickets) (server-uuid .size) (f .booted))
+
+-- And any 272 bytes with an activity of 16 are made fresh: there are hosts that begin.
+answered-there : (lent activity : List ℕ) (x : Export) → length lent ≡ 272 → length activity ≡ 16
+    → x .result ≡ 0 → choose (both (sized lent) (eqb (length activity) 16)) x (refusing lent [] []) .result ≡ 0
+unfolding sized
+answered-there lent activity x whole size zero =
+    ap (λ (y : Export). y .result)
+    (choose-true _ x (refusing lent [] [])
+    (both-hold _ _ (eq-eqb (length lent) 272 whole) (eq-eqb (length activity) 16 size)))
+    ∙ zero
+
+pub client-begins : (lent activity : List ℕ) (tickets : ℕ) → length lent ≡ 272 → Uuid activity
+    → tickets < 18446744073709551616 → FreshClientBytes (clientFresh lent activity tickets .bytes)
+unfolding clientFresh
+client-begins lent activity tickets whole uuid small = record {
+  lent = lent;
+  activity = activity;
+  tickets = tickets;
+  octets = uuid .octets;
+  small = small;
+  answered = answered-there lent activity _ whole (uuid .size) refl;
+  left = refl;
+}
+
+pub server-begins : (lent activity : List ℕ) (boot tickets : ℕ) → length lent ≡ 272 → Uuid activity → boot < 4294967296
+    → tickets < 18446744073709551616 → FreshServerBytes (serverFresh lent activity boot tickets .bytes)
+unfolding serverFresh
+server-begins lent activity boot tickets whole uuid booted small = record {
+  lent = lent;
+  activity = activity;
+  boot = boot;
+  tickets = tickets;
+  octets = uuid .octets;
+  booted = booted;
+  small = small;
+  answered = answered-there lent activity _ whole (uuid .size) refl;
+  left = refl;
+}
 
 -- A host that begins keeps canonical bytes, and its world is a fresh one.
 module _ (h : HostWorld) (f : FreshHost h) where

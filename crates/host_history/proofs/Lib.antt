@@ -1,4 +1,5 @@
--- Every event keeps the widths of the record's fields.
+-- Every event keeps the widths of the record's fields; a host that calls exports only has a history of the theorem's
+-- world.
 pub mod Headers
 pub mod ClientFields
 pub mod ClientKeeps
@@ -8,10 +9,10 @@ pub mod Unpacking
 pub mod Sizes
 pub mod Leaving
 pub mod Refusals
+pub mod Unchanged
 pub mod Shown
 pub mod ClientCalls
 pub mod ServerCalls
-pub mod Unchanged
 pub mod SameRun
 pub mod FreshHosts
 pub mod HostTheorem
