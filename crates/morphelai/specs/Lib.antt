@@ -3,4 +3,4 @@ pub mod Result
 pub mod Export
 pub mod ClientDoor
 pub mod ServerDoor
--- pub mod CodecDoor
+pub mod CodecDoor

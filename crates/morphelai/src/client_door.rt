@@ -36,10 +36,7 @@ fn keep(o: Outcome, bytes: &mut [u8])
 pub extern "C" fn morphelai_client_fresh(bytes: &mut [u8], activity: &[u8], tickets: u64) -> u64
     ensures { λ r. ⌜ Exported (clientFresh (now (bytes .entry)) (now (activity .entry)) tickets) r (now (bytes .exit)) [] [] ⌝ }
 {
-    if words::both(
-        bytes.len() == record_bytes::SIZE,
-        activity.len() == 16,
-    ) {
+    if words::both(bytes.len() == record_bytes::SIZE, activity.len() == 16) {
         let fresh = client_record::fresh(record_bytes::uuid(activity, 0), tickets);
         client_bytes::encode(fresh, bytes);
         return 0;
@@ -137,7 +134,12 @@ fn run_out(c: Client, kind: TimerKind, ticket: u64, bytes: &mut [u8], out: &mut 
 
 // A timer of this kind that ran out, with its ticket: 1 is WAIT, 2 is ACK.
 #[no_mangle]
-pub extern "C" fn morphelai_client_timer(bytes: &mut [u8], kind: u8, ticket: u64, out: &mut [u8]) -> u64
+pub extern "C" fn morphelai_client_timer(
+    bytes: &mut [u8],
+    kind: u8,
+    ticket: u64,
+    out: &mut [u8],
+) -> u64
     ensures { λ r. ⌜ Exported (clientTimer (now (bytes .entry)) kind ticket (now (out .entry))) r (now (bytes .exit)) [] (now (out .exit)) ⌝ }
 {
     if bytes.len() != record_bytes::SIZE {

@@ -29,13 +29,15 @@ fn keep(o: Outcome, bytes: &mut [u8])
 
 // Makes a fresh record of an activity, whose first ticket is one more than this.
 #[no_mangle]
-pub extern "C" fn morphelai_server_fresh(bytes: &mut [u8], activity: &[u8], boot: u32, tickets: u64) -> u64
+pub extern "C" fn morphelai_server_fresh(
+    bytes: &mut [u8],
+    activity: &[u8],
+    boot: u32,
+    tickets: u64,
+) -> u64
     ensures { λ r. ⌜ Exported (serverFresh (now (bytes .entry)) (now (activity .entry)) boot tickets) r (now (bytes .exit)) [] [] ⌝ }
 {
-    if words::both(
-        bytes.len() == record_bytes::SIZE,
-        activity.len() == 16,
-    ) {
+    if words::both(bytes.len() == record_bytes::SIZE, activity.len() == 16) {
         let fresh = server_record::fresh(record_bytes::uuid(activity, 0), boot, tickets);
         server_bytes::encode(fresh, bytes);
         return 0;
@@ -76,7 +78,12 @@ pub extern "C" fn morphelai_server_arrive(
 
 // The timer of this kind that ran out, with its ticket: 3 is RESEND.
 #[no_mangle]
-pub extern "C" fn morphelai_server_timer(bytes: &mut [u8], kind: u8, ticket: u64, out: &mut [u8]) -> u64
+pub extern "C" fn morphelai_server_timer(
+    bytes: &mut [u8],
+    kind: u8,
+    ticket: u64,
+    out: &mut [u8],
+) -> u64
     ensures { λ r. ⌜ Exported (serverTimer (now (bytes .entry)) kind ticket (now (out .entry))) r (now (bytes .exit)) [] (now (out .exit)) ⌝ }
 {
     if bytes.len() != record_bytes::SIZE {

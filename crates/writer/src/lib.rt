@@ -133,6 +133,16 @@ fn put_header(h: Header, body: u16, out: &mut [u8])
     put_behind(middle, further, last, out);
 }
 
+// Lays the 80 bytes of a header down; where they do not fit, the buffer stays as it was.
+pub fn write_header(h: Header, body: u16, out: &mut [u8])
+    ensures { λ _. ⌜ now (out .exit) ≡ placed 0 (headerBytes h body) (now (out .entry)) ⌝ }
+{
+    if out.len() < HEADER_SIZE {
+        return;
+    }
+    put_header(h, body, out);
+}
+
 // Writes a PDU into a lent buffer, or refuses it and leaves every byte as it was.
 pub fn write(h: Header, body: &[u8], out: &mut [u8]) -> Written
     ensures { λ r. ⌜ Wrote (writing h (now (body .entry)) (now (out .entry))) r (now (out .exit)) ⌝ }

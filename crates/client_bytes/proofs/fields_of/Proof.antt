@@ -7,7 +7,7 @@ use Rattle.client_bytes.proofs.fields_of.Tie as tie
 returns : tie.Need-returns
 unfolding fieldsOf
 returns c =
-        rw (
+    rw (
       c .timer-ticket .ensures,
       c .before .is-armed .ensures,
       c .before .before .state-number .ensures,

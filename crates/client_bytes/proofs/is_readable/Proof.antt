@@ -7,7 +7,7 @@ use Rattle.client_bytes.proofs.is_readable.Tie as tie
 returns : tie.Need-returns
 unfolding readable
 returns c =
-        rw (
+    rw (
       c .both2 .ensures,
       c .before .both .ensures,
       c .before .before .is-readable .ensures,

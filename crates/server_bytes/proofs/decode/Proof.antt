@@ -7,7 +7,7 @@ use Rattle.server_bytes.proofs.decode.Tie as tie
 returns : tie.Need-returns
 unfolding serverIn
 returns c =
-        rw (
+    rw (
       c .server-of .ensures,
       c .before .decode .ensures,
       c .before .before .number32 .ensures,

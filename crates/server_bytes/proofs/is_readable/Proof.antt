@@ -7,7 +7,7 @@ use Rattle.server_bytes.proofs.is_readable.Tie as tie
 returns : tie.Need-returns
 unfolding readable
 returns c =
-        rw (
+    rw (
       c .both4 .ensures,
       c .before .both3 .ensures,
       c .before .before .both2 .ensures,

@@ -1,2 +1,0 @@
-pub mod EventLaws
-pub mod CommandLaws

@@ -1,3 +1,0 @@
-pub mod HeldLaws
-pub mod PairLaws
-pub mod TextLaws

@@ -1,4 +1,0 @@
-pub mod Answer
-pub mod Held
-pub mod Notice
-pub mod Numbers
