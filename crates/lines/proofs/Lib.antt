@@ -1,6 +1,4 @@
--- The laws of lines, of text, of rows and of messages.
-pub mod ChoiceLaws
+-- The laws of lines, of numbers as text and of messages.
 pub mod LineLaws
 pub mod MessageLaws
-pub mod RowLaws
 pub mod TextLaws

@@ -1,6 +1,6 @@
 -- Laws of text put behind what a buffer has in use.
 use Prim.Native.Nat.{ℕ, suc, _+_, _≤_, _<_}
-use mathlib.Core.List.{List, [], _∷_, _++_}
+use mathlib.Core.List.{List, [], _∷_}
 use mathlib.Core.Path.{_≡_, refl}
 use native.Mathlib.Omega.{arith}
 use native.Mathlib.Nat.{add-zero}
@@ -19,12 +19,6 @@ byte-put b used out h = search tests
 pub byte-left : (b used : ℕ) (out : List ℕ) → length out ≤ used → putByte b (line used out) ≡ line used out
 unfolding putByte
 byte-left b used out h = search tests
-
--- A text put behind another is the two put as one.
-pub written-append : (a b : List ℕ) (l : Line) → written (a ++ b) l ≡ written b (written a l)
-unfolding written
-written-append [] b l = refl
-written-append (x ∷ xs) b l = written-append xs b (putByte x l)
 
 one : (b used : ℕ) (out : List ℕ) → used < length out → set out used b ≡ placed used (b ∷ []) out
 unfolding putAt

@@ -1,20 +1,17 @@
--- Laws of numbers and bytes as text.
+-- Laws of numbers as text.
 use Prim.Native.Nat.{ℕ, zero, suc, _+_, _-_, _/_, _%_, _^_, _≤_, _<_}
 use mathlib.Core.List.{List, [], _∷_, _++_}
 use mathlib.Core.Path.{_≡_, refl, _∙_}
 use mathlib.Core.Bool.{Bool, true, false}
 use native.Mathlib.Omega.{arith}
-use native.Mathlib.Numerals.{add-one}
 use native.Mathlib.Nat.{pow-suc, one-le-pow, pow-le-pow-right}
-use lib.ListN.{length, getD, take, drop, drop-of-length-le}
-use lib.Seq.{drop-cons}
+use lib.ListN.{take}
 use lib.Dec.{ltb}
 use borrow.Author.Tests.{lt-ltb, le-ltb, ltb-true, ltb-false}
 use Rattle.words.specs.Choice.{choose}
-use Rattle.words.proofs.Tests.{choose-true, choose-false, tests}
+use Rattle.words.proofs.Tests.{choose-true, choose-false}
 use Rattle.io.specs.Digits.{glyph, digits, Fewest}
-use Rattle.lines.specs.Line.{Line, putByte, written}
-use Rattle.lines.specs.Text.{decimalBy, decimal, optional, hexDigit, hexDigits, hex}
+use Rattle.lines.specs.Text.{decimalBy, decimal}
 
 glyph-digit : (d : ℕ) → d < 10 → glyph d ≡ 48 + d
 glyph-digit d h = rw (lt-ltb d 10 h)
@@ -51,35 +48,3 @@ decimal-text v (suc (suc k)) out small few e =
     let same : suc (suc k) - 1 ≡ suc k = omega arith in
     let large : 10 ^ suc k ≤ v = rw same at (few .2 (omega arith)) in
     e ∙ decimal-digits 20 (suc k) v (few-digits (suc k) v small large) (few .1) (λ (h : 1 < suc (suc k)). large)
-
--- Bytes in hex, where there are none and where there are some.
-pub hex-none : (bytes : List ℕ) (l : Line) → length bytes ≡ 0 → written (hex bytes) l ≡ putByte 45 l
-unfolding written hex
-hex-none [] l h = refl
-hex-none (b ∷ bs) l h = let z : ⊥ = omega arith in elim z [ ]
-
-pub hex-some : (bytes : List ℕ) → (length bytes ≡ 0 → ⊥) → hexDigits bytes ≡ hex bytes
-unfolding hex
-hex-some [] h = elim (h refl) [ ]
-hex-some (b ∷ bs) h = refl
-
--- A number that is not known, and one that is.
-pub optional-none : (known v : ℕ) (l : Line) → known ≡ 0 → written (optional known v) l ≡ putByte 45 l
-unfolding written optional choose
-optional-none known v l h = rw h
-
-pub optional-some : (known v : ℕ) → (known ≡ 0 → ⊥) → optional known v ≡ decimal v
-unfolding optional
-optional-some known v h = search tests
-
--- A turn of a copy in hex, told by what is left of the bytes, and its end.
-module _ (bytes : List ℕ) (i : ℕ) (l goal : Line) (left : written (hexDigits (drop i bytes)) l ≡ goal) where
-  pub hex-turn : (high low : ℕ) (between after : Line) → i < length bytes
-      → high ≡ hexDigit (getD bytes i 0 / 16) → low ≡ hexDigit (getD bytes i 0)
-      → between ≡ putByte high l → after ≡ putByte low between → written (hexDigits (drop (i + 1) bytes)) after ≡ goal
-  unfolding written hexDigits
-  hex-turn high low between after h e f p q = rw (q, p, e, f, add-one i) (rw (drop-cons bytes i 0 h) at left)
-
-  pub hex-end : length bytes ≤ i → l ≡ goal
-  unfolding written hexDigits
-  hex-end h = rw (drop-of-length-le bytes h) at left
