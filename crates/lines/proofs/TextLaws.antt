@@ -8,7 +8,6 @@ use native.Mathlib.Nat.{pow-suc, one-le-pow, pow-le-pow-right}
 use lib.ListN.{take}
 use lib.Dec.{ltb}
 use borrow.Author.Tests.{lt-ltb, le-ltb, ltb-true, ltb-false}
-use Rattle.words.specs.Choice.{choose}
 use Rattle.words.proofs.Tests.{choose-true, choose-false}
 use Rattle.io.specs.Digits.{glyph, digits, Fewest}
 use Rattle.lines.specs.Text.{decimalBy, decimal}

@@ -6,7 +6,7 @@ use mathlib.Core.Path.{_≡_, refl, sym, ap, _∙_, subst}
 use lib.ListN.{length}
 use lib.Dec.{eqb}
 use borrow.Author.Tests.{eq-eqb, ne-eqb}
-use Rattle.words.specs.Choice.{choose, both}
+use Rattle.words.specs.Choice.{both}
 use Rattle.words.specs.Place.{placed}
 use Rattle.words.proofs.Tests.{choose-true, choose-false}
 use Rattle.calls.specs.declared.Call.{Call}
@@ -20,7 +20,7 @@ use Rattle.client_record.specs.Rules.{sound}
 use Rattle.client.specs.declared.Outcome.{Outcome}
 use Rattle.client.specs.Machine.{starting, transmitting, timing, arriving, handedUpOf}
 use Rattle.client_bytes.specs.Layout.{clientIn, clientBytes}
-use Rattle.morphelai.specs.Export.{Exported, sized, refusing, otherTimer, otherKind}
+use Rattle.morphelai.specs.Export.{Exported, sized, otherTimer, otherKind}
 use Rattle.morphelai.specs.ClientDoor.{clientResult, clientKept, clientStepped, clientFresh, callOf, startSized, clientStart, clientTransmit, clientArrive, clientTiming, clientTimer, clientPart}
 use Rattle.morphelai.proofs.Returns.{sized-so, sized-not, here, behind, refused, given-here, stepped-here, arrived-here}
 

@@ -6,7 +6,7 @@ use mathlib.Core.Path.{_≡_, refl, sym, ap, _∙_, subst}
 use lib.ListN.{length}
 use lib.Dec.{eqb}
 use borrow.Author.Tests.{eq-eqb, ne-eqb}
-use Rattle.words.specs.Choice.{choose, both}
+use Rattle.words.specs.Choice.{both}
 use Rattle.words.specs.Place.{placed}
 use Rattle.words.proofs.Tests.{choose-true, choose-false}
 use Rattle.calls.specs.Events.{Stepped, Arrived}
@@ -17,8 +17,8 @@ use Rattle.server_record.specs.Rules.{sound}
 use Rattle.server.specs.declared.Outcome.{Outcome}
 use Rattle.server.specs.Machine.{replying, transmitting, timing, faulting, arriving, handedUpOf}
 use Rattle.server_bytes.specs.Layout.{serverIn, serverBytes}
-use Rattle.morphelai.specs.Export.{Exported, sized, refusing, otherTimer, otherKind}
-use Rattle.morphelai.specs.ServerDoor.{serverResult, serverKept, serverStepped, serverFresh, serverArrive, serverTransmit, serverTiming, serverTimer, serverReply, serverFault, serverPart}
+use Rattle.morphelai.specs.Export.{Exported, sized, otherTimer, otherKind}
+use Rattle.morphelai.specs.ServerDoor.{serverResult, serverKept, serverFresh, serverArrive, serverTransmit, serverTiming, serverTimer, serverReply, serverFault, serverPart}
 use Rattle.morphelai.proofs.Returns.{sized-so, sized-not, here, behind, refused, given-here, stepped-here, arrived-here}
 
 -- fresh

@@ -8,7 +8,6 @@ use lib.Dec.{eqb}
 use Rattle.words.specs.Choice.{choose}
 use Rattle.words.specs.Place.{placed}
 use Rattle.answers.specs.Number.{numberOf}
-use Rattle.pdu.specs.declared.Header.{Header}
 use Rattle.pdu.specs.Header.{headerBytes, headerOf, bodyOf}
 use Rattle.reader.specs.declared.Reading.{Reading}
 use Rattle.reader.specs.Reading.{reading}

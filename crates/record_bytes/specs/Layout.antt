@@ -1,7 +1,7 @@
 -- A record of either side in 272 bytes: numbers little-endian, each field at its fixed place.
 use Prim.Native.Nat.{ℕ}
 use mathlib.Core.Bool.{Bool, true}
-use mathlib.Core.List.{List, [], _∷_, _++_}
+use mathlib.Core.List.{List, _∷_, _++_}
 use lib.ListN.{getD, drop, replicate}
 use lib.Dec.{eqb, ltb, leb}
 use Rattle.words.specs.Choice.{both, either}
