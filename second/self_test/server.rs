@@ -1,0 +1,290 @@
+//! Checks of the server against facts worked out by hand from document 01.
+
+use crate::codec::pdu::{flags1, pdu_type, BODY_LIMIT};
+use crate::machines::refusal::Refusal;
+use crate::self_test::self_test::check;
+use crate::self_test::server_stage::{
+    ack, arrive_header, fack, fault, fresh, ping, replied, reply, request, running, timer,
+    transmit, NUMBER, SERVER,
+};
+use crate::self_test::side::{done, header_of, only, sends, TICKETS, WHOLE_FACK};
+use crate::machines::effect::Notice;
+use crate::records::server::{ServerSide, State};
+use crate::self_test::stage::{message, Stage};
+
+const WHOLE: u8 = 0;
+const FIRST: u8 = flags1::FRAGMENT;
+const LAST: u8 = flags1::FRAGMENT | flags1::LAST_FRAGMENT;
+
+pub fn self_test() -> Result<(), &'static str> {
+    fresh_server()?;
+    whole_request()?;
+    two_fragment_request()?;
+    two_fragment_reply()?;
+    resend_to_the_limit()?;
+    held_fault()?;
+    idempotent_call()?;
+    newer_calls()
+}
+
+fn fresh_server() -> Result<(), &'static str> {
+    let mut stage = fresh();
+    let answer = ping(&mut stage, NUMBER);
+    let pdu = SERVER.bytes(pdu_type::NOCALL, 0, 0, 0, &[]);
+    check(
+        sends(&stage, &answer, &pdu, None),
+        "a ping of a fresh server",
+    )?;
+    check(
+        ack(&mut stage, 0) == Err(Refusal::NoRow) && fack(&mut stage, 0, 0) == Err(Refusal::NoRow),
+        "an ack or fack of a fresh server",
+    )?;
+    let header = header_of(pdu_type::FACK, 0, 0, 0);
+    let malformed = arrive_header(&mut stage, &header, &[0; 17]);
+    check(
+        malformed == Err(Refusal::MalformedBody),
+        "a malformed fack of a fresh server",
+    )?;
+    check(
+        stage.server == fresh().server,
+        "a fresh server that stays as it is",
+    )
+}
+
+/// A request of one fragment is dispatched and facked in the same step, unless it forbids that.
+fn whole_request() -> Result<(), &'static str> {
+    let mut stage = fresh();
+    let begun = request(&mut stage, NUMBER, WHOLE, 0, b"all");
+    let pdu = SERVER.bytes(pdu_type::FACK, 0, 0, 0, &WHOLE_FACK);
+    check(
+        sends(&stage, &begun, &pdu, Some(Notice::Dispatch)),
+        "the fack of a whole request",
+    )?;
+    check(
+        stage.server.state == State::Running && stage.hand_up::<ServerSide>(0) == b"all",
+        "a whole request dispatched",
+    )?;
+    let again = request(&mut stage, NUMBER, WHOLE, 0, b"ALL");
+    let pdu = SERVER.bytes(pdu_type::WORKING, 0, 0, 0, &[]);
+    check(
+        sends(&stage, &again, &pdu, None) && stage.hand_up::<ServerSide>(0) == b"all",
+        "the request again while it runs",
+    )?;
+    let asked = ping(&mut stage, NUMBER);
+    check(sends(&stage, &asked, &pdu, None), "a ping while it runs")?;
+    let silent = request(&mut fresh(), NUMBER, flags1::NO_FACK, 0, b"all");
+    check(
+        silent == only(Notice::Dispatch),
+        "a request that forbids a fack",
+    )
+}
+
+/// A request of two fragments, of which the second comes first.
+fn two_fragment_request() -> Result<(), &'static str> {
+    let mut stage = fresh();
+    let second = request(&mut stage, NUMBER, LAST, 1, b"end");
+    check(
+        second == done() && stage.server.state == State::Collect,
+        "the second fragment of a request",
+    )?;
+    check(
+        stage.hand_up::<ServerSide>(1).is_empty(),
+        "no part behind a gap",
+    )?;
+    let again = request(&mut stage, NUMBER, LAST, 1, b"END");
+    check(again == Err(Refusal::AlreadyHeld), "the second again")?;
+    let third = request(&mut stage, NUMBER, FIRST, 2, b"no");
+    check(third == Err(Refusal::Contradiction), "one above the last")?;
+    let other = request(&mut stage, NUMBER, FIRST | flags1::IDEMPOTENT, 0, b"no");
+    check(other == Err(Refusal::Contradiction), "another mark")?;
+    let asked = ping(&mut stage, NUMBER);
+    let pdu = SERVER.bytes(pdu_type::NOCALL, 0, 0, 0, &[]);
+    check(sends(&stage, &asked, &pdu, None), "a ping in COLLECT")?;
+    let first = request(&mut stage, NUMBER, FIRST, 0, b"beginning");
+    check(
+        first == only(Notice::Dispatch),
+        "the first fragment of a request",
+    )?;
+    check(
+        stage.hand_up::<ServerSide>(0) == b"beginning" && stage.hand_up::<ServerSide>(1) == b"end",
+        "the request's parts handed up",
+    )
+}
+
+fn two_fragment_reply() -> Result<(), &'static str> {
+    let mut stage = running(false);
+    check(reply(&mut stage, 1_393) == done(), "a reply")?;
+    let message = message(1_393, 9);
+    let first = transmit(&mut stage);
+    let pdu = SERVER.bytes(pdu_type::RESPONSE, FIRST, 1, 0, &message[..BODY_LIMIT]);
+    check(sends(&stage, &first, &pdu, None), "first of two fragments")?;
+    let request_again = request(&mut stage, NUMBER, WHOLE, 0, b"run");
+    check(
+        request_again == Err(Refusal::AlreadyHeld)
+            && ping(&mut stage, NUMBER) == Err(Refusal::AlreadyHeld),
+        "a request and a ping in REPLYING",
+    )?;
+    let second = transmit(&mut stage);
+    let pdu = SERVER.bytes(pdu_type::RESPONSE, LAST, 2, 1, &message[BODY_LIMIT..]);
+    check(
+        sends(&stage, &second, &pdu, None),
+        "second of two fragments",
+    )?;
+    check(
+        (stage.server.state, stage.server.own.resend) == (State::HeldData, Some(TICKETS + 1)),
+        "RESEND armed",
+    )?;
+    replay_and_ack(&mut stage, &message[BODY_LIMIT..])
+}
+
+/// A reply of two fragments is held; the first of them is acknowledged.
+fn replay_and_ack(stage: &mut Stage, second: &[u8]) -> Result<(), &'static str> {
+    check(fack(stage, NUMBER, 0) == done(), "a fack of one")?;
+    check(
+        fack(stage, NUMBER, 2) == Err(Refusal::Contradiction),
+        "a fack of three of two",
+    )?;
+    let asked = ping(stage, NUMBER);
+    let server = &stage.server;
+    check(
+        asked == done() && (server.state, server.outgoing.sent) == (State::Replying, 1),
+        "a replay from the first unacknowledged",
+    )?;
+    let again = transmit(stage);
+    let pdu = SERVER.bytes(pdu_type::RESPONSE, LAST, 3, 1, second);
+    check(sends(stage, &again, &pdu, None), "the second once more")?;
+    check(
+        ack(stage, NUMBER) == done() && stage.server.state == State::IdleSpent,
+        "an ack",
+    )?;
+    let spent = request(stage, NUMBER, WHOLE, 0, b"run");
+    check(spent == Err(Refusal::OldCall), "a spent request")
+}
+
+fn resend_to_the_limit() -> Result<(), &'static str> {
+    let mut stage = replied(false, 0);
+    for count in 1..=5 {
+        let ticket = TICKETS + count;
+        let late = timer(&mut stage, ticket - 1);
+        check(late == Err(Refusal::LateTimer), "a late RESEND timer")?;
+        let again = timer(&mut stage, ticket);
+        let server = &stage.server;
+        check(
+            again == done() && (server.state, server.own.resend) == (State::Replying, None),
+            "a RESEND timer with data",
+        )?;
+        let disarmed = timer(&mut stage, ticket);
+        check(
+            disarmed == Err(Refusal::NoRow),
+            "a RESEND timer in REPLYING",
+        )?;
+        let sent = transmit(&mut stage);
+        let pdu = SERVER.bytes(pdu_type::RESPONSE, 0, 1 + count as u8, 0, &[]);
+        check(sends(&stage, &sent, &pdu, None), "the reply once more")?;
+    }
+    let sixth = timer(&mut stage, TICKETS + 6);
+    let server = &stage.server;
+    check(
+        sixth == done()
+            && (server.state, server.own.resend, server.resends) == (State::IdleSpent, None, 5),
+        "the sixth RESEND timer",
+    )
+}
+
+fn held_fault() -> Result<(), &'static str> {
+    let mut stage = running(false);
+    let pdu = SERVER.bytes(pdu_type::FAULT, 0, 0, 0, &[3, 0, 1, 0x1c]);
+    let first = fault(&mut stage);
+    check(sends(&stage, &first, &pdu, None), "a fault")?;
+    check(stage.server.own.resend == Some(TICKETS + 1), "a fault held")?;
+    let asked = ping(&mut stage, NUMBER);
+    check(
+        sends(&stage, &asked, &pdu, None) && stage.server.own.resend == Some(TICKETS + 1),
+        "a fault sent again, the timer untouched",
+    )?;
+    let resent = timer(&mut stage, TICKETS + 1);
+    check(
+        sends(&stage, &resent, &pdu, None) && stage.server.own.resend == Some(TICKETS + 2),
+        "a fault sent again, the timer armed afresh",
+    )?;
+    check(
+        fack(&mut stage, NUMBER, 65_535) == done()
+            && fack(&mut stage, NUMBER, 0) == Err(Refusal::Contradiction),
+        "a fack of a fault",
+    )?;
+    check(
+        ack(&mut stage, NUMBER) == done() && stage.server.state == State::IdleSpent,
+        "an ack of a fault",
+    )
+}
+
+/// An idempotent call runs again after a reply of one fragment, and not after one of two.
+fn idempotent_call() -> Result<(), &'static str> {
+    let mut stage = replied(true, 1_392);
+    check(
+        (stage.server.state, stage.server.own.resend) == (State::IdleRepeatable, None),
+        "IDLE repeatable",
+    )?;
+    let unmarked = request(&mut stage, NUMBER, WHOLE, 0, b"run");
+    check(unmarked == Err(Refusal::OldCall), "the mark cleared")?;
+    let mut other = header_of(pdu_type::REQUEST, NUMBER, flags1::IDEMPOTENT, 0);
+    other.operation += 1;
+    let other = arrive_header(&mut stage, &other, b"run");
+    check(other == Err(Refusal::Contradiction), "another operation")?;
+    let again = request(&mut stage, NUMBER, LAST | flags1::IDEMPOTENT, 0, b"again");
+    check(
+        again == only(Notice::Dispatch) && stage.hand_up::<ServerSide>(0) == b"again",
+        "the call once more",
+    )?;
+    check(
+        stage.server.outgoing.serial == 0 && reply(&mut stage, 1_393) == done(),
+        "the serial from 0",
+    )?;
+    check(
+        transmit(&mut stage).is_ok() && transmit(&mut stage).is_ok(),
+        "a reply of two fragments",
+    )?;
+    check(stage.server.state == State::HeldData, "HELD")?;
+    check(
+        ack(&mut stage, NUMBER) == Err(Refusal::NoRow),
+        "an ack of an idempotent call",
+    )?;
+    let held = request(&mut stage, NUMBER, LAST | flags1::IDEMPOTENT, 0, b"again");
+    check(
+        held == done() && stage.server.state == State::Replying,
+        "the reply once more",
+    )
+}
+
+fn newer_calls() -> Result<(), &'static str> {
+    let mut stage = running(false);
+    let newer = request(&mut stage, NUMBER + 1, WHOLE, 0, b"next");
+    check(newer == Err(Refusal::NoRow), "a newer request in RUNNING")?;
+    let older = request(&mut stage, NUMBER - 1, WHOLE, 0, b"past");
+    check(older == Err(Refusal::OldCall), "an older request")?;
+    let mut asked = header_of(pdu_type::PING, NUMBER + 1, 0, 0);
+    asked.object = *b"some other uuids";
+    let answer = arrive_header(&mut stage, &asked, &[]);
+    let echoed = &stage.pdu_buffer[8..24] == b"some other uuids" && stage.pdu_buffer[64] == 8;
+    check(answer.is_ok() && echoed, "a nocall echoes the ping")?;
+    let mut stage = replied(false, 1_393);
+    let begun = request(&mut stage, u32::MAX, FIRST, 0, b"next");
+    let server = &stage.server;
+    check(
+        begun == done() && (server.state, server.number) == (State::Collect, u32::MAX),
+        "a newer request in HELD",
+    )?;
+    check(
+        (
+            server.own.resend,
+            server.outgoing.fragments,
+            server.outgoing.serial,
+        ) == (None, 0, 0),
+        "what a begin resets",
+    )?;
+    let maybe = request(&mut stage, u32::MAX, FIRST | flags1::MAYBE, 33, b"no");
+    check(
+        maybe == Err(Refusal::MaybeOrBroadcast),
+        "a request with maybe",
+    )
+}
