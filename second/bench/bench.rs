@@ -8,13 +8,13 @@ use crate::codec::pdu::Uuid;
 use crate::coverage::codec::{count_read, count_write};
 use crate::coverage::coverage::Coverage;
 use crate::coverage::step::{Counted, Step};
+use crate::door;
 use crate::door::invocation::{Invocation, Lent};
 use crate::door::layout::RECORD_LENGTH;
 use crate::door::outcome::outcome;
 use crate::door::places::RecordBytes;
 use crate::door::record_bytes::{decode, encode};
 use crate::door::step::{invocation_of, invoke, part, Door};
-use crate::door;
 use crate::machines::effect::Effect;
 use crate::machines::event::Event;
 use crate::machines::refusal::{answer, Refusal};
@@ -168,12 +168,7 @@ impl Bench {
     }
 
     /// A record becomes fresh, and its slots are as they are before anything is put.
-    pub fn fresh<S: Benched>(
-        &mut self,
-        activity: &[u8],
-        argument: S::FreshArgument,
-        tickets: u64,
-    ) {
+    pub fn fresh<S: Benched>(&mut self, activity: &[u8], argument: S::FreshArgument, tickets: u64) {
         S::post_mut(&mut self.posts).clear_slots();
         let result = self.invoke::<S>(&Invocation::Fresh {
             activity,

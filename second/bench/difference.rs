@@ -16,8 +16,15 @@ pub struct Difference {
 }
 
 /// The first place at which two buffers differ.
-fn first_place(name: &'static str, own: &[u8], other: &[u8]) -> Option<(&'static str, usize, u8, u8)> {
-    let place = own.iter().zip(other).position(|(own, other)| own != other)?;
+fn first_place(
+    name: &'static str,
+    own: &[u8],
+    other: &[u8],
+) -> Option<(&'static str, usize, u8, u8)> {
+    let place = own
+        .iter()
+        .zip(other)
+        .position(|(own, other)| own != other)?;
     Some((name, place, own[place], other[place]))
 }
 

@@ -21,7 +21,8 @@ impl Findings {
         if let Some(difference) = difference {
             self.differences += 1;
             if self.told.len() < TOLD {
-                self.told.push(format!("event {}: {difference}", self.events));
+                self.told
+                    .push(format!("event {}: {difference}", self.events));
             }
         }
     }
@@ -30,7 +31,8 @@ impl Findings {
     pub fn break_demand(&mut self, broken: String) {
         self.broken += 1;
         if self.told.len() < TOLD {
-            self.told.push(format!("event {}: demand 3 fails: {broken}\n", self.events));
+            self.told
+                .push(format!("event {}: demand 3 fails: {broken}\n", self.events));
         }
     }
 

@@ -1,7 +1,7 @@
 //! The bodies that are judged: those of a fault, a reject and a fack.
 
-use crate::codec::pdu::{pdu_type, ByteOrder, Pdu};
 use crate::codec::fack;
+use crate::codec::pdu::{pdu_type, ByteOrder, Pdu};
 
 /// The status of a fault or reject, which comes first; none where the body is under 4 bytes.
 pub fn status(body: &[u8], order: ByteOrder) -> Option<u32> {

@@ -37,14 +37,17 @@ fn argument_names<S: Callable>() -> Vec<String> {
     let mut names = Vec::new();
     for length in RECORD_LENGTHS {
         let functions = functions::<S>().into_iter();
-        names.extend(functions.map(|function| format!("{side} record of {length} bytes at {function}")));
+        names.extend(
+            functions.map(|function| format!("{side} record of {length} bytes at {function}")),
+        );
     }
     for what in [
         "a message is being sent",
         "no message is being sent",
         "the state is not listed",
     ] {
-        let answers = [1, 2].map(|answer| format!("{side} unreadable transmit where {what}: {answer}"));
+        let answers =
+            [1, 2].map(|answer| format!("{side} unreadable transmit where {what}: {answer}"));
         names.extend(answers);
     }
     let numbers = (0..32).chain(NUMBERS_BEYOND);

@@ -1,15 +1,15 @@
 //! What is counted of the client alone.
 
-use crate::records::client::{ClientSide, Start, TimerKind};
 use crate::codec::pdu::{flags1, pdu_type, Pdu};
-use crate::coverage::counts::Counts;
 use crate::coverage::boundary::Boundary;
+use crate::coverage::counts::Counts;
 use crate::coverage::side::{again_name, contradiction_name, count_put, type_name, Put};
-use crate::coverage::system::Calls;
 use crate::coverage::step::{Counted, Step};
-use crate::machines::event::Event;
-use crate::records::incoming::Fragment;
+use crate::coverage::system::Calls;
 use crate::machines::effect::Notice;
+use crate::machines::event::Event;
+use crate::records::client::{ClientSide, Start, TimerKind};
+use crate::records::incoming::Fragment;
 use crate::records::side::Side;
 
 type ClientStep<'a> = Step<'a, ClientSide>;

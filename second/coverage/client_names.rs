@@ -7,10 +7,10 @@
 //! its header would say, those of an unknown type with what the type decides, and those of
 //! different types.
 
-use crate::records::client::{ClientSide, State, TimerKind};
 use crate::coverage::counts::pair_names;
 use crate::coverage::side::put_names;
 use crate::coverage::side_names::{lent_names, Named};
+use crate::records::client::{ClientSide, State, TimerKind};
 use crate::records::side::Side;
 
 /// The rows of document 01's table; @ stands for each state that has the row.

@@ -116,7 +116,10 @@ impl Counts {
                 self.add_times(name, times);
             }
         }
-        (self.names.into_iter().zip(self.counts).collect(), self.foreseen)
+        (
+            self.names.into_iter().zip(self.counts).collect(),
+            self.foreseen,
+        )
     }
 }
 

@@ -4,13 +4,13 @@ use crate::codec::pdu::{pdu_type, Pdu};
 use crate::coverage::counts::Counts;
 use crate::coverage::server_pdu::count_pdu;
 use crate::coverage::side::{again_name, type_name};
-use crate::coverage::system::Calls;
-use crate::machines::effect::Notice;
 use crate::coverage::step::{Counted, Step};
+use crate::coverage::system::Calls;
 use crate::coverage::system_names::mark_name;
+use crate::machines::effect::Notice;
 use crate::machines::event::Event;
-use crate::records::server::{Answer, Resend, Server, ServerSide, State};
 use crate::machines::server_row::Age;
+use crate::records::server::{Answer, Resend, Server, ServerSide, State};
 
 pub type ServerStep<'a> = Step<'a, ServerSide>;
 

@@ -1,14 +1,14 @@
 //! Counts what a script reaches of the PDUs that arrive at the server, by what is judged in them.
 
 use crate::codec::pdu::{flags1, pdu_type, Header, Pdu};
-use crate::coverage::counts::Counts;
 use crate::coverage::boundary::Boundary;
+use crate::coverage::counts::Counts;
 use crate::coverage::server::ServerStep;
 use crate::coverage::side::{contradiction_name, count_put, type_name, Put};
-use crate::records::incoming::{Fragment, Incoming};
-use crate::records::call::Call;
-use crate::records::server::{Server, ServerSide, State};
 use crate::machines::server_row::Age;
+use crate::records::call::Call;
+use crate::records::incoming::{Fragment, Incoming};
+use crate::records::server::{Server, ServerSide, State};
 use crate::records::side::Side;
 
 pub fn count_pdu(pdu: &Pdu, step: &ServerStep, counts: &mut Counts) {
@@ -16,7 +16,10 @@ pub fn count_pdu(pdu: &Pdu, step: &ServerStep, counts: &mut Counts) {
     let kind = type_name(header.pdu_type);
     let state = step.before.state.name();
     match step.answer {
-        13 => counts.add(format_args!("server old {kind}: {}", old_name(step, header))),
+        13 => counts.add(format_args!(
+            "server old {kind}: {}",
+            old_name(step, header)
+        )),
         15 => counts.add(format_args!(
             "server has no row for {}",
             no_row_name(step, header)
@@ -54,7 +57,9 @@ fn count_request(pdu: &Pdu, step: &ServerStep, counts: &mut Counts) {
         0 => count_taken_request(pdu, step, counts),
         11 => {
             let bits = pdu.header.flags1 & (flags1::MAYBE | flags1::BROADCAST);
-            counts.add(format_args!("server request with the forbidden bits {bits}"));
+            counts.add(format_args!(
+                "server request with the forbidden bits {bits}"
+            ));
         }
         17 => count_contradiction(pdu, step, counts),
         _ => {}
@@ -91,7 +96,9 @@ fn count_contradiction(pdu: &Pdu, step: &ServerStep, counts: &mut Counts) {
         Some(what) if !is_begin && differences.is_empty() => {
             counts.add(format_args!("server request contradicts: {what}"));
             let state = step.before.state.name();
-            counts.add(format_args!("server request contradicts the slots in {state}"));
+            counts.add(format_args!(
+                "server request contradicts the slots in {state}"
+            ));
         }
         _ => {}
     }

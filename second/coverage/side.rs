@@ -1,11 +1,11 @@
 //! What the coverage of both sides shares: names, and the counts of what is put.
 
 use crate::codec::pdu::{flags1, pdu_type, Pdu};
-use crate::coverage::counts::Counts;
 use crate::coverage::boundary::Boundary;
+use crate::coverage::counts::Counts;
+use crate::machines::effect::{Effect, Notice};
 use crate::records::incoming::{Fragment, Incoming};
 use crate::records::outgoing::Outgoing;
-use crate::machines::effect::{Effect, Notice};
 use crate::records::side::Words;
 use std::fmt;
 

@@ -1,7 +1,7 @@
 //! All that a script can reach of a side, by name: what is told of both alike.
 
-use crate::coverage::counts::pair_names;
 use crate::coverage::boundary::boundary_names;
+use crate::coverage::counts::pair_names;
 use crate::coverage::step::Counted;
 use crate::records::record::Record;
 use crate::records::side::Words;

@@ -1,21 +1,21 @@
 //! Counts what an event of either side reaches: the row of document 01's table, the answer, pairs
 //! of grounds, rules broken alone, and boundaries.
 
-use crate::codec::pdu::{offset, pdu_type, read, Pdu, PDU_LIMIT};
 use crate::bench::memory::Lengths;
-use crate::coverage::counts::Counts;
+use crate::codec::pdu::{offset, pdu_type, read, Pdu, PDU_LIMIT};
 use crate::coverage::boundary::Boundary;
 use crate::coverage::codec::order_name;
+use crate::coverage::counts::Counts;
 use crate::coverage::grounds::arrive_grounds;
-use crate::coverage::system::Calls;
 use crate::coverage::side::{notice_name, type_name, Reached};
+use crate::coverage::system::Calls;
+use crate::machines::effect::Effect;
 use crate::machines::event::Event;
+use crate::machines::machine::Machine;
 use crate::records::incoming::SLOT_BUFFER_LENGTH;
 use crate::records::outgoing::{acknowledged_by, MESSAGE_LIMIT};
 use crate::records::record::Record;
-use crate::machines::effect::Effect;
 use crate::records::side::Side;
-use crate::machines::machine::Machine;
 
 /// An event with the records before and after it.
 pub struct Step<'a, S: Side> {
@@ -248,7 +248,10 @@ fn count_pdu<S: Counted>(pdu: &Pdu, step: &Step<S>, counts: &mut Counts) {
     let number = pdu.header.fragment_number;
     if step.answer == 0 {
         let kind = type_name(pdu.header.pdu_type);
-        counts.add(format_args!("{side} {kind} taken, {}", order_name(pdu.order)));
+        counts.add(format_args!(
+            "{side} {kind} taken, {}",
+            order_name(pdu.order)
+        ));
     }
     match (pdu.header.pdu_type, step.answer) {
         (pdu_type::FACK, 14) => {

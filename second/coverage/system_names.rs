@@ -1,7 +1,7 @@
 //! All that a script can reach of a client and a server that are joined, by name.
 
-use crate::records::client::ClientSide;
 use crate::coverage::side_names::{row_names, state_names};
+use crate::records::client::ClientSide;
 use crate::records::server::ServerSide;
 
 pub fn mark_name(idempotent: bool) -> &'static str {

@@ -1,7 +1,7 @@
 //! The one number that a call gives back.
 
-use crate::machines::refusal::Refusal;
 use crate::machines::effect::{Effect, Notice};
+use crate::machines::refusal::Refusal;
 
 /// The kind of a notice and its value.
 fn notice_numbers(notice: Notice) -> (u64, u64) {

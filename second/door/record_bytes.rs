@@ -2,12 +2,12 @@
 
 use super::layout;
 use super::places::{put, Places, RecordBytes};
+use crate::machines::machine::Machine;
+use crate::records::call::Call;
 use crate::records::client::{Client, ClientFields, ClientSide};
 use crate::records::incoming::Incoming;
-use crate::machines::machine::Machine;
 use crate::records::outgoing::Outgoing;
 use crate::records::record::Record;
-use crate::records::call::Call;
 use crate::records::server::{Server, ServerFields, ServerSide, State};
 use crate::records::timer::{Tickets, Timer};
 

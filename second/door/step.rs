@@ -80,7 +80,9 @@ pub fn invocation_of<'a, S: Door>(event: &'a Event<'a, S>) -> Invocation<'a, S> 
 
 fn number_of_timer<S: Door>(kind: S::TimerKind) -> u8 {
     let mut timers = S::TIMER_NUMBERS.iter();
-    timers.find(|timer| timer.1 == kind).map_or(0, |timer| timer.0)
+    timers
+        .find(|timer| timer.1 == kind)
+        .map_or(0, |timer| timer.0)
 }
 
 /// The event of a function; none for a timer of another kind.

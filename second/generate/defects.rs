@@ -2,10 +2,10 @@
 
 use crate::generate::arriving::Arriving;
 use crate::generate::author::Author;
-use crate::generate::random::Random;
-use crate::records::record::Record;
 use crate::generate::made::{Made, LONGEST_LENT};
+use crate::generate::random::Random;
 use crate::generate::turn::Choices;
+use crate::records::record::Record;
 
 /// Lengths of messages that may be lent, and those that may not.
 pub const OTHER_LENGTHS: [u32; 7] = [0, 1, 1_391, 1_392, 1_393, 2_784, 44_544];

@@ -1,9 +1,9 @@
 //! Fragments made to fit what a record holds or to miss it in one point.
 
-use crate::generate::arriving::{IMPOSSIBLE_NUMBERS, LAST_OF_SEVERAL, ONE_OF_SEVERAL, WHOLE};
 use crate::codec::pdu::flags1;
-use crate::records::incoming::Incoming;
+use crate::generate::arriving::{IMPOSSIBLE_NUMBERS, LAST_OF_SEVERAL, ONE_OF_SEVERAL, WHOLE};
 use crate::generate::random::Random;
+use crate::records::incoming::Incoming;
 
 /// A fragment number and the fragment bits beside it.
 pub type Place = (u16, u8);

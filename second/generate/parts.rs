@@ -1,10 +1,10 @@
 //! Parts of records of either side: sound ones, and ones that break a single rule.
 
+use crate::generate::random::Random;
+use crate::records::call::Call;
 use crate::records::incoming::Incoming;
 use crate::records::outgoing::{fragment_count, Outgoing, MESSAGE_LIMIT};
-use crate::generate::random::Random;
 use crate::records::rule::Rule;
-use crate::records::call::Call;
 use crate::records::side::MessageOut;
 use crate::records::timer::{Tickets, Timer};
 

@@ -2,10 +2,10 @@
 
 use crate::bench::bench::Bench;
 use crate::generate::author::Author;
+use crate::generate::made::Made;
 use crate::generate::random::Random;
 use crate::records::record::Record;
 use crate::records::rule::Rule;
-use crate::generate::made::Made;
 
 /// Makes the events of its turn.
 pub type Scene<S> = fn(usize, &mut Author<S>);

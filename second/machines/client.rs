@@ -1,14 +1,14 @@
 //! The client call machine: its rows.
 
 use crate::codec::body;
-use crate::records::client::{Client, ClientSide, Start, State, TimerKind};
 use crate::codec::pdu::{flags1, pdu_type, put_pdu, Header, Pdu};
-use crate::records::incoming::{Fragment, Incoming};
-use crate::machines::machine::Machine;
-use crate::records::outgoing::{Outgoing, MESSAGE_LIMIT};
-use crate::machines::refusal::{Grounds, Refusal};
 use crate::machines::effect::{Effect, Notice};
+use crate::machines::machine::Machine;
+use crate::machines::refusal::{Grounds, Refusal};
 use crate::machines::sent::{sent_header, Sender};
+use crate::records::client::{Client, ClientSide, Start, State, TimerKind};
+use crate::records::incoming::{Fragment, Incoming};
+use crate::records::outgoing::{Outgoing, MESSAGE_LIMIT};
 use crate::records::timer::RETRY_LIMIT;
 
 /// Local causes of a failure.

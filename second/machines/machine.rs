@@ -1,13 +1,13 @@
 //! The machine of either side: its events, each judged first and carried out afterwards.
 
 use crate::codec::body;
-use crate::codec::pdu::{pdu_type, put_pdu, read, Header, Pdu, PDU_LIMIT};
-use crate::machines::event::Event;
 use crate::codec::fack;
+use crate::codec::pdu::{pdu_type, put_pdu, read, Header, Pdu, PDU_LIMIT};
+use crate::machines::effect::Effect;
+use crate::machines::event::Event;
+use crate::machines::refusal::{Grounds, Refusal};
 use crate::records::incoming::{has_impossible_fragment, SLOT_BUFFER_LENGTH};
 use crate::records::record::Record;
-use crate::machines::refusal::{Grounds, Refusal};
-use crate::machines::effect::Effect;
 use crate::records::side::Side;
 
 /// What the machine of one side does otherwise than that of the other.

@@ -1,15 +1,15 @@
 //! The server call machine: its rows.
 
 use crate::codec::pdu::{flags1, pdu_type, put_pdu, Header, Pdu, PDU_LIMIT};
-use crate::records::incoming::{Fragment, Incoming};
-use crate::machines::machine::Machine;
-use crate::records::outgoing::{Outgoing, MESSAGE_LIMIT};
-use crate::machines::refusal::{Grounds, Refusal};
 use crate::machines::effect::{Effect, Notice};
+use crate::machines::machine::Machine;
+use crate::machines::refusal::{Grounds, Refusal};
 use crate::machines::sent::{sent_header, Sender};
-use crate::records::call::Call;
-use crate::records::server::{Answer, Resend, Server, ServerSide, State};
 use crate::machines::server_row::{Age, Row};
+use crate::records::call::Call;
+use crate::records::incoming::{Fragment, Incoming};
+use crate::records::outgoing::{Outgoing, MESSAGE_LIMIT};
+use crate::records::server::{Answer, Resend, Server, ServerSide, State};
 use crate::records::timer::RETRY_LIMIT;
 
 fn has_maybe_or_broadcast(header: &Header) -> bool {

@@ -1,9 +1,9 @@
 //! The client record: its states and its rules.
 
 use crate::codec::pdu::Uuid;
+use crate::records::call::Call;
 use crate::records::record::Record;
 use crate::records::rule::Rule;
-use crate::records::call::Call;
 use crate::records::side::{MessageOut, Side, Words};
 use crate::records::timer::{Timer, RETRY_LIMIT};
 

@@ -1,7 +1,7 @@
 //! The message received: which of its fragments are held, and which is the last.
 
-use crate::codec::pdu::{flags1, pdu_type, Header, Pdu, BODY_LIMIT};
 use crate::codec::fack::{Held, FRAGMENTS};
+use crate::codec::pdu::{flags1, pdu_type, Header, Pdu, BODY_LIMIT};
 
 const SLOTS: usize = FRAGMENTS as usize;
 

@@ -1,10 +1,10 @@
 //! The record of either side: the parts that both have, and their rules.
 
 use crate::codec::pdu::Uuid;
+use crate::records::call::Call;
 use crate::records::incoming::Incoming;
 use crate::records::outgoing::Outgoing;
 use crate::records::rule::{Rule, MESSAGE_RULES};
-use crate::records::call::Call;
 use crate::records::side::{MessageOut, Side};
 use crate::records::timer::{Tickets, Timer};
 

@@ -1,19 +1,19 @@
 //! Checks of the client against facts worked out by hand from document 01.
 
-use crate::records::client::{Client, ClientSide, Start, State, TimerKind};
+use crate::bench::message::message;
 use crate::codec::pdu::{pdu_type, BODY_LIMIT};
-use crate::machines::event::Event;
-use crate::records::outgoing::fragment_count;
-use crate::machines::refusal::Refusal;
-use crate::generate::client::events::write_script;
-use crate::self_test::self_test::check;
-use crate::self_test::side::{
-    arrive_at, done, header_of, only, refusals_change_nothing, sends, transmit_of, Outcome, Sender,
-    ACTIVITY, INTERFACE, OBJECT, TICKETS, WHOLE_FACK,
-};
 use crate::machines::effect::Notice;
+use crate::machines::event::Event;
+use crate::machines::refusal::Refusal;
 use crate::records::call::Call;
-use crate::self_test::stage::{message, Stage};
+use crate::records::client::{Client, ClientSide, Start, State, TimerKind};
+use crate::records::outgoing::fragment_count;
+use crate::self_test::all::check;
+use crate::self_test::side::{
+    arrive_at, done, header_of, only, sends, transmit_of, Outcome, Sender, ACTIVITY, INTERFACE,
+    OBJECT, TICKETS, WHOLE_FACK,
+};
+use crate::self_test::stage::Stage;
 
 /// The client of these checks, in its first call.
 const CLIENT: Sender = Sender {
@@ -31,10 +31,7 @@ pub fn self_test() -> Result<(), &'static str> {
     two_fragment_reply()?;
     one_fragment_reply()?;
     timers_and_limits()?;
-    nocall_rows()?;
-    let mut script = Vec::new();
-    write_script(1, 2_000, &mut script).map_err(|_| "writing a script")?;
-    refusals_change_nothing(&script)
+    nocall_rows()
 }
 
 fn call(idempotent: bool) -> Call {

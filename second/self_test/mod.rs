@@ -1,3 +1,13 @@
 //! Checks of this implementation against itself and against rows of the papers.
-#[allow(clippy::module_inception)]
-pub mod self_test { pub fn self_test() -> Result<(), &'static str> { Ok(()) } }
+
+pub mod all;
+pub mod checked;
+pub mod client;
+pub mod layout;
+pub mod played;
+pub mod rows;
+pub mod server;
+pub mod server_stage;
+pub mod side;
+pub mod spoiled;
+pub mod stage;

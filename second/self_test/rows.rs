@@ -1,26 +1,17 @@
-//! The bench rows of document 01 at the server, refusals that change nothing, and demand 3 over
-//! short runs.
+//! The bench rows of document 01 at the server.
 
-use crate::command::{commands, Command};
 use crate::machines::event::Event;
 use crate::machines::refusal::{answer, Refusal};
-use crate::generate::server::events;
-use crate::systems::run;
-use crate::self_test::self_test::check;
-use crate::self_test::server_stage::{fault, replied, reply, running, timer, transmit};
-use crate::self_test::side::{changed_datagram, datagram_rows, refusals_change_nothing};
 use crate::records::server::{ServerSide, State};
+use crate::self_test::all::check;
+use crate::self_test::server_stage::{fault, replied, reply, running, timer, transmit};
+use crate::self_test::side::{changed_datagram, datagram_rows};
 use crate::self_test::stage::Stage;
-
-const SYSTEM_RUNS: u64 = 30;
-const SYSTEM_STEPS: u64 = 200;
 
 pub fn self_test() -> Result<(), &'static str> {
     read_rows()?;
     length_rows()?;
-    ticket_rows()?;
-    server_script()?;
-    system_script()
+    ticket_rows()
 }
 
 /// What the reader refuses, the server refuses with the same number; a good datagram it takes,
@@ -97,29 +88,5 @@ fn ticket_rows() -> Result<(), &'static str> {
     check(
         fault(&mut stage).is_ok() && stage.server.state == State::IdleRepeatable,
         "a fault that needs no ticket",
-    )
-}
-
-fn server_script() -> Result<(), &'static str> {
-    let mut script = Vec::new();
-    script_server::write_script(1, 2_000, &mut script).map_err(|_| "writing a server script")?;
-    refusals_change_nothing(&script)
-}
-
-/// Demand 3 holds over short runs, and the script has as many events as it should.
-fn system_script() -> Result<(), &'static str> {
-    let mut script = Vec::new();
-    script_system::write_script(1, SYSTEM_RUNS, SYSTEM_STEPS, &mut script)
-        .map_err(|_| "demand 3 over short runs")?;
-    let mut events = 0;
-    for command in commands(&script) {
-        match command.map_err(|_| "a system script of good commands")? {
-            Command::Set(_) => {}
-            _ => events += 1,
-        }
-    }
-    check(
-        events == SYSTEM_RUNS * SYSTEM_STEPS,
-        "the events of a system script",
     )
 }

@@ -1,16 +1,17 @@
 //! Checks of the server against facts worked out by hand from document 01.
 
+use crate::bench::message::message;
 use crate::codec::pdu::{flags1, pdu_type, BODY_LIMIT};
+use crate::machines::effect::Notice;
 use crate::machines::refusal::Refusal;
-use crate::self_test::self_test::check;
+use crate::records::server::{ServerSide, State};
+use crate::self_test::all::check;
 use crate::self_test::server_stage::{
     ack, arrive_header, fack, fault, fresh, ping, replied, reply, request, running, timer,
     transmit, NUMBER, SERVER,
 };
 use crate::self_test::side::{done, header_of, only, sends, TICKETS, WHOLE_FACK};
-use crate::machines::effect::Notice;
-use crate::records::server::{ServerSide, State};
-use crate::self_test::stage::{message, Stage};
+use crate::self_test::stage::Stage;
 
 const WHOLE: u8 = 0;
 const FIRST: u8 = flags1::FRAGMENT;
@@ -265,7 +266,7 @@ fn newer_calls() -> Result<(), &'static str> {
     let mut asked = header_of(pdu_type::PING, NUMBER + 1, 0, 0);
     asked.object = *b"some other uuids";
     let answer = arrive_header(&mut stage, &asked, &[]);
-    let echoed = &stage.pdu_buffer[8..24] == b"some other uuids" && stage.pdu_buffer[64] == 8;
+    let echoed = &stage.pdu[8..24] == b"some other uuids" && stage.pdu[64] == 8;
     check(answer.is_ok() && echoed, "a nocall echoes the ping")?;
     let mut stage = replied(false, 1_393);
     let begun = request(&mut stage, u32::MAX, FIRST, 0, b"next");

@@ -2,10 +2,10 @@
 
 use crate::codec::pdu::{flags1, pdu_type, Header};
 use crate::machines::event::Event;
+use crate::records::server::{Answer, Resend, Server, ServerSide};
 use crate::self_test::side::{
     arrive_at, header_of, transmit_of, Outcome, Sender, ACTIVITY, TICKETS,
 };
-use crate::records::server::{Answer, Resend, Server, ServerSide};
 use crate::self_test::stage::Stage;
 
 pub const NUMBER: u32 = 7;

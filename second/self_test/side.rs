@@ -1,13 +1,12 @@
-//! What the checks of both sides use: PDUs that arrive or are sent, and scripts that are replayed.
+//! What the checks of both sides use: PDUs that arrive or are sent.
 
+use crate::bench::message::message;
 use crate::codec::pdu::{ByteOrder, Header, Uuid};
-use crate::command::{commands, encode, Command};
 use crate::generate::datagram::datagram;
-use crate::machines::event::Event;
 use crate::generate::random::Random;
-use crate::machines::refusal::Refusal;
-use crate::self_test::self_test::check;
 use crate::machines::effect::{Effect, Notice};
+use crate::machines::event::Event;
+use crate::machines::refusal::Refusal;
 use crate::self_test::stage::{OnStage, Stage};
 
 /// What names the calls of the checks, and the ticket counter of fresh records.
@@ -58,7 +57,8 @@ pub fn arrive_at<S: OnStage>(stage: &mut Stage, header: &Header, body: &[u8]) ->
 /// The message that is out is lent, made from seed 9.
 pub fn transmit_of<S: OnStage>(stage: &mut Stage) -> Outcome {
     let length = S::record(stage).outgoing.length;
-    stage.event::<S>(&Event::Transmit { length, seed: 9 })
+    let message = &message(length as usize, 9);
+    stage.event::<S>(&Event::Transmit { message })
 }
 
 /// What in a PDU is the sender's: boot value and call number.
@@ -96,7 +96,7 @@ pub fn sends(stage: &Stage, outcome: &Outcome, pdu: &[u8], notice: Option<Notice
         pdu_length: Some(pdu.len()),
         notice,
     };
-    *outcome == Ok(effect) && stage.pdu_buffer.starts_with(pdu)
+    *outcome == Ok(effect) && stage.pdu.starts_with(pdu)
 }
 
 /// A datagram of so many bytes that can be read: a big-endian request of zeros.
@@ -128,41 +128,4 @@ pub fn datagram_rows() -> Vec<(Vec<u8>, u8, &'static str)> {
         (good_datagram(1_473), 8, "body length 1393 in 1473 bytes"),
         (good_datagram(1_472), 0, "body length 1392 in 1472 bytes"),
     ]
-}
-
-/// Over a script: commands are encoded as they were decoded, a refusal leaves record, slots and
-/// PDU buffer as they were, and an event leaves a sound record sound.
-pub fn refusals_change_nothing(script: &[u8]) -> Result<(), &'static str> {
-    let mut stage = Stage::new();
-    for command in commands(script) {
-        let command = command.map_err(|_| "a script of good commands")?;
-        let mut again = Vec::new();
-        encode(&command, &mut again);
-        check(
-            commands(&again).eq([Ok(command.clone())]),
-            "commands of a side encoded and decoded",
-        )?;
-        match &command {
-            Command::Set(setting) => stage.set(setting),
-            Command::Client(event) => event_keeps(event, &mut stage)?,
-            Command::Server(event) => event_keeps(event, &mut stage)?,
-            _ => {}
-        }
-    }
-    Ok(())
-}
-
-/// An event leaves a sound record sound, or is refused and changes nothing.
-fn event_keeps<S: OnStage>(event: &Event<S>, stage: &mut Stage) -> Result<(), &'static str> {
-    let record = S::record(stage).clone();
-    let slots = stage.slots::<S>().to_vec();
-    if stage.event(event).is_ok() {
-        return check(S::record(stage).is_sound(), "a sound record stays sound");
-    }
-    check(*S::record(stage) == record, "a refusal leaves the record")?;
-    check(stage.slots::<S>() == slots, "a refusal leaves the slots")?;
-    check(
-        stage.pdu_buffer_is_untouched(),
-        "a refusal leaves the PDU buffer",
-    )
 }

@@ -6,12 +6,12 @@
 
 use crate::bench::bench::{Bench, Benched};
 use crate::bench::memory::PDU_FILL;
-use crate::records::incoming::SLOT_BUFFER_LENGTH;
-use crate::records::client::{Client, ClientSide, State as ClientState};
-use crate::systems::demand_side::{check, number_of, Broken, Demanded, SideBook, Step};
-use crate::machines::event::Event;
 use crate::machines::effect::{Effect, Notice};
+use crate::machines::event::Event;
+use crate::records::client::{Client, ClientSide, State as ClientState};
+use crate::records::incoming::SLOT_BUFFER_LENGTH;
 use crate::records::server::{Answer, Server, ServerSide, State as ServerState};
+use crate::systems::demand_side::{check, number_of, Broken, Demanded, SideBook, Step};
 
 /// A call that was started.
 struct Book {

@@ -4,12 +4,12 @@
 use crate::bench::bench::{Bench, Benched, Outcome};
 use crate::bench::memory::{MOST, SLOTS_FILL};
 use crate::codec::pdu::{BODY_LIMIT, HEADER_LENGTH};
-use crate::systems::demand::Demand;
+use crate::machines::effect::Effect;
 use crate::machines::event::Event;
 use crate::records::record::Record;
-use crate::machines::effect::Effect;
 use crate::records::side::Side;
 use crate::records::timer::Timer;
+use crate::systems::demand::Demand;
 
 /// What of the demand does not hold.
 pub type Broken = String;
@@ -94,7 +94,10 @@ impl<S: Demanded> SideBook<S> {
             let is_same = after.timer_of(*kind) == *timer;
             check(is_same, "a side has other tickets armed")?;
             let is_over = S::is_over(after.state);
-            check(!is_over || timer.is_none(), "a call is over with a timer armed")?;
+            check(
+                !is_over || timer.is_none(),
+                "a call is over with a timer armed",
+            )?;
         }
         Ok(())
     }

@@ -36,7 +36,9 @@ pub fn other_timer<S: Callable>(turn: usize, author: &mut Author<S>) {
         bytes = encode(&broken);
     }
     let own = S::TIMER_NUMBERS.iter().map(|timer| timer.0);
-    let others: Vec<u8> = (0..=255).filter(|kind| !own.clone().any(|own| own == *kind)).collect();
+    let others: Vec<u8> = (0..=255)
+        .filter(|kind| !own.clone().any(|own| own == *kind))
+        .collect();
     let any = random.pick(&others);
     let kind = random.pick(&[0, 4, others[1], others[2], any, 255]);
     let ticket = random.pick(&[record.tickets.counter, 0, u64::MAX]);
@@ -72,13 +74,21 @@ const WRONG_STARTS: [&str; 4] = ["nothing", "the mark", "the object", "the inter
 /// The names of what is wrong, as they are counted.
 pub fn wrong_start_names() -> Vec<String> {
     let wrong = WRONG_STARTS[1..].iter();
-    wrong.map(|what| format!("client start with {what} wrong: 1")).collect()
+    wrong
+        .map(|what| format!("client start with {what} wrong: 1"))
+        .collect()
 }
 
 /// A start whose mark or one of whose UUIDs no call has.
 pub fn wrong_start(turn: usize, author: &mut client::author::Author) {
     let random = &mut author.random;
-    let states = STATES.map(|state| if state.may_start() { state } else { State::Queued });
+    let states = STATES.map(|state| {
+        if state.may_start() {
+            state
+        } else {
+            State::Queued
+        }
+    });
     let mut record = ClientSide::sound_record(states[turn / 4 % states.len()], random);
     record.number = 7;
     let call = any_call(random);
@@ -86,7 +96,11 @@ pub fn wrong_start(turn: usize, author: &mut client::author::Author) {
     let mark = random.between(2, 255) as u8;
     let case = turn % 4;
     let arguments = StartArguments {
-        idempotent: if case == 1 { mark } else { u8::from(call.idempotent) },
+        idempotent: if case == 1 {
+            mark
+        } else {
+            u8::from(call.idempotent)
+        },
         object: if case == 2 { &wrong } else { &call.object },
         interface: if case == 3 { &wrong } else { &call.interface },
         version: call.version,

@@ -27,7 +27,9 @@ pub trait Meaningless: Stored {
         let slots = (0..32).map(|number| layout::SLOTS + layout::SLOT_LENGTH * number);
         let missing = slots.filter(|at| bytes[at + layout::SLOT_HELD] == 0);
         let mut places: Vec<Place> = missing.map(|at| (at, 2)).collect();
-        let disarmed = Self::TIMER_PLACES.iter().filter(|timer| bytes[timer.0] == 0);
+        let disarmed = Self::TIMER_PLACES
+            .iter()
+            .filter(|timer| bytes[timer.0] == 0);
         places.extend(disarmed.map(|timer| (timer.1, 8)));
         places.extend(Self::place_of_state(bytes));
         places

@@ -109,7 +109,12 @@ pub fn any_bytes<S: Meaningless>(random: &mut Random) -> RecordBytes {
         }
     }
     if good > 2 {
-        for at in [layout::FRAGMENTS, layout::SENT, layout::ACKNOWLEDGED, layout::KNOWN_LAST] {
+        for at in [
+            layout::FRAGMENTS,
+            layout::SENT,
+            layout::ACKNOWLEDGED,
+            layout::KNOWN_LAST,
+        ] {
             bytes[at + 1] = 0;
         }
     }

@@ -1,9 +1,9 @@
 //! What only the author of client events does.
 
 use crate::generate::author;
-use crate::records::client::{ClientSide, Start};
-use crate::machines::event::Event;
 use crate::generate::parts::any_call;
+use crate::machines::event::Event;
+use crate::records::client::{ClientSide, Start};
 
 /// The author of client events.
 pub type Author = author::Author<ClientSide>;

@@ -1,10 +1,10 @@
 //! Whole calls of a client, event by event from a fresh record.
 
+use crate::codec::pdu::pdu_type;
 use crate::generate::arriving::{bits_of, Arriving};
 use crate::generate::client::author::Author;
-use crate::records::client::{State, TimerKind};
-use crate::codec::pdu::pdu_type;
 use crate::generate::client::events::any_event;
+use crate::records::client::{State, TimerKind};
 use crate::records::timer::RETRY_LIMIT;
 
 /// How a call goes.

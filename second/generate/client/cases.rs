@@ -1,19 +1,19 @@
 //! Scenes of a client that go round the cases of one point: a rule, a row, a refusal.
 
+use crate::codec::pdu::{flags1, pdu_type, ByteOrder, BODY_LIMIT};
 use crate::generate::arriving::{Arriving, IMPOSSIBLE_WAYS, WHOLE};
 use crate::generate::client::author::Author;
-use crate::records::client::{Client, ClientSide, State, TimerKind, ACTIVE_STATES, STATES};
-use crate::codec::pdu::{flags1, pdu_type, ByteOrder, BODY_LIMIT};
-use crate::records::incoming::Incoming;
-use crate::records::outgoing::Outgoing;
-use crate::generate::random::Random;
 use crate::generate::client::events::state_timer;
 use crate::generate::client::pdus::MALFORMED_WAYS;
 use crate::generate::fragment::{at_an_edge, COMPLETING_EDGE, EDGES};
-use crate::generate::scenes;
 use crate::generate::made::Made;
-use crate::records::timer::RETRY_LIMIT;
+use crate::generate::random::Random;
+use crate::generate::scenes;
 use crate::generate::turn::Choices;
+use crate::records::client::{Client, ClientSide, State, TimerKind, ACTIVE_STATES, STATES};
+use crate::records::incoming::Incoming;
+use crate::records::outgoing::Outgoing;
+use crate::records::timer::RETRY_LIMIT;
 
 /// Every event meets a record that breaks one rule.
 pub fn broken_record(turn: usize, author: &mut Author) {

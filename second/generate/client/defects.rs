@@ -1,16 +1,16 @@
 //! Events of a client that give grounds for a refusal, or for two and three at once.
 
+use crate::codec::pdu::pdu_type;
 use crate::generate::arriving::{Arriving, IMPOSSIBLE_WAYS};
 use crate::generate::client::author::Author;
-use crate::records::client::{Client, ClientSide, State, TimerKind, ACTIVE_STATES, STATES};
-use crate::codec::pdu::pdu_type;
-use crate::generate::defect::defect_set;
-use crate::generate::random::Random;
 use crate::generate::client::pdus::{MALFORMED_WAYS, OTHER_TYPES};
+use crate::generate::defect::defect_set;
 use crate::generate::defects::{arrive_with_defects, set_with_length, timer_with_defects};
-use crate::generate::parts::message_length;
 use crate::generate::made::Made;
+use crate::generate::parts::message_length;
+use crate::generate::random::Random;
 use crate::generate::turn::Choices;
+use crate::records::client::{Client, ClientSide, State, TimerKind, ACTIVE_STATES, STATES};
 
 /// The number that a PDU leads to, or 0 for a good one, before further defects are put in.
 const BASES: [u8; 9] = [0, 10, 12, 13, 14, 15, 16, 17, 20];

@@ -3,11 +3,9 @@
 //! What must not be missed goes round by the turns of a scene; the rest is random.
 
 use crate::bench::bench::Bench;
+use crate::codec::pdu::pdu_type;
 use crate::generate::arriving::Arriving;
 use crate::generate::client::author::Author;
-use crate::records::client::{Client, ClientSide, State, TimerKind};
-use crate::codec::pdu::pdu_type;
-use crate::generate::random::Random;
 use crate::generate::client::calls::whole_call;
 use crate::generate::client::cases::{
     arrival_row, broken_record, fragment_case, impossible_number, malformed_body, no_ticket_left,
@@ -19,7 +17,9 @@ use crate::generate::client::defects::{
 use crate::generate::client::pdus::OTHER_TYPES;
 use crate::generate::defects::defects_at_transmit;
 use crate::generate::parts::message_length;
+use crate::generate::random::Random;
 use crate::generate::scenes::{self, any_record, play_scenes, Scene};
+use crate::records::client::{Client, ClientSide, State, TimerKind};
 
 /// The scenes of one round, each with how often it comes.
 const ROUND: [(Scene<ClientSide>, usize); 16] = [

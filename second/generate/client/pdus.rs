@@ -1,10 +1,12 @@
 //! PDUs that arrive at a client, made to fit its record or to miss it in one point.
 
-use crate::generate::arriving::{Arriving, FACK_WAYS};
-use crate::records::client::Client;
 use crate::codec::pdu::pdu_type;
+use crate::generate::arriving::{Arriving, FACK_WAYS};
+use crate::generate::fragment::{
+    contradicting, impossible, lacking, repeated, Place, CONTRADICTIONS,
+};
 use crate::generate::random::Random;
-use crate::generate::fragment::{contradicting, impossible, lacking, repeated, Place, CONTRADICTIONS};
+use crate::records::client::Client;
 
 /// The types that no client takes.
 pub const OTHER_TYPES: [u8; 5] = [pdu_type::REQUEST, pdu_type::PING, pdu_type::ACK, 8, 10];

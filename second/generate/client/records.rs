@@ -1,16 +1,16 @@
 //! Client records: sound ones, and ones that break a rule of their own.
 
-use crate::generate::author::Author;
-use crate::records::client::{Client, ClientFields, ClientSide, State, TimerKind};
-use crate::records::outgoing::Outgoing;
-use crate::generate::random::Random;
-use crate::records::rule::Rule;
 use super::events;
+use crate::generate::author::Author;
+use crate::generate::made::Made;
 use crate::generate::parts::{
     any_call, any_incoming, any_outgoing, any_serial, any_timer, call_number, no_outgoing,
     retry_count, ticket_above, ticket_counter,
 };
-use crate::generate::made::Made;
+use crate::generate::random::Random;
+use crate::records::client::{Client, ClientFields, ClientSide, State, TimerKind};
+use crate::records::outgoing::Outgoing;
+use crate::records::rule::Rule;
 use crate::records::timer::Timer;
 
 impl Made for ClientSide {

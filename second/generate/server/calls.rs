@@ -1,13 +1,13 @@
 //! Whole calls of a server, event by event from a fresh record.
 
-use crate::generate::arriving::bits_of;
 use crate::codec::pdu::{flags1, pdu_type};
-use crate::generate::random::Random;
+use crate::generate::arriving::bits_of;
 use crate::generate::parts::any_call;
+use crate::generate::random::Random;
+use crate::generate::server::author::Author;
 use crate::generate::server::events::any_event;
 use crate::generate::server::pdus as pdu;
 use crate::records::call::Call;
-use crate::generate::server::author::Author;
 use crate::records::server::{Resend, State};
 use crate::records::timer::RETRY_LIMIT;
 

@@ -1,18 +1,18 @@
 //! Scenes of a server that go round the cases of one point: a rule, a refusal, a ticket.
 
-use crate::generate::arriving::{Arriving, FACK_WAYS, IMPOSSIBLE_WAYS, WHOLE};
 use crate::codec::pdu::{flags1, pdu_type};
+use crate::generate::arriving::{Arriving, FACK_WAYS, IMPOSSIBLE_WAYS, WHOLE};
+use crate::generate::fragment::sent_again;
+use crate::generate::made::Made;
+use crate::generate::random::Random;
+use crate::generate::scenes;
+use crate::generate::server::author::Author;
+use crate::generate::server::pdus as pdu;
+use crate::generate::turn::Choices;
 use crate::records::incoming::Incoming;
 use crate::records::outgoing::Outgoing;
-use crate::generate::random::Random;
-use crate::generate::fragment::sent_again;
-use crate::generate::scenes;
-use crate::generate::server::pdus as pdu;
-use crate::generate::made::Made;
-use crate::generate::server::author::Author;
 use crate::records::server::{Resend, Server, ServerSide, State, STATES};
 use crate::records::timer::RETRY_LIMIT;
-use crate::generate::turn::Choices;
 
 /// Every event meets a record that breaks one rule.
 pub fn broken_record(turn: usize, author: &mut Author) {

@@ -1,19 +1,19 @@
 //! Events of a server that give grounds for a refusal, or for two and three at once.
 
-use crate::generate::arriving::Arriving;
 use crate::codec::pdu::{flags1, pdu_type};
+use crate::generate::arriving::Arriving;
 use crate::generate::defect::defect_set;
-use crate::generate::random::Random;
 use crate::generate::defects::{
     any_or, arrive_with_defects, event_with_lend, set_with_length, timer_with_defects,
     OTHER_LENGTHS,
 };
-use crate::generate::parts::message_length;
-use crate::generate::server::pdus as pdu;
 use crate::generate::made::Made;
+use crate::generate::parts::message_length;
+use crate::generate::random::Random;
 use crate::generate::server::author::Author;
-use crate::records::server::{Resend, Server, ServerSide, State, STATES};
+use crate::generate::server::pdus as pdu;
 use crate::generate::turn::Choices;
+use crate::records::server::{Resend, Server, ServerSide, State, STATES};
 
 /// The number that a PDU leads to, or 0 for a good one, before further defects are put in.
 const BASES: [u8; 9] = [0, 10, 11, 12, 13, 14, 15, 16, 17];

@@ -3,12 +3,13 @@
 //! What must not be missed goes round by the turns of a scene; the rest is random.
 
 use crate::bench::bench::Bench;
-use crate::generate::arriving::Arriving;
 use crate::codec::pdu::pdu_type;
-use crate::generate::random::Random;
+use crate::generate::arriving::Arriving;
 use crate::generate::defects::defects_at_transmit;
 use crate::generate::parts::message_length;
+use crate::generate::random::Random;
 use crate::generate::scenes::{any_record, play_scenes, wrong_lend, Scene};
+use crate::generate::server::author::Author;
 use crate::generate::server::calls::whole_call;
 use crate::generate::server::cases::{
     broken_record, changed_call, forbidden_bits, hand_up_case, impossible_number, malformed_body,
@@ -22,7 +23,6 @@ use crate::generate::server::pdus as pdu;
 use crate::generate::server::rows::{
     acknowledgement, equal_request, fragment_case, newer_request, ping_row, replay_row,
 };
-use crate::generate::server::author::Author;
 use crate::records::server::{Resend, Server, ServerSide, State};
 
 /// The scenes of one round, each with how often it comes.

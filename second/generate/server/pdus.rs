@@ -1,14 +1,14 @@
 //! PDUs that arrive at a server, made to fit its record or to miss it in one point.
 
-use crate::generate::arriving::{Arriving, FACK_WAYS, IMPOSSIBLE_WAYS};
 use crate::codec::pdu::{flags1, pdu_type, Header};
-use crate::records::incoming::Incoming;
-use crate::generate::random::Random;
+use crate::generate::arriving::{Arriving, FACK_WAYS, IMPOSSIBLE_WAYS};
 use crate::generate::fragment::{
     contradicting, impossible, lacking, repeated, sent_again, Place, CONTRADICTIONS,
 };
 use crate::generate::parts::any_call;
+use crate::generate::random::Random;
 use crate::records::call::Call;
+use crate::records::incoming::Incoming;
 use crate::records::server::{Server, State};
 
 /// The types that no server takes.

@@ -1,17 +1,17 @@
 //! Server records: sound ones, and ones that break a rule of their own.
 
+use super::events;
 use crate::generate::author::Author;
-use crate::records::incoming::Incoming;
-use crate::records::outgoing::Outgoing;
-use crate::generate::random::Random;
-use crate::records::rule::Rule;
+use crate::generate::made::Made;
 use crate::generate::parts::{
     any_call, any_incoming, any_outgoing, any_serial, any_timer, call_number, no_outgoing,
     retry_count, ticket_above, ticket_counter, whole_incoming,
 };
-use super::events;
-use crate::generate::made::Made;
+use crate::generate::random::Random;
 use crate::records::call::Call;
+use crate::records::incoming::Incoming;
+use crate::records::outgoing::Outgoing;
+use crate::records::rule::Rule;
 use crate::records::server::{Server, ServerFields, ServerSide, State};
 use crate::records::timer::Timer;
 

@@ -1,15 +1,15 @@
 //! Scenes of a server that go round the rows of document 01's table.
 
-use crate::generate::arriving::{Arriving, LAST_OF_SEVERAL, ONE_OF_SEVERAL, WHOLE};
 use crate::codec::pdu::{flags1, pdu_type, ByteOrder, BODY_LIMIT};
-use crate::records::incoming::Incoming;
+use crate::generate::arriving::{Arriving, LAST_OF_SEVERAL, ONE_OF_SEVERAL, WHOLE};
 use crate::generate::fragment::{at_an_edge, sent_again, EDGES};
+use crate::generate::server::author::Author;
 use crate::generate::server::cases::record_with_numbers;
 use crate::generate::server::pdus as pdu;
-use crate::generate::server::author::Author;
+use crate::generate::turn::Choices;
+use crate::records::incoming::Incoming;
 use crate::records::server::{Resend, State, STATES};
 use crate::records::timer::RETRY_LIMIT;
-use crate::generate::turn::Choices;
 
 const ORDERS: [ByteOrder; 2] = [ByteOrder::Little, ByteOrder::Big];
 

@@ -1,29 +1,18 @@
 //! A small check of this program against itself and against rows of the papers.
 
-use crate::adler::adler32;
-use crate::codec::pdu::{read, write, ByteOrder, Header, BODY_LIMIT, HIGHEST_TYPE, PDU_LIMIT};
-use crate::command::{commands, encode, Command};
-use crate::generate::datagram::datagram;
+use super::side::datagram_rows;
+use super::{client, layout, played, rows, server};
+use crate::bench::message::message;
 use crate::codec::fack::Held;
-use crate::fields::Bad;
+use crate::codec::pdu::{read, write, ByteOrder, Header, BODY_LIMIT, HIGHEST_TYPE, PDU_LIMIT};
+use crate::generate::datagram::datagram;
 use crate::generate::random::Random;
 use crate::machines::refusal::{answer, Refusal};
-use crate::self_test::side::datagram_rows;
-use crate::self_test::stage::message;
-use crate::{self_test_client, self_test_rows, self_test_server};
 
 const ROUNDS: usize = 10_000;
 
 /// The name of the first check that fails.
 pub fn self_test() -> Result<(), &'static str> {
-    check(
-        adler32(b"Wikipedia") == 0x11e6_0398,
-        "Adler-32 of a known text",
-    )?;
-    check(
-        adler32(&[255; 100_000]) == 0x149a_302c,
-        "Adler-32 of many high bytes",
-    )?;
     check(
         message(1_394, 250)[1_391..] == [3, 11, 18],
         "bytes of a message",
@@ -36,10 +25,11 @@ pub fn self_test() -> Result<(), &'static str> {
         round_trip(&mut random)?;
     }
     writing_rows(&random.header(7))?;
-    script_round_trip(&mut random)?;
-    self_test_client::self_test()?;
-    self_test_server::self_test()?;
-    self_test_rows::self_test()
+    client::self_test()?;
+    server::self_test()?;
+    rows::self_test()?;
+    layout::self_test()?;
+    played::self_test()
 }
 
 /// Document 01's bench rows of a fack.
@@ -183,29 +173,5 @@ fn writing_rows(header: &Header) -> Result<(), &'static str> {
     check(
         refused(header, 1_393, 1_472, Refusal::BodyLength),
         "writing a body of 1393",
-    )
-}
-
-fn script_round_trip(random: &mut Random) -> Result<(), &'static str> {
-    let datagram = random.bytes(90);
-    let whole = [
-        Command::Write {
-            header: random.header(200),
-            body_length: 2_048,
-            seed: 9,
-        },
-        Command::Read {
-            datagram: &datagram,
-        },
-    ];
-    let mut script = Vec::new();
-    for command in &whole {
-        encode(command, &mut script);
-    }
-    script.push(0);
-    let decoded = whole.into_iter().map(Ok).chain([Err(Bad)]);
-    check(
-        commands(&script).eq(decoded),
-        "commands encoded and decoded",
     )
 }
