@@ -1,111 +1,29 @@
 //! Two implementations side by side: each function is called of both, with memory of its own.
 
-use super::difference::{outcomes, part_lengths, places, Difference};
+use super::difference::{outcomes, part_lengths};
 use super::findings::Findings;
 use super::library::Library;
 use super::memory::{Lengths, Memory, RIGHT};
+use super::post::{Benched, Post, Posts};
+use super::words::{bytes_told, told};
 use crate::codec::pdu::Uuid;
 use crate::coverage::codec::{count_read, count_write};
 use crate::coverage::coverage::Coverage;
 use crate::coverage::step::{Counted, Step};
 use crate::door;
-use crate::door::invocation::{Invocation, Lent};
-use crate::door::layout::RECORD_LENGTH;
+use crate::door::invocation::Invocation;
 use crate::door::outcome::outcome;
 use crate::door::places::RecordBytes;
-use crate::door::record_bytes::{decode, encode};
-use crate::door::step::{invocation_of, invoke, part, Door};
+use crate::door::step::{invocation_of, invoke, part};
 use crate::machines::effect::Effect;
 use crate::machines::event::Event;
 use crate::machines::refusal::{answer, Refusal};
-use crate::records::client::{Client, ClientSide};
+use crate::records::client::Client;
 use crate::records::record::Record;
-use crate::records::server::{Server, ServerSide};
+use crate::records::server::Server;
 
 /// What an event gives, or why it is refused.
 pub type Outcome = Result<Effect, Refusal>;
-
-/// A side on the bench.
-pub struct Post<S: Door> {
-    /// The record that the bytes stand for, as long as they are readable.
-    pub record: Record<S>,
-    pub own: Memory,
-    other: Memory,
-}
-
-impl<S: Door> Post<S> {
-    fn new(record: Record<S>) -> Post<S> {
-        let mut post = Post {
-            own: Memory::new(true),
-            other: Memory::new(false),
-            record,
-        };
-        let bytes = encode(&post.record);
-        post.set_bytes(&bytes);
-        post
-    }
-
-    /// The slots are as they are before anything is put.
-    fn clear_slots(&mut self) {
-        self.own.clear_slots();
-        self.other.clear_slots();
-    }
-
-    /// New bytes of a record, with nothing put.
-    fn set_bytes(&mut self, bytes: &[u8]) {
-        self.own.set_record(bytes);
-        self.other.set_record(bytes);
-        self.clear_slots();
-    }
-
-    /// The record is that of the bytes.
-    fn follow_bytes(&mut self) {
-        if let Some(record) = decode(&self.bytes()) {
-            self.record = record;
-        }
-    }
-
-    /// The bytes of the record.
-    fn bytes(&self) -> RecordBytes {
-        let mut bytes = [0; RECORD_LENGTH];
-        bytes.copy_from_slice(&self.own.record.whole()[..RECORD_LENGTH]);
-        bytes
-    }
-
-    /// What differs after a call, told with the record before it. Both then go on from the same.
-    fn difference(
-        &mut self,
-        what: impl FnOnce() -> String,
-        before: &RecordBytes,
-        outcomes: Option<(String, String)>,
-    ) -> Option<Difference> {
-        if outcomes.is_none() && self.own == self.other {
-            return None;
-        }
-        let places = places(&self.own, &self.other);
-        self.other.copy_from(&self.own);
-        Some(Difference {
-            what: what(),
-            before: before.to_vec(),
-            outcomes,
-            places,
-        })
-    }
-}
-
-/// Both sides.
-pub struct Posts {
-    pub client: Post<ClientSide>,
-    pub server: Post<ServerSide>,
-}
-
-/// A side that can stand on the bench.
-pub trait Benched: Door {
-    fn post(posts: &Posts) -> &Post<Self>;
-    fn post_mut(posts: &mut Posts) -> &mut Post<Self>;
-    fn call(library: &mut dyn Library, invocation: &Invocation<Self>, lent: Lent) -> u64;
-    fn ask_part(library: &mut dyn Library, number: u16, record: &[u8], slots: &[u8]) -> u64;
-}
 
 pub struct Bench {
     posts: Posts,
@@ -158,7 +76,7 @@ impl Bench {
         let lent = post.other.lent(self.lent);
         let other = S::call(self.library.as_mut(), invocation, lent);
         let lengths = self.lent;
-        let what = || format!("{} {invocation:?} with {lengths:?}", S::WORDS.side);
+        let what = || told(invocation, lengths);
         let difference = post.difference(what, &before, outcomes(own, other));
         self.findings.add(difference);
         if result.is_ok() {
@@ -207,7 +125,7 @@ impl Bench {
         let own = part::<S>(number, lent.record, lent.slots);
         let lent = post.other.lent(lengths);
         let other = S::ask_part(self.library.as_mut(), number, lent.record, lent.slots);
-        let what = || format!("{} part {number} with {lengths:?}", S::WORDS.side);
+        let what = || format!("{} part {number}, lent {lengths}", S::WORDS.side);
         let difference = post.difference(what, &before, part_lengths(own, other));
         self.findings.add(difference);
         own as usize
@@ -224,15 +142,14 @@ impl Bench {
     /// A datagram is read into the header buffer, which is the client's.
     pub fn read(&mut self, datagram: &[u8]) -> Outcome {
         let post = &mut self.posts.client;
-        let before = post.bytes();
         post.own.clear_header();
         post.other.clear_header();
         let length = self.lent.header;
         let result = door::pdu::read(datagram, post.own.header.front(length));
         let other = self.library.read(datagram, post.other.header.front(length));
-        let what = || format!("read of {datagram:?} into {length} bytes");
+        let what = || format!("read {} into {length} bytes", bytes_told(datagram));
         let outcomes = outcomes(outcome(&result), other);
-        let difference = post.difference(what, &before, outcomes);
+        let difference = post.difference(what, &[], outcomes);
         self.findings.add(difference);
         count_read(datagram, length, answer(&result), &mut self.coverage.counts);
         result
@@ -241,54 +158,20 @@ impl Bench {
     /// A PDU is written into the PDU buffer, which is the client's.
     pub fn write(&mut self, header: &[u8], body: &[u8]) -> Outcome {
         let post = &mut self.posts.client;
-        let before = post.bytes();
         post.own.clear_sent();
         post.other.clear_sent();
         let length = self.lent.pdu;
         let result = door::pdu::write(header, body, post.own.pdu.front(length));
         let other = (self.library).write(header, body, post.other.pdu.front(length));
-        let what = || format!("write of {header:?}, {body:?} into {length} bytes");
+        let what = || {
+            let (header, body) = (bytes_told(header), bytes_told(body));
+            format!("write header {header}, body {body} into {length} bytes")
+        };
         let outcomes = outcomes(outcome(&result), other);
-        let difference = post.difference(what, &before, outcomes);
+        let difference = post.difference(what, &[], outcomes);
         self.findings.add(difference);
         let counts = &mut self.coverage.counts;
         count_write(header, body.len(), length, answer(&result), counts);
         result
-    }
-}
-
-impl Benched for ClientSide {
-    fn post(posts: &Posts) -> &Post<ClientSide> {
-        &posts.client
-    }
-
-    fn post_mut(posts: &mut Posts) -> &mut Post<ClientSide> {
-        &mut posts.client
-    }
-
-    fn call(library: &mut dyn Library, invocation: &Invocation<ClientSide>, lent: Lent) -> u64 {
-        library.client(invocation, lent)
-    }
-
-    fn ask_part(library: &mut dyn Library, number: u16, record: &[u8], slots: &[u8]) -> u64 {
-        library.client_part(number, record, slots)
-    }
-}
-
-impl Benched for ServerSide {
-    fn post(posts: &Posts) -> &Post<ServerSide> {
-        &posts.server
-    }
-
-    fn post_mut(posts: &mut Posts) -> &mut Post<ServerSide> {
-        &mut posts.server
-    }
-
-    fn call(library: &mut dyn Library, invocation: &Invocation<ServerSide>, lent: Lent) -> u64 {
-        library.server(invocation, lent)
-    }
-
-    fn ask_part(library: &mut dyn Library, number: u16, record: &[u8], slots: &[u8]) -> u64 {
-        library.server_part(number, record, slots)
     }
 }

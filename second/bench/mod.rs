@@ -8,3 +8,5 @@ pub mod findings;
 pub mod library;
 pub mod memory;
 pub mod message;
+pub mod post;
+pub mod words;

@@ -1,7 +1,7 @@
 //! What can be reached with bytes that no machine leaves as a record, by name.
 
+use crate::coverage::counts::Group;
 use crate::door::layout;
-use crate::generate::bytes::arguments::wrong_start_names;
 use crate::generate::bytes::calls::{functions, Callable};
 use crate::generate::bytes::records::ways;
 use crate::generate::bytes::scenes::{NUMBERS_BEYOND, RECORD_LENGTHS};
@@ -58,12 +58,14 @@ fn argument_names<S: Callable>() -> Vec<String> {
 }
 
 /// All names of a side.
-pub fn names<S: Callable>() -> Vec<String> {
-    let mut names = unreadable_names::<S>();
-    names.extend(meaningless_names::<S>());
-    names.extend(argument_names::<S>());
-    if S::WORDS.side == "client" {
-        names.extend(wrong_start_names());
-    }
-    names
+pub fn groups<S: Callable>() -> Vec<Group> {
+    let mut arguments = argument_names::<S>();
+    arguments.extend(S::wrong_argument_names());
+    let parts = [
+        ("unreadable bytes at each function", unreadable_names::<S>()),
+        ("meaningless bytes", meaningless_names::<S>()),
+        ("lengths, numbers and arguments", arguments),
+    ];
+    let told = parts.map(|(what, names)| (format!("{} {what}", S::WORDS.side), names));
+    told.into()
 }

@@ -34,12 +34,16 @@ struct Pairs {
     counts: [[u64; ANSWERS]; ANSWERS],
 }
 
+/// Names that are told together, with what they are.
+pub type Group = (String, Vec<String>);
+
 pub struct Counts {
-    /// In the order in which they are printed; those that must be reached come first.
+    /// What each group is, and how many names it has. All of them must be reached.
+    groups: Vec<(String, usize)>,
+    /// In the order in which they are printed, those of the groups first.
     names: Vec<String>,
     counts: Vec<u64>,
     places: HashMap<String, usize, BuildHasherDefault<Fnv>>,
-    foreseen: usize,
     /// The name that is being counted.
     text: String,
     pairs: Vec<Pairs>,
@@ -47,7 +51,12 @@ pub struct Counts {
 
 impl Counts {
     /// All names must be reached. Each of the commands can give pairs of grounds.
-    pub fn new(names: Vec<String>, commands: &[&str]) -> Counts {
+    pub fn new(groups: Vec<Group>, commands: &[&str]) -> Counts {
+        let sizes = groups
+            .iter()
+            .map(|(what, names)| (what.clone(), names.len()));
+        let sizes = sizes.collect();
+        let names: Vec<String> = groups.into_iter().flat_map(|(_, names)| names).collect();
         let places = names.iter().cloned().zip(0..).collect();
         let pairs = commands.iter().map(|command| Pairs {
             command: command.to_string(),
@@ -55,7 +64,7 @@ impl Counts {
         });
         Counts {
             counts: vec![0; names.len()],
-            foreseen: names.len(),
+            groups: sizes,
             names,
             places,
             text: String::new(),
@@ -108,18 +117,39 @@ impl Counts {
         }
     }
 
-    /// All names with their counts, and how many of them must be reached.
-    pub fn told(mut self) -> (Vec<(String, u64)>, usize) {
+    /// The counts, with those of the pairs among them.
+    pub fn told(mut self) -> Told {
         for pairs in std::mem::take(&mut self.pairs) {
             for (low, high, times) in pairs_counted(&pairs) {
                 let name = format_args!("{}-both-{low}-{high}", pairs.command);
                 self.add_times(name, times);
             }
         }
-        (
-            self.names.into_iter().zip(self.counts).collect(),
-            self.foreseen,
-        )
+        Told {
+            groups: self.groups,
+            counts: self.names.into_iter().zip(self.counts).collect(),
+        }
+    }
+}
+
+/// Groups and counts as they are told.
+pub struct Told {
+    groups: Vec<(String, usize)>,
+    /// The names of the groups first, then those that were not foreseen.
+    pub counts: Vec<(String, u64)>,
+}
+
+impl Told {
+    /// What each group is, and the counts of its names.
+    pub fn groups(&self) -> Vec<(&str, &[(String, u64)])> {
+        let mut rest = &self.counts[..];
+        let mut groups = Vec::new();
+        for (what, size) in &self.groups {
+            let (group, behind) = rest.split_at(*size);
+            groups.push((what.as_str(), group));
+            rest = behind;
+        }
+        groups
     }
 }
 

@@ -32,16 +32,16 @@ pub struct Coverage {
 
 impl Coverage {
     pub fn new() -> Coverage {
-        let names = [
-            codec::names(),
-            side_names::names::<ClientSide>(),
-            side_names::names::<ServerSide>(),
-            bytes::names::<ClientSide>(),
-            bytes::names::<ServerSide>(),
-            system_names::names(),
+        let groups = [
+            vec![("reader and writer".into(), codec::names())],
+            side_names::groups::<ClientSide>(),
+            side_names::groups::<ServerSide>(),
+            bytes::groups::<ClientSide>(),
+            bytes::groups::<ServerSide>(),
+            system_names::groups(),
         ];
         Coverage {
-            counts: Counts::new(names.concat(), &COMMANDS),
+            counts: Counts::new(groups.concat(), &COMMANDS),
             calls: None,
         }
     }

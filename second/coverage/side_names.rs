@@ -1,7 +1,7 @@
 //! All that a script can reach of a side, by name: what is told of both alike.
 
 use crate::coverage::boundary::boundary_names;
-use crate::coverage::counts::pair_names;
+use crate::coverage::counts::{pair_names, Group};
 use crate::coverage::step::Counted;
 use crate::records::record::Record;
 use crate::records::side::Words;
@@ -128,16 +128,17 @@ pub fn lent_names(words: &Words) -> Vec<String> {
 }
 
 /// All names of a side, in the order in which they are printed.
-pub fn names<S: Named>() -> Vec<String> {
+pub fn groups<S: Named>() -> Vec<Group> {
+    let grounds = [S::ground_names(), arrive_pair_names::<S>()];
     let parts = [
-        row_names::<S>(),
-        answer_names::<S>(),
-        state_names::<S>(),
-        rule_names::<S>(),
-        S::ground_names(),
-        arrive_pair_names::<S>(),
-        S::detail_names(),
-        boundary_names(&S::WORDS),
+        ("rows", row_names::<S>()),
+        ("answers", answer_names::<S>()),
+        ("changes of state", state_names::<S>()),
+        ("rules broken alone", rule_names::<S>()),
+        ("pairs of grounds", grounds.concat()),
+        ("details of PDUs, parts and tickets", S::detail_names()),
+        ("boundaries", boundary_names(&S::WORDS)),
     ];
-    parts.concat()
+    let told = parts.map(|(what, names)| (format!("{} {what}", S::WORDS.side), names));
+    told.into()
 }

@@ -1,5 +1,6 @@
 //! All that a script can reach of a client and a server that are joined, by name.
 
+use crate::coverage::counts::Group;
 use crate::coverage::side_names::{row_names, state_names};
 use crate::records::client::ClientSide;
 use crate::records::server::ServerSide;
@@ -71,20 +72,41 @@ fn is_out_of_reach(row: &str) -> bool {
     is_unlike || OUT_OF_REACH.iter().any(|part| row.starts_with(part))
 }
 
-pub fn names() -> Vec<String> {
+/// All names of a client and a server that are joined.
+pub fn groups() -> Vec<Group> {
+    let parts = [
+        ("calls and notices", fact_names()),
+        ("rows", all_row_names()),
+        ("changes of state", all_state_names()),
+        ("answers", answer_names()),
+    ];
+    let told = parts.map(|(what, names)| (format!("system {what}"), names));
+    told.into()
+}
+
+fn fact_names() -> Vec<String> {
     let mut names = FACTS.map(String::from).to_vec();
+    names.extend(["last", "count"].map(|notice| format!("system client notice {notice}")));
+    names
+}
+
+fn all_row_names() -> Vec<String> {
     let rows = row_names::<ClientSide>()
         .into_iter()
         .chain(row_names::<ServerSide>())
         .filter(|row| !is_out_of_reach(row));
-    names.extend(rows.map(|row| format!("system {row}")));
+    rows.map(|row| format!("system {row}")).collect()
+}
+
+fn all_state_names() -> Vec<String> {
     let states = state_names::<ClientSide>()
         .into_iter()
         .chain(state_names::<ServerSide>());
-    names.extend(states.map(|change| format!("system {change}")));
-    for notice in ["last", "count"] {
-        names.push(format!("system client notice {notice}"));
-    }
+    states.map(|change| format!("system {change}")).collect()
+}
+
+fn answer_names() -> Vec<String> {
+    let mut names = Vec::new();
     for (event, answers) in ANSWERS {
         let of_event = answers
             .iter()

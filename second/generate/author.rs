@@ -1,9 +1,10 @@
 //! Makes events and has them take place on the bench, so that it knows the records that the next
 //! event meets.
 
-use crate::bench::bench::{Bench, Benched, Outcome};
+use crate::bench::bench::{Bench, Outcome};
 use crate::bench::memory::RIGHT;
 use crate::bench::message::LastMessage;
+use crate::bench::post::Benched;
 use crate::codec::pdu::{offset, written_header};
 use crate::coverage::step::Counted;
 use crate::door::record_bytes::encode;

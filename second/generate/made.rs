@@ -1,6 +1,6 @@
 //! What the authors of both sides do alike: records, and events that meet them.
 
-use crate::bench::bench::Benched;
+use crate::bench::post::Benched;
 use crate::coverage::step::Counted;
 use crate::generate::arriving::Arriving;
 use crate::generate::author::Author;

@@ -94,8 +94,8 @@ fn shared_bytes() -> RecordBytes {
 fn client_bytes() -> RecordBytes {
     let mut bytes = shared_bytes();
     bytes[..4].copy_from_slice(&[6, 1, 2, 3]);
-    for place in 40..56 {
-        bytes[place] = place as u8;
+    for (place, byte) in (40..56).zip(&mut bytes[40..56]) {
+        *byte = place;
     }
     bytes[64..66].fill(1);
     bytes
@@ -132,7 +132,7 @@ fn fresh_bytes() -> Result<(), &'static str> {
 /// of none.
 fn round_trip<S: Made + Meaningless>(turn: usize, random: &mut Random) -> Result<(), &'static str> {
     let mut record = S::sound_record(S::STATES[turn % S::STATES.len()], random);
-    if turn % 3 == 0 {
+    if turn.is_multiple_of(3) {
         record.break_any_rule(random);
     }
     let canonical = encode(&record);

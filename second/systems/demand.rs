@@ -4,8 +4,9 @@
 //! hold, and the tickets that are armed. They take from the machines only what these give out: the
 //! answer, the PDU, the notice, the record and what is handed up.
 
-use crate::bench::bench::{Bench, Benched};
+use crate::bench::bench::Bench;
 use crate::bench::memory::PDU_FILL;
+use crate::bench::post::Benched;
 use crate::machines::effect::{Effect, Notice};
 use crate::machines::event::Event;
 use crate::records::client::{Client, ClientSide, State as ClientState};

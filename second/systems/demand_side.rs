@@ -1,8 +1,9 @@
 //! The part of demand 3 that is owed of both sides alike: what a refusal leaves, which tickets are
 //! armed, and the bytes of the slot buffer.
 
-use crate::bench::bench::{Bench, Benched, Outcome};
+use crate::bench::bench::{Bench, Outcome};
 use crate::bench::memory::{MOST, SLOTS_FILL};
+use crate::bench::post::Benched;
 use crate::codec::pdu::{BODY_LIMIT, HEADER_LENGTH};
 use crate::machines::effect::Effect;
 use crate::machines::event::Event;

@@ -1,7 +1,8 @@
 //! The events of a run: each takes place, is given to the network and is checked against demand 3.
 
-use crate::bench::bench::{Benched, Outcome};
+use crate::bench::bench::Outcome;
 use crate::bench::message::message;
+use crate::bench::post::Benched;
 use crate::coverage::step::Counted;
 use crate::generate::random::Random;
 use crate::machines::effect::Notice;

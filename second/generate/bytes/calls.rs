@@ -32,6 +32,9 @@ pub trait Callable: Made + Named {
     /// A function that only this side has, with arguments of which one is wrong.
     fn wrong_arguments(turn: usize, author: &mut Author<Self>);
 
+    /// The names of what such arguments reach.
+    fn wrong_argument_names() -> Vec<String>;
+
     /// A PDU that mostly fits the record.
     fn fitting_pdu(record: &Record<Self>, random: &mut Random) -> Arriving;
 }
@@ -128,6 +131,10 @@ impl Callable for ClientSide {
         arguments::wrong_start(turn, author);
     }
 
+    fn wrong_argument_names() -> Vec<String> {
+        arguments::wrong_start_names()
+    }
+
     fn fitting_pdu(client: &Client, random: &mut Random) -> Arriving {
         match random.between(0, 9) {
             0..=4 => Arriving::response(client, random),
@@ -159,6 +166,10 @@ impl Callable for ServerSide {
     fn wrong_arguments(_: usize, author: &mut Author<ServerSide>) {
         let length = author.random.pick(&[44_545, 65_536, u32::MAX]);
         let _ = invoke(&Invocation::Own(Answer::Reply { length }), author);
+    }
+
+    fn wrong_argument_names() -> Vec<String> {
+        Vec::new()
     }
 
     fn fitting_pdu(server: &Server, random: &mut Random) -> Arriving {
