@@ -1,4 +1,4 @@
-//! All that a script can reach of the client, by name.
+//! All that can be reached of the client, by name.
 //!
 //! Left out is what cannot be reached. At an arrival: 11 and 19 (a client takes no request), 18,
 //! and 15 in DISPATCHED (which has a row for each type that a client takes). 20 at the ACK timer,

@@ -137,7 +137,7 @@ pub fn order_name(order: ByteOrder) -> &'static str {
     }
 }
 
-/// All that a script can reach, in the order in which it is printed.
+/// All that can be reached, in the order in which it is printed.
 pub fn names() -> Vec<String> {
     let mut names = vec!["write of a header of another length".to_string()];
     names.extend(READ_ANSWERS.map(|answer| format!("read-answer-{answer}")));

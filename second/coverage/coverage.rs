@@ -3,7 +3,7 @@
 use super::counts::Counts;
 use super::step::{self, Counted, Step};
 use super::system::Calls;
-use super::{bytes, codec, side_names, system_names};
+use super::{bytes, codec, lent, side_names, system_names};
 use crate::bench::memory::Lengths;
 use crate::records::client::ClientSide;
 use crate::records::record::Record;
@@ -65,7 +65,7 @@ impl Coverage {
         }
     }
 
-    pub fn count_hand_up<S: Counted>(&mut self, number: u16, record: &Record<S>, lent: Lengths) {
-        step::count_hand_up(number, record, lent, &mut self.counts);
+    pub fn count_hand_up<S: Counted>(&mut self, number: u16, record: &Record<S>, lengths: Lengths) {
+        lent::count_hand_up(number, record, lengths, &mut self.counts);
     }
 }

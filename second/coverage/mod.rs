@@ -9,6 +9,7 @@ pub mod counts;
 #[allow(clippy::module_inception)]
 pub mod coverage;
 pub mod grounds;
+pub mod lent;
 pub mod server;
 pub mod server_names;
 pub mod server_pdu;

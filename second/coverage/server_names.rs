@@ -1,4 +1,4 @@
-//! All that a script can reach of the server, by name.
+//! All that can be reached of the server, by name.
 //!
 //! Left out is what cannot be reached. At an arrival: 18, 19 and 20, since none arms a timer; 13 in
 //! IDLE_FRESH, which has no number; 16 where nothing is put. A fack for a request that does not

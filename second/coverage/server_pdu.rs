@@ -1,4 +1,4 @@
-//! Counts what a script reaches of the PDUs that arrive at the server, by what is judged in them.
+//! Counts what is reached of the PDUs that arrive at the server, by what is judged in them.
 
 use crate::codec::pdu::{flags1, pdu_type, Header, Pdu};
 use crate::coverage::boundary::Boundary;

@@ -1,4 +1,4 @@
-//! All that a script can reach of a side, by name: what is told of both alike.
+//! All that can be reached of a side, by name: what is told of both alike.
 
 use crate::coverage::boundary::boundary_names;
 use crate::coverage::counts::{pair_names, Group};

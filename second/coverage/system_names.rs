@@ -1,4 +1,4 @@
-//! All that a script can reach of a client and a server that are joined, by name.
+//! All that can be reached of a client and a server that are joined, by name.
 
 use crate::coverage::counts::Group;
 use crate::coverage::side_names::{row_names, state_names};

@@ -18,7 +18,7 @@ pub enum State {
     Fault,
 }
 
-/// The states in the order of their numbers in a script.
+/// The states in the order of their numbers in a record's first byte.
 pub const STATES: [State; 7] = [
     State::Queued,
     State::SendFrags,

@@ -18,7 +18,7 @@ pub enum State {
     HeldFault,
 }
 
-/// The states in the order of their numbers in a script.
+/// The states in the order of their numbers in a record's first byte.
 pub const STATES: [State; 8] = [
     State::IdleFresh,
     State::IdleSpent,

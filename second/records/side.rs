@@ -18,7 +18,7 @@ pub trait Side: Copy + Debug + Eq + 'static {
 
     /// How the side is told.
     const WORDS: Words;
-    /// The states in the order of their numbers in a script.
+    /// The states in the order of their numbers in a record's first byte.
     const STATES: &'static [Self::State];
     /// The state of a fresh record. Number and call mean nothing in it.
     const FRESH: Self::State;

@@ -7,6 +7,7 @@ pub mod layout;
 pub mod played;
 pub mod rows;
 pub mod server;
+pub mod server_calls;
 pub mod server_stage;
 pub mod side;
 pub mod spoiled;

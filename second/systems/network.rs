@@ -1,4 +1,4 @@
-//! The network of a system script. It loses, repeats and delays datagrams.
+//! The network of a run. It loses, repeats and delays datagrams.
 
 use crate::generate::random::Random;
 
