@@ -36,7 +36,7 @@ fn argument_names<S: Callable>() -> Vec<String> {
     let side = S::WORDS.side;
     let mut names = Vec::new();
     for length in RECORD_LENGTHS {
-        let functions = functions::<S>().into_iter();
+        let functions = functions::<S>().into_iter().chain(["fresh"]);
         names.extend(
             functions.map(|function| format!("{side} record of {length} bytes at {function}")),
         );
@@ -49,6 +49,17 @@ fn argument_names<S: Callable>() -> Vec<String> {
         let answers =
             [1, 2].map(|answer| format!("{side} unreadable transmit where {what}: {answer}"));
         names.extend(answers);
+    }
+    for function in S::EVENTS {
+        // The others are lent no PDU buffer.
+        let answer = if matches!(*function, "start" | "reply") {
+            2
+        } else {
+            1
+        };
+        names.push(format!(
+            "{side} unreadable and lent wrong at {function}: {answer}"
+        ));
     }
     let numbers = (0..32).chain(NUMBERS_BEYOND);
     names.extend(numbers.map(|number| format!("{side} part {number}")));

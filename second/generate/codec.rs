@@ -22,11 +22,11 @@ pub fn play(bench: Bench, seed: u64, events: u64) -> Bench {
     author.bench
 }
 
-/// The longest body that is lent to be written.
+/// The longest body that is mostly lent to be written. A longer one has a short length in two bytes.
 const LONGEST_BODY: usize = 2_048;
 
 /// Datagram lengths at which something changes, and some others.
-const BOUNDARY_LENGTHS: [usize; 10] = [79, 80, 81, 1_471, 1_472, 1_473, 0, 1, 40, 2_048];
+const BOUNDARY_LENGTHS: [usize; 11] = [79, 80, 81, 1_471, 1_472, 1_473, 0, 1, 40, 2_048, 65_616];
 
 /// What is wrong with a datagram of a boundary length, apart from the length itself.
 const BOUNDARY_DEFECTS: [&[Defect]; 6] = [
@@ -257,7 +257,9 @@ impl Author {
 
     fn body_length_over_the_limit(&mut self) -> usize {
         if self.random.percent(60) {
-            return self.random.pick(&[BODY_LIMIT + 1, LONGEST_BODY]);
+            return self
+                .random
+                .pick(&[BODY_LIMIT + 1, LONGEST_BODY, 65_536, 65_537]);
         }
         self.random.between(BODY_LIMIT + 1, LONGEST_BODY)
     }

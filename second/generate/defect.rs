@@ -77,6 +77,8 @@ pub const DEFECTS: [&[Defect]; 6] = [
         Defect::LengthSays(65_535),
         Defect::BodyOf(1_393),
         Defect::BodyOf(1_968),
+        // In two bytes its length is 4.
+        Defect::BodyOf(65_540),
     ],
 ];
 

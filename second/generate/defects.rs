@@ -9,7 +9,7 @@ use crate::records::record::Record;
 
 /// Lengths of messages that may be lent, and those that may not.
 pub const OTHER_LENGTHS: [u32; 7] = [0, 1, 1_391, 1_392, 1_393, 2_784, 44_544];
-const OVER_THE_LIMIT: [u32; 3] = [44_545, 45_936, 65_536];
+const OVER_THE_LIMIT: [u32; 4] = [44_545, 45_936, 65_536, 65_537];
 
 /// Messages that no start or reply may bring.
 const TOO_LONG: [u32; 5] = [44_545, 44_546, 65_536, 356_353, u32::MAX];

@@ -107,7 +107,12 @@ pub fn wrong_start(turn: usize, author: &mut client::author::Author) {
         operation: call.operation,
         length: message_length(random),
     };
-    author.bench.set_bytes::<ClientSide>(&encode(&record));
+    let mut bytes = encode(&record);
+    if turn.is_multiple_of(3) {
+        // What is wrong with the arguments comes before that.
+        Way::State.spoil::<ClientSide>(&mut bytes, random);
+    }
+    author.bench.set_bytes::<ClientSide>(&bytes);
     if let Some(Given::Answer(answer)) = invoke(&Invocation::Own(arguments), author) {
         let what = WRONG_STARTS[case];
         let name = format_args!("client start with {what} wrong: {answer}");

@@ -25,12 +25,13 @@ pub const NUMBERS_BEYOND: [u16; 9] = [32, 33, 63, 255, 256, 257, 287, 32_768, 65
 
 /// So many events of scenes.
 pub fn play<S: Callable>(bench: Bench, seed: u64, events: u64) -> Bench {
-    let round: [(Scene<S>, usize); 10] = [
+    let round: [(Scene<S>, usize); 11] = [
         (unreadable_record, 10),
         (changed_record, 12),
         (random_record, 6),
         (meaningless_place, 4),
         (other_record_length, 1),
+        (unreadable_and_lent_wrong, 1),
         (unreadable_transmit, 2),
         (parts, 1),
         (other_timer, 2),
@@ -150,6 +151,37 @@ fn other_record_length<S: Callable>(turn: usize, author: &mut Author<S>) {
         if given.is_some_and(Given::is_of_another_length) {
             let side = S::WORDS.side;
             let name = format_args!("{side} record of {length} bytes at {function}");
+            author.bench.coverage.counts.add(name);
+        }
+    }
+    let activity = author.random.uuid();
+    let invocation = Invocation::Fresh {
+        activity: &activity,
+        argument: S::any_fresh_argument(&mut author.random),
+        tickets: 7,
+    };
+    let given = invoke::<S>(&invocation, author);
+    if given.is_some_and(Given::is_of_another_length) {
+        let name = format_args!("{} record of {length} bytes at fresh", S::WORDS.side);
+        author.bench.coverage.counts.add(name);
+    }
+    author.bench.lent = RIGHT;
+}
+
+/// A PDU buffer of another length comes before bytes that are not readable, where one is lent.
+fn unreadable_and_lent_wrong<S: Callable>(turn: usize, author: &mut Author<S>) {
+    let ways = ways::<S>();
+    let record = record_with_a_part(turn, author);
+    let mut bytes = encode(&record);
+    let way = author.random.pick(&ways);
+    way.spoil::<S>(&mut bytes, &mut author.random);
+    author.bench.set_bytes::<S>(&bytes);
+    author.lend_wrong_pdu();
+    for function in functions::<S>() {
+        let given = call_fitting(function, &record, author);
+        if let Some(Given::Answer(answer)) = given {
+            let side = S::WORDS.side;
+            let name = format_args!("{side} unreadable and lent wrong at {function}: {answer}");
             author.bench.coverage.counts.add(name);
         }
     }
