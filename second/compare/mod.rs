@@ -1,0 +1,5 @@
+//! The comparison with the proved library: its exports, what is played, and the report.
+
+pub mod archive;
+pub mod play;
+pub mod report;

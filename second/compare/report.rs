@@ -1,0 +1,61 @@
+//! What the comparison prints.
+
+use crate::bench::bench::Bench;
+use crate::coverage::counts::Told;
+use std::io::{self, Write};
+
+/// So many names that were not reached are told; the others are counted.
+const TOLD: usize = 20;
+
+/// What the comparison found.
+#[derive(Clone, Copy, PartialEq, Eq)]
+pub struct Verdict {
+    pub agrees: bool,
+    pub reaches_all: bool,
+}
+
+/// Prints what was reached and what was not, the first differences, and the line of counts. With
+/// the table, every name is printed with its count.
+pub fn report(bench: Bench, with_table: bool, output: &mut impl Write) -> io::Result<Verdict> {
+    let findings = bench.findings;
+    let told = bench.coverage.counts.told();
+    if with_table {
+        for (name, times) in &told.counts {
+            writeln!(output, "{times:>10} {name}")?;
+        }
+    }
+    let missing = report_groups(&told, output)?;
+    for difference in findings.told() {
+        write!(output, "{difference}")?;
+    }
+    if findings.broken > 0 {
+        writeln!(output, "demand 3 failed {} times", findings.broken)?;
+    }
+    let (events, differences) = (findings.events, findings.differences);
+    writeln!(output, "{events} events, {differences} differences")?;
+    Ok(Verdict {
+        agrees: differences == 0 && findings.broken == 0,
+        reaches_all: missing == 0,
+    })
+}
+
+/// Prints how many names of each group were reached, and the first that were not. Gives how many
+/// were not.
+fn report_groups(told: &Told, output: &mut impl Write) -> io::Result<usize> {
+    let mut missing = Vec::new();
+    for (what, counts) in told.groups() {
+        let not_reached = counts.iter().filter(|(_, times)| *times == 0);
+        let before = missing.len();
+        missing.extend(not_reached.map(|(name, _)| name));
+        let reached = counts.len() - (missing.len() - before);
+        writeln!(output, "{what}: {reached} of {} reached", counts.len())?;
+    }
+    for name in missing.iter().take(TOLD) {
+        writeln!(output, "not reached: {name}")?;
+    }
+    if missing.len() > TOLD {
+        let more = missing.len() - TOLD;
+        writeln!(output, "not reached: {more} more; `second table` tells all")?;
+    }
+    Ok(missing.len())
+}

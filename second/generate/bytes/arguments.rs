@@ -1,0 +1,121 @@
+//! Arguments that an event cannot have: UUIDs of another length, marks above 1, other timers.
+
+use super::calls::{invoke, Callable, Given};
+use super::records::Way;
+use crate::bench::memory::RIGHT;
+use crate::codec::pdu::Uuid;
+use crate::door::invocation::{Invocation, StartArguments};
+use crate::door::layout;
+use crate::door::record_bytes::encode;
+use crate::generate::author::Author;
+use crate::generate::client;
+use crate::generate::made::Made;
+use crate::generate::parts::{any_call, message_length};
+use crate::generate::random::Random;
+use crate::records::client::{ClientSide, State, STATES};
+
+/// Lengths of a UUID that are not its own.
+const UUID_LENGTHS: [usize; 6] = [0, 1, 15, 17, 32, 272];
+
+/// A UUID of another length.
+fn wrong_uuid(turn: usize, random: &mut Random) -> Vec<u8> {
+    random.bytes(UUID_LENGTHS[turn % UUID_LENGTHS.len()])
+}
+
+/// A timer of a kind that the side does not have: 1 and 2 come first, then 15.
+pub fn other_timer<S: Callable>(turn: usize, author: &mut Author<S>) {
+    let random = &mut author.random;
+    let record = S::sound_record(S::STATES[turn % S::STATES.len()], random);
+    let mut bytes = encode(&record);
+    let case = turn / S::STATES.len() % 4;
+    if case == 1 {
+        Way::Spare(layout::SLOTS + layout::SLOT_SPARE).spoil::<S>(&mut bytes, random);
+    } else if case == 2 {
+        let mut broken = record.clone();
+        broken.break_any_rule(random);
+        bytes = encode(&broken);
+    }
+    let own = S::TIMER_NUMBERS.iter().map(|timer| timer.0);
+    let others: Vec<u8> = (0..=255)
+        .filter(|kind| !own.clone().any(|own| own == *kind))
+        .collect();
+    let any = random.pick(&others);
+    let kind = random.pick(&[0, 4, others[1], others[2], any, 255]);
+    let ticket = random.pick(&[record.tickets.counter, 0, u64::MAX]);
+    author.bench.set_bytes::<S>(&bytes);
+    if case == 3 {
+        author.lend_wrong_pdu();
+    }
+    if let Some(Given::Answer(answer)) = invoke::<S>(&Invocation::Timer { kind, ticket }, author) {
+        let name = format_args!("{} timer of another kind: {answer}", S::WORDS.side);
+        author.bench.coverage.counts.add(name);
+    }
+    author.bench.lent = RIGHT;
+}
+
+/// A fresh record in the place of any other; every second activity has another length.
+pub fn fresh_record<S: Callable>(turn: usize, author: &mut Author<S>) {
+    let random = &mut author.random;
+    let bytes = super::records::any_bytes::<S>(random);
+    let activity: Uuid = random.uuid();
+    let wrong = wrong_uuid(turn / 2, random);
+    let tickets = random.pick(&[0, 1, u64::MAX, 1 << 40]);
+    let argument = S::any_fresh_argument(random);
+    author.bench.set_bytes::<S>(&bytes);
+    match turn % 2 {
+        0 => author.fresh_of::<S>(&activity, argument, tickets),
+        _ => author.fresh_of::<S>(&wrong, argument, tickets),
+    }
+}
+
+/// What is wrong with a start, beside what its record says.
+const WRONG_STARTS: [&str; 4] = ["nothing", "the mark", "the object", "the interface"];
+
+/// The names of what is wrong, as they are counted.
+pub fn wrong_start_names() -> Vec<String> {
+    let wrong = WRONG_STARTS[1..].iter();
+    wrong
+        .map(|what| format!("client start with {what} wrong: 1"))
+        .collect()
+}
+
+/// A start whose mark or one of whose UUIDs no call has.
+pub fn wrong_start(turn: usize, author: &mut client::author::Author) {
+    let random = &mut author.random;
+    let states = STATES.map(|state| {
+        if state.may_start() {
+            state
+        } else {
+            State::Queued
+        }
+    });
+    let mut record = ClientSide::sound_record(states[turn / 4 % states.len()], random);
+    record.number = 7;
+    let call = any_call(random);
+    let wrong = wrong_uuid(turn, random);
+    let mark = random.between(2, 255) as u8;
+    let case = turn % 4;
+    let arguments = StartArguments {
+        idempotent: if case == 1 {
+            mark
+        } else {
+            u8::from(call.idempotent)
+        },
+        object: if case == 2 { &wrong } else { &call.object },
+        interface: if case == 3 { &wrong } else { &call.interface },
+        version: call.version,
+        operation: call.operation,
+        length: message_length(random),
+    };
+    let mut bytes = encode(&record);
+    if turn.is_multiple_of(3) {
+        // What is wrong with the arguments comes before that.
+        Way::State.spoil::<ClientSide>(&mut bytes, random);
+    }
+    author.bench.set_bytes::<ClientSide>(&bytes);
+    if let Some(Given::Answer(answer)) = invoke(&Invocation::Own(arguments), author) {
+        let what = WRONG_STARTS[case];
+        let name = format_args!("client start with {what} wrong: {answer}");
+        author.bench.coverage.counts.add(name);
+    }
+}

@@ -1,0 +1,138 @@
+//! The events of a client: scenes, each a few events on one record.
+//!
+//! What must not be missed goes round by the turns of a scene; the rest is random.
+
+use crate::bench::bench::Bench;
+use crate::codec::pdu::pdu_type;
+use crate::generate::arriving::Arriving;
+use crate::generate::client::author::Author;
+use crate::generate::client::calls::whole_call;
+use crate::generate::client::cases::{
+    arrival_row, broken_record, fragment_case, impossible_number, malformed_body, no_ticket_left,
+    whole_reply,
+};
+use crate::generate::client::defects::{
+    damaged_arrival, defects_at_arrival, defects_at_start, defects_at_timer, refused_arrival,
+};
+use crate::generate::client::pdus::OTHER_TYPES;
+use crate::generate::defects::defects_at_transmit;
+use crate::generate::parts::message_length;
+use crate::generate::random::Random;
+use crate::generate::scenes::{self, any_record, play_scenes, Scene};
+use crate::records::client::{Client, ClientSide, State, TimerKind};
+
+/// The scenes of one round, each with how often it comes.
+const ROUND: [(Scene<ClientSide>, usize); 16] = [
+    (broken_record, 3),
+    (any_record, 6),
+    (defects_at_arrival, 12),
+    (refused_arrival, 2),
+    (damaged_arrival, 4),
+    (impossible_number, 2),
+    (malformed_body, 2),
+    (arrival_row, 2),
+    (fragment_case, 1),
+    (whole_reply, 1),
+    (no_ticket_left, 1),
+    (defects_at_start, 2),
+    (defects_at_transmit, 4),
+    (defects_at_timer, 4),
+    (wrong_lend, 1),
+    (whole_call, 1),
+];
+
+/// So many events of scenes.
+pub fn play(bench: Bench, seed: u64, events: u64) -> Bench {
+    play_scenes(&ROUND, bench, seed, events)
+}
+
+fn wrong_lend(turn: usize, author: &mut Author) {
+    scenes::wrong_lend(turn, 2, author);
+}
+
+pub fn state_timer(state: State) -> Option<TimerKind> {
+    [TimerKind::Wait, TimerKind::Ack]
+        .into_iter()
+        .find(|kind| state.names(*kind))
+}
+
+#[derive(Clone, Copy)]
+enum Happening {
+    Start,
+    Transmit,
+    Response,
+    RepeatedResponse,
+    Fack,
+    Failure,
+    Working,
+    Nocall,
+    Timer,
+    LateTimer,
+    HandUp,
+    Other,
+}
+
+const HAPPENINGS: [Happening; 12] = [
+    Happening::Start,
+    Happening::Transmit,
+    Happening::Response,
+    Happening::RepeatedResponse,
+    Happening::Fack,
+    Happening::Failure,
+    Happening::Working,
+    Happening::Nocall,
+    Happening::Timer,
+    Happening::LateTimer,
+    Happening::HandUp,
+    Happening::Other,
+];
+
+/// In how many of a hundred cases each of them happens in a state.
+fn shares(state: State) -> [usize; 12] {
+    match state {
+        State::Queued => [50, 8, 6, 0, 4, 4, 2, 2, 6, 2, 12, 4],
+        State::SendFrags => [4, 38, 16, 4, 13, 6, 5, 5, 3, 0, 3, 3],
+        State::Dispatched => [2, 2, 24, 4, 12, 6, 12, 14, 14, 4, 3, 3],
+        State::ReceiveFrags => [3, 3, 38, 9, 8, 6, 4, 4, 14, 4, 4, 3],
+        State::AckPending => [20, 4, 6, 6, 4, 4, 4, 4, 28, 8, 8, 4],
+        State::Complete | State::Fault => [42, 6, 8, 8, 6, 6, 3, 3, 5, 0, 9, 4],
+    }
+}
+
+/// An event that mostly fits the state.
+pub fn any_event(author: &mut Author) {
+    let state = author.record().state;
+    let happening = author.random.share(&HAPPENINGS, &shares(state));
+    let kind = match state_timer(state) {
+        Some(kind) if author.random.percent(85) => kind,
+        _ => author.random.pick(&[TimerKind::Wait, TimerKind::Ack]),
+    };
+    match happening {
+        Happening::Start => {
+            let length = message_length(&mut author.random);
+            author.start(length);
+        }
+        Happening::Transmit => author.transmit(),
+        Happening::Timer => author.timer(kind),
+        Happening::LateTimer => author.late_timer(kind),
+        Happening::HandUp => {
+            let number = author.random.pick(&[0, 1, 2, 31, 32, 255]);
+            author.hand_up(number);
+        }
+        _ => author.arrive(|client, random| any_arriving(happening, client, random)),
+    }
+}
+
+fn any_arriving(happening: Happening, client: &Client, random: &mut Random) -> Arriving {
+    let failure = random.pick(&[pdu_type::FAULT, pdu_type::REJECT]);
+    let pdu_type = match happening {
+        Happening::Response => return Arriving::response(client, random),
+        Happening::RepeatedResponse => return Arriving::repeated_response(client, random),
+        Happening::Fack => return Arriving::fack(client, random),
+        Happening::Failure => failure,
+        Happening::Working => pdu_type::WORKING,
+        Happening::Nocall => pdu_type::NOCALL,
+        _ => random.pick(&OTHER_TYPES),
+    };
+    Arriving::of_type(pdu_type, client, random)
+}

@@ -1,0 +1,14 @@
+//! Checks of this implementation against itself and against rows of the papers.
+
+pub mod all;
+pub mod checked;
+pub mod client;
+pub mod layout;
+pub mod played;
+pub mod rows;
+pub mod server;
+pub mod server_calls;
+pub mod server_stage;
+pub mod side;
+pub mod spoiled;
+pub mod stage;

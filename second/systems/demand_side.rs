@@ -1,0 +1,133 @@
+//! The part of demand 3 that is owed of both sides alike: what a refusal leaves, which tickets are
+//! armed, and the bytes of the slot buffer.
+
+use crate::bench::bench::{Bench, Outcome};
+use crate::bench::memory::{MOST, SLOTS_FILL};
+use crate::bench::post::Benched;
+use crate::codec::pdu::{BODY_LIMIT, HEADER_LENGTH};
+use crate::machines::effect::Effect;
+use crate::machines::event::Event;
+use crate::records::record::Record;
+use crate::records::side::Side;
+use crate::records::timer::Timer;
+use crate::systems::demand::Demand;
+
+/// What of the demand does not hold.
+pub type Broken = String;
+
+/// What the books know of a side.
+pub struct SideBook<S: Side> {
+    slots: Vec<u8>,
+    /// The ticket that each timer is armed with.
+    armed: Vec<(S::TimerKind, Timer)>,
+}
+
+/// An event that has taken place on the bench.
+pub struct Step<'a, S: Side> {
+    pub before: &'a Record<S>,
+    pub event: &'a Event<'a, S>,
+    /// That of a start or reply.
+    pub message: &'a [u8],
+    pub outcome: &'a Outcome,
+    pub bench: &'a Bench,
+}
+
+/// What the demand says of one side otherwise than of the other.
+pub trait Demanded: Benched {
+    /// What the books know of the side.
+    fn book(books: &mut Demand) -> &mut SideBook<Self>;
+
+    /// Whether a fragment was put in a step that gave the effect.
+    fn is_put(datagram: &[u8], after: &Record<Self>, effect: &Effect) -> bool;
+
+    /// Whether the call is over in the state.
+    fn is_over(state: Self::State) -> bool;
+
+    /// What only this side owes in a step that gave the effect.
+    fn check_own(books: &mut Demand, step: &Step<Self>, effect: &Effect) -> Result<(), Broken>;
+}
+
+/// Tells what is broken, unless it holds.
+pub fn check(holds: bool, broken: &str) -> Result<(), Broken> {
+    if holds {
+        Ok(())
+    } else {
+        Err(broken.into())
+    }
+}
+
+/// A part of a datagram of this program, which is always little-endian.
+fn u16_of(datagram: &[u8], at: usize) -> usize {
+    usize::from(u16::from_le_bytes([datagram[at], datagram[at + 1]]))
+}
+
+/// The call number of a datagram.
+pub fn number_of(datagram: &[u8]) -> usize {
+    u16_of(datagram, 64) | u16_of(datagram, 66) << 16
+}
+
+/// Puts the fragment of a datagram into the slots.
+fn put(datagram: &[u8], slots: &mut [u8]) {
+    let body = &datagram[HEADER_LENGTH..];
+    let begin = BODY_LIMIT * u16_of(datagram, 76);
+    slots[begin..begin + body.len()].copy_from_slice(body);
+}
+
+impl<S: Demanded> SideBook<S> {
+    /// The book of a fresh side.
+    pub fn new() -> SideBook<S> {
+        SideBook {
+            slots: vec![SLOTS_FILL; MOST.slots],
+            armed: S::TIMERS.iter().map(|kind| (*kind, None)).collect(),
+        }
+    }
+
+    /// Arming raises the counter, and the timer has the ticket that this gives; a state that does
+    /// not name the timer disarms it.
+    fn follow_timers(&mut self, before: &Record<S>, after: &Record<S>) -> Result<(), Broken> {
+        let is_armed_afresh = before.tickets != after.tickets;
+        for (kind, timer) in &mut self.armed {
+            if !S::names(after.state, *kind) {
+                *timer = None;
+            } else if is_armed_afresh {
+                *timer = Some(after.tickets.counter);
+            }
+            let is_same = after.timer_of(*kind) == *timer;
+            check(is_same, "a side has other tickets armed")?;
+            let is_over = S::is_over(after.state);
+            check(
+                !is_over || timer.is_none(),
+                "a call is over with a timer armed",
+            )?;
+        }
+        Ok(())
+    }
+
+    /// Follows an event that is not refused.
+    pub fn done(&mut self, step: &Step<S>, effect: &Effect) -> Result<(), Broken> {
+        let after = step.bench.record::<S>();
+        match step.event {
+            Event::Arrive { datagram } if S::is_put(datagram, after, effect) => {
+                put(datagram, &mut self.slots);
+            }
+            _ => {}
+        }
+        self.follow_timers(step.before, after)?;
+        check(after.is_sound(), "a record breaks its rules")
+    }
+
+    /// A timer with another ticket than the armed one is refused.
+    pub fn check_late(&self, step: &Step<S>) -> Result<(), Broken> {
+        let is_late = match step.event {
+            Event::Timer { kind, ticket } => !self.armed.contains(&(*kind, Some(*ticket))),
+            _ => false,
+        };
+        check(!is_late || step.outcome.is_err(), "a late timer is taken")
+    }
+
+    /// The slot buffer has only the bytes that were put.
+    pub fn check_slots(&self, bench: &Bench) -> Result<(), Broken> {
+        let slots = bench.memory::<S>().slots.whole();
+        check(self.slots == slots, "a slot buffer has other bytes")
+    }
+}

@@ -1,0 +1,9 @@
+//! Whole systems: a client and a server over a bad network, with demand 3 checked.
+
+pub mod demand;
+pub mod demand_side;
+pub mod habits;
+pub mod network;
+pub mod run;
+pub mod step;
+pub mod stories;
