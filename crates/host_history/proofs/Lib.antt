@@ -17,3 +17,7 @@ pub mod SameRun
 pub mod FreshHosts
 pub mod HostTheorem
 pub mod Handing
+pub mod Unreadable
+pub mod AnsweredBytes
+pub mod HeaderTold
+pub mod OthersRefused

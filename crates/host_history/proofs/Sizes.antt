@@ -2,17 +2,13 @@
 use Prim.Native.Nat.{ℕ, _≤_}
 use mathlib.Core.Bool.{true, false}
 use mathlib.Core.List.{List, []}
-use mathlib.Core.Path.{_≡_, refl, ap}
+use mathlib.Core.Path.{_≡_}
 use native.Mathlib.Omega.{arith}
 use lib.Dec.{eqb}
 use lib.ListN.{length}
 use borrow.Author.Tests.{eqb-false}
-use Rattle.answers.specs.declared.Ground.{Ground}
-use Rattle.answers.specs.declared.Ground.the-variants.{Pass, Refuse}
-use Rattle.answers.specs.Number.{answerOf}
 use Rattle.pdu.specs.declared.Header.{Header}
-use Rattle.writer.specs.Writing.{writeGround, writeBy, writing}
-use Rattle.writer.proofs.Returns.{writable}
+use Rattle.writer.specs.Writing.{writing}
 use Rattle.calls.specs.declared.Sent.the-variants.{Nothing as Unsent, Pdu}
 use Rattle.calls.specs.Sent.{sentOf, posting}
 use Rattle.record_bytes.proofs.Keeping.{choice-by}
@@ -29,22 +25,10 @@ use Rattle.server.specs.Machine.{outcomeOf as serverOutcome, replying, sending 
 use Rattle.history.specs.World.{Side}
 use Rattle.history.specs.Events.{ClientEvent, ServerEvent, Start, ClientTransmit, ClientArrive, ClientTimer, ServerArrive, ServerTransmit, ServerTimer, Reply, Fault as FaultEvent}
 use Rattle.history.specs.Steps.{clientTurn, serverTurn}
+use Rattle.morphelai.proofs.Exact.{written-short}
 use Rattle.host_history.proofs.Unpacking.{FitsSent}
 
--- The writer gives 0, or 80 and a body of at most 1,392.
-short-by : (g : Ground) (h : Header) (body out : List ℕ) → (g ≡ Pass → length body ≤ 1392)
-    → writeBy g h body out .result .length ≤ 1472
-unfolding writeBy
-short-by Pass h body out short = omega (arith, short refl)
-short-by (Refuse a) h body out short = omega arith
-
-written-short : (h : Header) (body out : List ℕ) → writing h body out .result .length ≤ 1472
-unfolding writing
-written-short h body out =
-    let g = writeGround (length out) (h .kind) (h .authentication) (length body) in
-    short-by g h body out (λ (pass : g ≡ Pass). writable _ _ _ _ (ap answerOf pass) .short)
-
--- So what is sent of it fits.
+-- What is sent of a PDU written fits: it has at most 1,472 bytes.
 sent-of-fits : (n : ℕ) → n ≤ 1472 → FitsSent (sentOf n)
 unfolding sentOf
 sent-of-fits n short =

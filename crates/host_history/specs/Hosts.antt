@@ -1,4 +1,5 @@
--- A host that calls exports only: what it keeps, the calls that it makes, and what it keeps after each.
+-- Hosts that call exports only, the client's and the server's taken together: what they keep, the calls that they
+-- make, and what they keep after each.
 use Prim.Native.Nat.{ℕ}
 use mathlib.Core.List.{List, [], _∷_}
 use lib.Dec.{eqb}

@@ -19,7 +19,7 @@ use Rattle.reader.specs.declared.Reading.{Reading}
 use Rattle.reader.specs.Reading.{reading}
 use Rattle.writer.specs.declared.Written.{Written}
 use Rattle.writer.specs.Writing.{Wrote, writing}
-use Rattle.morphelai.specs.CodecDoor.{Codec, Coded, refusing, orderByte, headerOut, codecRead, writtenResult, codecWritten, codecWrite}
+use Rattle.morphelai.specs.CodecDoor.{Codec, Coded, refusingCodec, orderByte, headerOut, codecRead, writtenResult, codecWritten, codecWrite}
 
 low-byte : (a b : ℕ) → (256 * a + b) % 256 ≡ b % 256
 low-byte a b = omega arith
@@ -42,13 +42,13 @@ header-low h n =
     ((digits 2 (h .operation) ++ (digits 2 (h .ihint) ++ (digits 2 (h .ahint) ++ digits-low n i))) ++
     backBytes (h .fragment) (h .authentication) (h .serial))))
 
-refused : (c : Codec) (s out : List ℕ) → (length s ≡ 80 → ⊥) → Coded (choose (eqb (length s) 80) c (refusing out)) 1 out
-unfolding refusing
+refused : (c : Codec) (s out : List ℕ) → (length s ≡ 80 → ⊥) → Coded (choose (eqb (length s) 80) c (refusingCodec out)) 1 out
+unfolding refusingCodec
 refused c s out h =
-    subst (λ (d : Codec). Coded d 1 out) (sym (choose-false _ c (refusing out) (ne-eqb (length s) 80 h))) (record { result = refl; buffer = refl })
+    subst (λ (d : Codec). Coded d 1 out) (sym (choose-false _ c (refusingCodec out) (ne-eqb (length s) 80 h))) (record { result = refl; buffer = refl })
 
-passed : (c : Codec) (s out after : List ℕ) (r : ℕ) → length s ≡ 80 → Coded c r after → Coded (choose (eqb (length s) 80) c (refusing out)) r after
-passed c s out after r h x = subst (λ (d : Codec). Coded d r after) (sym (choose-true _ c (refusing out) (eq-eqb (length s) 80 h))) x
+passed : (c : Codec) (s out after : List ℕ) (r : ℕ) → length s ≡ 80 → Coded c r after → Coded (choose (eqb (length s) 80) c (refusingCodec out)) r after
+passed c s out after r h x = subst (λ (d : Codec). Coded d r after) (sym (choose-true _ c (refusingCodec out) (eq-eqb (length s) 80 h))) x
 
 pub read-refused : (datagram out : List ℕ) → (length out ≡ 80 → ⊥) → Coded (codecRead datagram out) 1 out
 unfolding codecRead

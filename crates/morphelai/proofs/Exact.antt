@@ -1,7 +1,7 @@
 -- The length of a PDU written is told whole: 16 bits cut nothing off.
-use Prim.Native.Nat.{ℕ, _%_}
+use Prim.Native.Nat.{ℕ, _%_, _≤_}
 use mathlib.Core.List.{List}
-use mathlib.Core.Path.{_≡_, refl, sym, ap}
+use mathlib.Core.Path.{_≡_, refl, ap}
 use native.Mathlib.Omega.{arith}
 use lib.ListN.{length}
 use Rattle.answers.specs.declared.Ground.{Ground}
@@ -11,14 +11,19 @@ use Rattle.pdu.specs.declared.Header.{Header}
 use Rattle.writer.specs.Writing.{writeGround, writeBy, writing}
 use Rattle.writer.proofs.Returns.{writable}
 
-by-ground : (h : Header) (body out : List ℕ) (g : Ground) → g ≡ writeGround (length out) (h .kind) (h .authentication) (length body)
-    → writeBy g h body out .result .length % 65536 ≡ writeBy g h body out .result .length
+-- The writer gives 0, or 80 and a body of at most 1,392.
+short-by : (g : Ground) (h : Header) (body out : List ℕ) → (g ≡ Pass → length body ≤ 1392)
+    → writeBy g h body out .result .length ≤ 1472
 unfolding writeBy
-by-ground h body out Pass e =
-    let w = writable (length out) (h .kind) (h .authentication) (length body) (ap answerOf (sym e)) in
-    omega (arith, w .short)
-by-ground h body out (Refuse a) e = refl
+short-by Pass h body out short = omega (arith, short refl)
+short-by (Refuse a) h body out short = omega arith
 
-pub written-exact : (h : Header) (body out : List ℕ) → writing h body out .result .length % 65536 ≡ writing h body out .result .length
+pub written-short : (h : Header) (body out : List ℕ) → writing h body out .result .length ≤ 1472
 unfolding writing
-written-exact h body out = by-ground h body out (writeGround (length out) (h .kind) (h .authentication) (length body)) refl
+written-short h body out =
+    let g = writeGround (length out) (h .kind) (h .authentication) (length body) in
+    short-by g h body out (λ (pass : g ≡ Pass). writable _ _ _ _ (ap answerOf pass) .short)
+
+pub written-exact : (h : Header) (body out : List ℕ)
+    → writing h body out .result .length % 65536 ≡ writing h body out .result .length
+written-exact h body out = omega (arith, written-short h body out)

@@ -25,8 +25,8 @@ pub record Coded (c : Codec) (r : ℕ) (out : List ℕ) : Type 0 where
   pub buffer : out ≡ c .out
 
 -- A header has 80 bytes. Another length: 1, and all is as it was.
-unfoldable pub refusing : List ℕ → Codec
-refusing out = record { result = 1; out = out }
+unfoldable pub refusingCodec : List ℕ → Codec
+refusingCodec out = record { result = 1; out = out }
 
 -- The sender's order, as byte 4 tells it.
 unfoldable pub orderByte : Bool → ℕ
@@ -42,7 +42,7 @@ unfoldable pub codecRead : List ℕ → List ℕ → Codec
 codecRead datagram out =
     choose (eqb (length out) 80)
     (record { result = numberOf (reading datagram .answer); out = headerOut (reading datagram) (length (bodyOf datagram)) out })
-    (refusing out)
+    (refusingCodec out)
 
 -- What writing gives: its answer, and the length of the PDU in 16 bits, which no PDU passes.
 unfoldable pub writtenResult : Written → ℕ
@@ -54,4 +54,4 @@ codecWritten w = record { result = writtenResult (w .result); out = w .out }
 -- morphelai_write: the header's fields as they stand in its little-endian form.
 unfoldable pub codecWrite : List ℕ → List ℕ → List ℕ → Codec
 codecWrite header body out =
-    choose (eqb (length header) 80) (codecWritten (writing (headerOf true header) body out)) (refusing out)
+    choose (eqb (length header) 80) (codecWritten (writing (headerOf true header) body out)) (refusingCodec out)

@@ -1,4 +1,4 @@
-// A console's side, for hosts.
+// The client's exported functions.
 use calls::Call;
 use client::Outcome;
 use client_record::Client;
@@ -59,7 +59,7 @@ fn call_of(idempotent: bool, object: &[u8], interface: &[u8], version: u32, oper
     }
 }
 
-// Whether a start's record, idempotent and UUIDs are such.
+// Whether a start's record and UUIDs have their lengths, and idempotent is 0 or 1.
 fn is_sized(bytes: &[u8], idempotent: u8, object: &[u8], interface: &[u8]) -> bool
     ensures { λ r. ⌜ r ≡ startSized (now (bytes .entry)) idempotent (now (object .entry)) (now (interface .entry)) ⌝ }
 {

@@ -1,4 +1,4 @@
-// The codec, for hosts.
+// The exported reader and writer.
 use pdu::HEADER_SIZE;
 use pdu::Header;
 use writer::Written;

@@ -1,4 +1,4 @@
-// A controller's side, for hosts.
+// The server's exported functions.
 use server::Outcome;
 ghost use mathlib.Core.Path.{_≡_};
 ghost use mathlib.Core.List.{[]};

@@ -40,7 +40,7 @@ pub record FitsOutgoing (o : Outgoing) : Type 0 where
   pub acknowledged : o .acknowledged < 256
   pub serial : o .serial < 65536
 
--- The known last is kept in one byte.
+-- A known last that can be read is below 256; 65535 stands for none.
 abbrev pub FitsLast : Last → Type 0
 FitsLast Unknown = Unit {0}
 FitsLast (At n) = n < 256
