@@ -29,7 +29,7 @@ impl Failure {
     }
 }
 
-/// Prints one line. Where standard output takes no more, as when its reader has gone away, the program says so and ends.
+/// Prints one line. Where standard output takes no more, as when its reader has gone, the program says so and ends.
 pub fn say(line: &str) {
     let mut out = io::stdout().lock();
     if let Err(error) = writeln!(out, "{line}").and_then(|()| out.flush()) {
