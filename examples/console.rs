@@ -90,10 +90,10 @@ fn run(port: NonZeroU16, texts: &[String]) -> Result<(), Box<dyn Error>> {
 fn main() -> ExitCode {
     let words: Vec<String> = env::args_os().skip(1).map(|word| word.to_string_lossy().into_owned()).collect();
     let Some(port) = words.first().and_then(|word| word.parse().ok()).filter(|_| words.len() > 1) else {
-        eprintln!("usage: console_loop PORT TEXT...");
+        let _ = writeln!(io::stderr(), "usage: console_loop PORT TEXT...");
         return ExitCode::from(2);
     };
     let Err(error) = run(port, &words[1..]) else { return ExitCode::SUCCESS };
-    eprintln!("console_loop: {error}");
+    let _ = writeln!(io::stderr(), "console_loop: {error}");
     ExitCode::FAILURE
 }

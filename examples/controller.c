@@ -164,6 +164,13 @@ static void serve(int64_t end) {
     }
 }
 
+/* Whether standard output has taken what was printed. */
+static bool is_printed(void) {
+    if (fflush(stdout) == 0 && ferror(stdout) == 0) return true;
+    fprintf(stderr, "controller_c: cannot write to standard output: %s\n", strerror(errno));
+    return false;
+}
+
 /* Binds the socket and says where it listens; false: it cannot. */
 static bool listens(uint16_t port) {
     struct sockaddr_in own = {.sin_family = AF_INET, .sin_port = htons(port)};
@@ -176,7 +183,7 @@ static bool listens(uint16_t port) {
         return false;
     }
     printf("listening on 127.0.0.1:%u\n", ntohs(own.sin_port));
-    return fflush(stdout) == 0;
+    return is_printed();
 }
 
 /* A number of digits alone, at most `most`; -1 for any other text. */
@@ -200,5 +207,5 @@ int main(int count, char **words) {
     if (!listens((uint16_t)port)) return 1;
     serve(count > 2 ? now() + seconds * 1000 : INT64_MAX);
     printf("executed %lu calls\n", executed);
-    return 0;
+    return is_printed() ? 0 : 1;
 }

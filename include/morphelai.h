@@ -4,7 +4,7 @@
  *
  * Rules for hosts:
  * - Memory is lent as a pointer and a length. Nothing is kept of it after the call, nothing is allocated.
- * - Buffers lent in one call must not overlap.
+ * - Buffers lent in one call must not overlap, but for those that are only read (const) among themselves.
  * - One thread at a time for a record and what is lent with it. Different records need no lock.
  * - NULL is fine with length 0. Nothing is asked of alignment.
  * - Lengths are judged, not trusted: a wrong one is answered 1. But each pointer must lead to so many bytes.

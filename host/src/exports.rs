@@ -2,8 +2,8 @@
 //!
 //! # Safety
 //! Each pointer with the length behind it must be memory that may be read, and where it is `*mut` written, for that
-//! many bytes; a length of 0 may have any pointer. Memory lent to one call must not overlap, and a record must not be
-//! lent to two calls at the same time. Nothing is asked of alignment. The library keeps no pointer.
+//! many bytes; a length of 0 may have any pointer. What is lent as `*mut` must not overlap anything else that is lent,
+//! to this call or to another at the same time. Nothing is asked of alignment. The library keeps no pointer.
 
 #![allow(clippy::too_many_arguments)]
 

@@ -82,7 +82,7 @@ fn a_fragment_may_be_empty() {
 }
 
 #[test]
-fn a_fault_comes_back_and_is_acknowledged() {
+fn a_fault_comes_back_and_is_kept() {
     let (mut client, mut server) = pair();
     assert_eq!(client.start(&call(false), b"x").refusal(), None);
     let request = copy(client.transmit()).remove(0);

@@ -29,12 +29,18 @@ impl Failure {
     }
 }
 
-/// Prints one line. A reader that has gone away ends the program.
+/// Prints one line. Where standard output takes no more, as when its reader has gone, the program says so and ends.
 pub fn say(line: &str) {
     let mut out = io::stdout().lock();
-    if writeln!(out, "{line}").and_then(|()| out.flush()).is_err() {
+    if let Err(error) = writeln!(out, "{line}").and_then(|()| out.flush()) {
+        complain(&format!("cannot write to standard output: {error}"));
         std::process::exit(1);
     }
+}
+
+/// One line on standard error. Nothing is left to do if that is closed too.
+fn complain(line: &str) {
+    let _ = writeln!(io::stderr(), "{line}");
 }
 
 /// Ends a program: whether all went well, or one clear line on standard error.
@@ -45,7 +51,6 @@ pub fn conclude(program: &str, usage: &str, result: Result<bool, Failure>) -> Ex
         Err(Failure::Usage(text)) => (format!("{program}: {text}; usage: {usage}"), 2),
         Err(Failure::Failed(text)) => (format!("{program}: {text}"), 1),
     };
-    // Nothing is left to do if standard error is closed.
-    let _ = writeln!(io::stderr(), "{line}");
+    complain(&line);
     ExitCode::from(status)
 }

@@ -161,10 +161,8 @@ impl Network {
     }
 }
 
-/// Errors that only say that nothing has come: the time is over, or nobody listens where we sent to.
+/// Errors that only say that nothing has come: the time is over, or what we sent did not get there.
 fn nothing(kind: ErrorKind) -> bool {
-    matches!(
-        kind,
-        ErrorKind::WouldBlock | ErrorKind::TimedOut | ErrorKind::Interrupted | ErrorKind::ConnectionRefused
-    )
+    use ErrorKind::{ConnectionRefused, HostUnreachable, Interrupted, NetworkUnreachable, TimedOut, WouldBlock};
+    matches!(kind, WouldBlock | TimedOut | Interrupted | ConnectionRefused | HostUnreachable | NetworkUnreachable)
 }

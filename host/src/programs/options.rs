@@ -27,9 +27,9 @@ impl Arguments {
             let value = if known(plain, &SHARED_PLAIN) {
                 String::new()
             } else if known(valued, &SHARED) {
-                text(words.next().ok_or_else(|| Failure::Usage(format!("{name} has no value")))?)?
+                value_of(&name, words.next())?
             } else {
-                return Err(Failure::Usage(format!("unknown argument {name}")));
+                return Err(Failure::Usage(format!("unknown argument {name:?}")));
             };
             if arguments.has(&name) {
                 return Err(Failure::Usage(format!("{name} is given twice")));
@@ -55,7 +55,7 @@ impl Arguments {
         match value.parse() {
             Ok(number) if range.contains(&number) => Ok(Some(number)),
             _ => Err(Failure::Usage(format!(
-                "{name} is a number from {} to {}, not {value}",
+                "{name} is a number from {} to {}, not {value:?}",
                 range.start(),
                 range.end()
             ))),
@@ -72,7 +72,7 @@ impl Arguments {
     /// An option's value as an IPv4 address and port.
     pub fn address(&self, name: &str) -> Result<Option<SocketAddrV4>, Failure> {
         let Some(value) = self.value(name) else { return Ok(None) };
-        let bad = |_| Failure::Usage(format!("{name} is ADDRESS:PORT, for instance 127.0.0.1:4000, not {value}"));
+        let bad = |_| Failure::Usage(format!("{name} is ADDRESS:PORT, for instance 127.0.0.1:4000, not {value:?}"));
         value.parse().map(Some).map_err(bad)
     }
 
@@ -86,6 +86,12 @@ impl Arguments {
             seed: self.number("--seed", 0..=u64::MAX)?.unwrap_or(1),
         })
     }
+}
+
+/// The word behind an option; another option's name is no value.
+fn value_of(name: &str, word: Option<OsString>) -> Result<String, Failure> {
+    let value = word.map(text).transpose()?.filter(|value| !value.starts_with("--"));
+    value.ok_or_else(|| Failure::Usage(format!("{name} has no value")))
 }
 
 fn text(word: OsString) -> Result<String, Failure> {
@@ -122,6 +128,16 @@ mod tests {
     fn bad_arguments_are_refused() {
         for line in ["--nonsense", "word", "--to", "--loss 1 --loss 2", "--idempotent yes", "--trace --trace"] {
             assert!(refuses(parse(line)), "{line}");
+        }
+        assert!(refuses(parse("--pcap --trace")));
+    }
+
+    #[test]
+    fn what_is_told_of_a_bad_value_is_one_line() {
+        let words = ["--loss", "1\n2"].map(OsString::from).to_vec();
+        match Arguments::parse(words, &[], &[]).and_then(|arguments| arguments.faults()) {
+            Err(Failure::Usage(text)) => assert!(!text.contains('\n'), "{text}"),
+            _ => panic!("taken"),
         }
     }
 

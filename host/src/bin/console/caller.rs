@@ -51,7 +51,8 @@ impl Caller {
         })
     }
 
-    /// Makes one call and waits for its end, which the protocol's own timers bound.
+    /// Makes one call and waits for its end. The protocol's own timers bound it, but while the controller says that it
+    /// is working; then `--seconds` does.
     pub fn call(&mut self, call: &Call, request: &[u8]) -> Result<End, Failure> {
         let started = self.client.start(call, request);
         if let Some(refusal) = started.refusal() {

@@ -1,4 +1,4 @@
-//! A controller: serves any number of activities on one UDP socket, and counts by itself how often it executed each
+//! A controller: serves up to 1,024 activities on one UDP socket, and counts by itself how often it executed each
 //! call.
 
 mod service;
