@@ -35,7 +35,7 @@ enum {
 /* ---- Answers: 0, or why the event was refused. The lowest that applies is given. */
 enum {
     MORPHELAI_DONE = 0,                   /* done: the bytes of the record are those of the next one */
-    MORPHELAI_WRONG_LENGTH = 1,           /* a lent buffer or UUID of the wrong length, or a message over 44,544 */
+    MORPHELAI_WRONG_LENGTH = 1,           /* a wrong length (buffer, UUID, message), or idempotent above 1 */
     MORPHELAI_BROKEN_RECORD = 2,          /* the bytes are no record, or it breaks the rules of records */
     MORPHELAI_SHORT_DATAGRAM = 3,         /* a datagram under 80 bytes */
     MORPHELAI_WRONG_VERSION = 4,          /* its version is not 4 */
@@ -49,7 +49,7 @@ enum {
     MORPHELAI_WRONG_FRAGMENT = 12,        /* a fragment number above 31, or not 0 in a lone fragment */
     MORPHELAI_OLD_CALL = 13,              /* of an old call, or a request of a call that is spent */
     MORPHELAI_MALFORMED_BODY = 14,        /* the body of a fault, reject or fack is malformed */
-    MORPHELAI_NO_ROW = 15,                /* the state has nothing to do for this event */
+    MORPHELAI_NO_ROW = 15,                /* the state has nothing to do for this event, or no such timer */
     MORPHELAI_REPEATED = 16,              /* a fragment already held, or a repeated request or ping */
     MORPHELAI_CONTRADICTION = 17,         /* it contradicts what is held or what was called */
     MORPHELAI_LATE_TIMER = 18,            /* the timer is not armed with that ticket */
@@ -76,7 +76,7 @@ enum {
 
 /* ---- States of a client */
 enum {
-    MORPHELAI_CLIENT_QUEUED = 0,        /* fresh: no call yet */
+    MORPHELAI_CLIENT_QUEUED = 0,        /* fresh: no call yet; may start */
     MORPHELAI_CLIENT_SEND_FRAGS = 1,    /* the request is being sent: call transmit */
     MORPHELAI_CLIENT_DISPATCHED = 2,    /* all sent, no reply yet; WAIT runs */
     MORPHELAI_CLIENT_RECEIVE_FRAGS = 3, /* a part of the reply is there; WAIT runs */
@@ -110,15 +110,16 @@ enum {
     MORPHELAI_HEADER_ACTIVITY = 40 /* 16 bytes */
 };
 
-/* ---- Events of the client. Each returns a result, see below. `slots` and `pdu` are lent whole. */
+/* ---- Events of the client. Each returns a result, see below; part a length. `slots` and `pdu` are lent whole. */
 
 /* Makes the record of a new activity. Tickets are given above `tickets`: 0 for the first record of a host. */
 uint64_t morphelai_client_fresh(uint8_t *record, size_t record_length, const uint8_t *activity, size_t activity_length,
                                 uint64_t tickets);
 
 /* Starts the next call, with a request of message_length bytes. idempotent is 0 or 1. Look at the answer. */
-uint64_t morphelai_client_start(uint8_t *record, size_t record_length, uint8_t idempotent, const uint8_t *object,
-                                size_t object_length, const uint8_t *interface, size_t interface_length,
+uint64_t morphelai_client_start(uint8_t *record, size_t record_length, uint8_t idempotent,
+                                const uint8_t *object_uuid, size_t object_length, const uint8_t *interface_uuid,
+                                size_t interface_length,
                                 uint32_t version, uint16_t operation, uint32_t message_length);
 
 /* Sends the next fragment of the request, in SEND_FRAGS. */

@@ -19,7 +19,7 @@ use Rattle.morphelai.specs.Result.{packed}
 use Rattle.morphelai.specs.Export.{Export, refusing}
 use Rattle.morphelai.specs.ClientDoor.{clientFresh}
 use Rattle.morphelai.specs.ServerDoor.{serverFresh}
-use Rattle.morphelai.specs.CodecDoor.{Codec, refusing as refusingCodec, headerOut, codecRead, writtenResult, codecWritten, codecWrite}
+use Rattle.morphelai.specs.CodecDoor.{Codec, refusingCodec, headerOut, codecRead, writtenResult, codecWritten, codecWrite}
 
 pub client-fresh-leaves : (bytes activity : List ℕ) (tickets : ℕ)
     → (clientFresh bytes activity tickets .result ≡ 0 → ⊥) → clientFresh bytes activity tickets .bytes ≡ bytes
