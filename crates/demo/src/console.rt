@@ -148,8 +148,8 @@ impl Console {
         let ticket = self.ticket(event);
         let outcome = call_event(event, ticket, self.client, request, datagram, slots, pdu);
         let after = self.after(ticket, number, outcome);
-        transcript::print_client_event(number, event, ticket, datagram);
-        transcript::print_client(outcome, after.wire.copies, pdu);
+        let copies = after.wire.copies;
+        transcript::print_client(number, event, ticket, datagram, outcome, copies, pdu);
         after
     }
 

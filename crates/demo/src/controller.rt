@@ -127,8 +127,8 @@ impl Controller {
         let ticket = self.ticket(event);
         let outcome = call_event(event, ticket, self.server, reply, datagram, slots, pdu);
         let after = self.after(ticket, number, outcome);
-        transcript::print_server_event(number, event, ticket, datagram);
-        transcript::print_server(outcome, after.wire.copies, pdu);
+        let copies = after.wire.copies;
+        transcript::print_server(number, event, ticket, datagram, outcome, copies, pdu);
         after
     }
 

@@ -1,14 +1,16 @@
-// A console calls a controller over a network that loses and repeats PDUs. The program shows how
-// hosts use the library, and prints a line for each event.
+// A console calls a controller over a network that loses, repeats and delays PDUs. The program shows
+// how hosts use the library, and prints a line for each event.
 mod clock;
 mod console;
 mod controller;
 mod network;
+mod reasons;
 mod schedule;
 mod transcript;
 
 use console::Console;
 use controller::Controller;
+use controller::ServerEvent;
 use fragments::SLOTS_SIZE;
 use pdu::PDU_SIZE;
 use schedule::Next;
@@ -25,7 +27,8 @@ fn message(seed: u8) -> [u8; 4500] {
 
 // The call, from its start until nothing is left to happen. The client's PDU buffer is the wire to the
 // server, and the server's the wire to the client: nothing is copied. That works only because what is on
-// a wire is delivered before all else; a host sends a PDU, or copies it, before the next event.
+// a wire is delivered before all else; a host sends a PDU, or copies it, before the next event. Only the
+// request that comes again is copied, into `copy`.
 fn run(
     request: &[u8],
     reply: &[u8],
@@ -33,22 +36,32 @@ fn run(
     client_pdu: &mut [u8],
     server_slots: &mut [u8],
     server_pdu: &mut [u8],
+    copy: &mut [u8],
 ) {
     let mut console = Console::fresh();
     let mut controller = Controller::fresh();
+    let mut straggler = network::NO_STRAGGLER;
     let mut number = 0;
     while number < EVENTS {
         number += 1;
-        match schedule::next_event(console, controller) {
+        match schedule::next_event(console, controller, straggler) {
             Next::Client(event) => {
                 let pdu = words::first(server_pdu, controller.wire.length);
                 console = console.turn(event, number, request, pdu, client_slots, client_pdu);
                 controller.wire = network::after_receiver(controller.wire);
+                let sent = words::first(client_pdu, console.wire.length);
+                straggler = network::after_client(straggler, event, sent, copy);
             }
             Next::Server(event) => {
                 let pdu = words::first(client_pdu, console.wire.length);
                 controller = controller.turn(event, number, reply, pdu, server_slots, server_pdu);
                 console.wire = network::after_receiver(console.wire);
+            }
+            Next::Straggler => {
+                let pdu = words::first(copy, straggler.length);
+                let event = ServerEvent::Arrive;
+                controller = controller.turn(event, number, reply, pdu, server_slots, server_pdu);
+                straggler = network::after_straggler(straggler);
             }
             Next::Over => number = EVENTS,
         }
@@ -65,6 +78,7 @@ fn main() {
     let mut client_pdu = [0u8; PDU_SIZE];
     let mut server_slots = [0u8; SLOTS_SIZE];
     let mut server_pdu = [0u8; PDU_SIZE];
+    let mut copy = [0u8; PDU_SIZE];
     transcript::print_head();
     run(
         words::first(&request, console::REQUEST_SIZE),
@@ -73,5 +87,6 @@ fn main() {
         &mut client_pdu,
         &mut server_slots,
         &mut server_pdu,
+        &mut copy,
     );
 }

@@ -1,5 +1,8 @@
-// The network: of the PDUs that a side sends it loses every third and delivers every fourth twice.
+// The network: of the PDUs that a side sends it loses every third and delivers every fifth twice. And
+// the last request comes again three times after its call was dispatched.
+use crate::console::ClientEvent;
 use calls::Sent;
+use server_record::State as ServerState;
 ghost use mathlib.Core.Path.{_≡_};
 ghost use Prim.Native.Nat.{_-_, _≤_};
 
@@ -25,7 +28,7 @@ fn copies(number: u32) -> u8
     if number % 3 == 0 {
         return 0;
     }
-    if number % 4 == 0 {
+    if number % 5 == 0 {
         return 2;
     }
     1
@@ -56,4 +59,56 @@ pub(crate) fn after_receiver(wire: Wire) -> Wire
     let mut after = wire;
     after.copies = wire.copies - 1;
     after
+}
+
+// A copy of the last request that stayed behind on its way: how long it is, and how often it came.
+pub(crate) struct Straggler {
+    pub length: usize,
+    pub came: u8,
+}
+
+// No request was sent yet.
+pub(crate) const NO_STRAGGLER: Straggler = Straggler { length: 0, came: 0 };
+
+// After an event of the client: a request that it sent is copied in place of the one before.
+pub(crate) fn after_client(
+    straggler: Straggler,
+    event: ClientEvent,
+    sent: &[u8],
+    copy: &mut [u8],
+) -> Straggler {
+    match event {
+        ClientEvent::Transmit => Straggler {
+            length: lines::put_text(copy, 0, sent),
+            came: straggler.came,
+        },
+        _ => straggler,
+    }
+}
+
+// Whether the copy comes now: first while the call runs, then while its reply is held after it was sent
+// again, then when the call is over.
+pub(crate) fn comes_again(straggler: Straggler, server: ServerState, resends: u8) -> bool {
+    let came = straggler.came;
+    match came {
+        0 => server_record::is_running(server),
+        1 => words::both(server_record::is_held(server), resends > 0),
+        2 => is_idle(server),
+        _ => false,
+    }
+}
+
+fn is_idle(server: ServerState) -> bool {
+    match server {
+        ServerState::Idle(_) => true,
+        _ => false,
+    }
+}
+
+// After it came.
+pub(crate) fn after_straggler(straggler: Straggler) -> Straggler {
+    Straggler {
+        length: straggler.length,
+        came: std::num::wrapping_add_u8(straggler.came, 1),
+    }
 }

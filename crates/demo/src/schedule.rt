@@ -1,17 +1,20 @@
-// What happens next. A PDU on a wire is delivered first; then a side does what its state asks for; and
-// when nothing else can happen, a timer runs out.
+// What happens next. A PDU on a wire is delivered first, and then the request that comes again; then a
+// side does what its state asks for; and when nothing else can happen, a timer runs out.
 use crate::clock::Alarm;
 use crate::console::ClientEvent;
 use crate::console::Console;
 use crate::controller::Controller;
 use crate::controller::ServerEvent;
+use crate::network;
+use crate::network::Straggler;
 use client_record::State as ClientState;
 use server_record::State as ServerState;
 
-// An event at one of the two sides, or none any more.
+// An event at one of the two sides, the request that comes again, or nothing any more.
 pub(crate) enum Next {
     Client(ClientEvent),
     Server(ServerEvent),
+    Straggler,
     Over,
 }
 
@@ -47,7 +50,7 @@ fn work(client: ClientState, server: ServerState, ack: Alarm, wait: Alarm, resen
     timer(ack, wait, resend)
 }
 
-pub(crate) fn next_event(console: Console, controller: Controller) -> Next {
+pub(crate) fn next_event(console: Console, controller: Controller, straggler: Straggler) -> Next {
     if controller.wire.copies > 0 {
         return Next::Client(ClientEvent::Arrive);
     }
@@ -58,6 +61,9 @@ pub(crate) fn next_event(console: Console, controller: Controller) -> Next {
     let server = controller.server;
     let client_state = client.state;
     let server_state = server.state;
+    if network::comes_again(straggler, server_state, server.resends) {
+        return Next::Straggler;
+    }
     work(
         client_state,
         server_state,

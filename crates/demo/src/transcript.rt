@@ -1,6 +1,7 @@
 // The transcript: a line for each event, printed column by column. Names are as wide as their column.
 use crate::console::ClientEvent;
 use crate::controller::ServerEvent;
+use crate::reasons;
 use answers::Answer;
 use calls::Notice;
 use calls::Sent;
@@ -10,7 +11,7 @@ use server_record::Idle;
 use server_record::State as ServerState;
 use timers::Timer;
 
-fn print(text: &[u8]) {
+pub(crate) fn print(text: &[u8]) {
     io::write_all(STDOUT_FILENO, text);
 }
 
@@ -24,11 +25,12 @@ fn print_number(number: u64, width: usize) {
 // What the transcript is of, and the names of the columns.
 pub(crate) fn print_head() {
     print(
-        b"A console calls a controller: a request of 3500 bytes in 3 fragments, a reply of 4500 in 4, not idempotent.
-The network loses every third PDU that a side sends, and delivers every fourth twice.
-Answer 0: done. 15: not expected in this state, 16: held already, 18: late timer; these changed and sent nothing.
+        b"A console calls a controller, not idempotent: a request of 3500 bytes in 3 fragments, a reply of 4500 in 4.
+The network loses every third PDU that a side sends and delivers every fifth twice. And it delivers the last request
+again: while the call runs, while its reply is held, and when the call is over.
+Answer 0: done. Any other is a refusal: nothing changes, nothing is sent, nobody is told.
 
-no. side   event                   answer  PDU sent   call fragment serial network   notice    state           armed
+no. side   event            answer sends               tells    state           armed     why
 ",
     );
 }
@@ -40,71 +42,69 @@ fn print_type(kind: u8) {
     print(words::first(words::behind(names, 11 * kind as usize), 11));
 }
 
-// Which PDU arrives; a request or a response is a fragment of its message.
-fn print_arrival(datagram: &[u8]) {
-    let reading = reader::read(datagram);
-    let header = reading.header;
-    let kind = header.kind;
-    print(b"arrives ");
+// A PDU's name, with the number of the fragment that a request or a response is.
+fn print_pdu(kind: u8, fragment: u16) {
     print_type(kind);
     match kind {
-        0 | 2 => print_number(header.fragment as u64, 5),
-        _ => print(b"     "),
+        0 | 2 => print_number(fragment as u64, 3),
+        _ => print(b"   "),
     }
 }
 
+// Which PDU arrives.
+fn print_arrival(kind: u8, fragment: u16) {
+    print(b"<- ");
+    print_pdu(kind, fragment);
+}
+
 // Which PDU was sent, and what the network does with it.
-fn print_pdu(pdu: &[u8], copies: u8) {
+fn print_sent_pdu(pdu: &[u8], copies: u8) {
     let reading = reader::read(pdu);
     let header = reading.header;
-    print_type(header.kind);
-    print_number(header.number as u64, 5);
-    print_number(header.fragment as u64, 9);
-    print_number(header.serial as u64, 7);
+    print_pdu(header.kind, header.fragment);
     match copies {
-        0 => print(b"lost      "),
-        1 => print(b"once      "),
-        _ => print(b"repeated  "),
+        0 => print(b"lost  "),
+        1 => print(b"      "),
+        _ => print(b"twice "),
     }
 }
 
 fn print_sent(sent: Sent, pdu: &[u8], copies: u8) {
     match sent {
-        Sent::Nothing => print(b"-                                         "),
-        Sent::Pdu(_) => print_pdu(calls::sent_bytes(sent, pdu), copies),
+        Sent::Nothing => print(b"-                   "),
+        Sent::Pdu(_) => print_sent_pdu(calls::sent_bytes(sent, pdu), copies),
     }
 }
 
 fn print_notice(notice: Notice) {
     match notice {
-        Notice::Nothing => print(b"-         "),
-        Notice::Last => print(b"last      "),
-        Notice::Dispatch => print(b"dispatch  "),
+        Notice::Nothing => print(b"-        "),
+        Notice::Last => print(b"last     "),
+        Notice::Dispatch => print(b"dispatch "),
         Notice::Count(count) => {
             print(b"count ");
-            print_number(count as u64, 4);
+            print_number(count as u64, 3);
         }
-        Notice::Fault(_) => print(b"fault     "),
-        Notice::Reject(_) => print(b"reject    "),
-        Notice::Cause(_) => print(b"failed    "),
+        Notice::Fault(_) => print(b"fault    "),
+        Notice::Reject(_) => print(b"reject   "),
+        Notice::Cause(_) => print(b"failed   "),
     }
 }
 
-// The timer that the record has armed, and the end of the line.
+// The timer that the record has armed, with its ticket.
 fn print_armed(name: &[u8], timer: Timer) {
     match timer {
-        Timer::Off => print(b"-\n"),
+        Timer::Off => print(b"-         "),
         Timer::Armed(ticket) => {
             print(name);
-            io::print_decimal(STDOUT_FILENO, ticket);
-            print(b"\n");
+            print_number(ticket, 3);
         }
     }
 }
 
 // What both sides tell alike: the answer, the PDU sent and the notice.
 fn print_outcome(answer: Answer, sent: Sent, notice: Notice, copies: u8, pdu: &[u8]) {
-    print_number(answers::number(answer) as u64, 8);
+    print_number(answers::number(answer) as u64, 7);
     print_sent(sent, pdu, copies);
     print_notice(notice);
 }
@@ -128,9 +128,9 @@ fn print_client_state(state: ClientState, wait: Timer, ack: Timer) {
 
 fn print_idle(idle: Idle) {
     match idle {
-        Idle::Fresh => print(b"IDLE_FRESH      "),
-        Idle::Spent => print(b"IDLE_SPENT      "),
-        Idle::Repeatable => print(b"IDLE_REPEATABLE "),
+        Idle::Fresh => print(b"IDLE fresh      "),
+        Idle::Spent => print(b"IDLE spent      "),
+        Idle::Repeatable => print(b"IDLE repeatable "),
     }
 }
 
@@ -146,41 +146,46 @@ fn print_server_state(state: ServerState, resend: Timer) {
     print_armed(b"RESEND ", resend);
 }
 
-// The event: its ticket, where it is a timer; its datagram, where it is an arrival.
-pub(crate) fn print_client_event(number: u64, event: ClientEvent, ticket: u64, datagram: &[u8]) {
-    print_number(number, 4);
-    print(b"client ");
+// A timer that runs out, with its ticket.
+fn print_timer(name: &[u8], ticket: u64) {
+    print(name);
+    print_number(ticket, 3);
+}
+
+// The event: its ticket, where it is a timer; type and fragment number, where a PDU arrives.
+fn print_client_event(event: ClientEvent, ticket: u64, kind: u8, fragment: u16) {
     match event {
-        ClientEvent::Start => print(b"start                   "),
-        ClientEvent::Transmit => print(b"transmit                "),
-        ClientEvent::Arrive => print_arrival(datagram),
-        ClientEvent::Wait => {
-            print(b"WAIT timer, ticket ");
-            print_number(ticket, 5);
-        }
-        ClientEvent::Ack => {
-            print(b"ACK timer, ticket ");
-            print_number(ticket, 6);
-        }
+        ClientEvent::Start => print(b"start            "),
+        ClientEvent::Transmit => print(b"transmit         "),
+        ClientEvent::Arrive => print_arrival(kind, fragment),
+        ClientEvent::Wait => print_timer(b"WAIT ticket   ", ticket),
+        ClientEvent::Ack => print_timer(b"ACK ticket    ", ticket),
     }
 }
 
-pub(crate) fn print_server_event(number: u64, event: ServerEvent, ticket: u64, datagram: &[u8]) {
-    print_number(number, 4);
-    print(b"server ");
+fn print_server_event(event: ServerEvent, ticket: u64, kind: u8, fragment: u16) {
     match event {
-        ServerEvent::Arrive => print_arrival(datagram),
-        ServerEvent::Reply => print(b"reply                   "),
-        ServerEvent::Transmit => print(b"transmit                "),
-        ServerEvent::Resend => {
-            print(b"RESEND timer, ticket ");
-            print_number(ticket, 3);
-        }
+        ServerEvent::Arrive => print_arrival(kind, fragment),
+        ServerEvent::Reply => print(b"reply            "),
+        ServerEvent::Transmit => print(b"transmit         "),
+        ServerEvent::Resend => print_timer(b"RESEND ticket ", ticket),
     }
 }
 
-// The rest of the line: what the event gave, with the copies that are delivered of what it sent.
-pub(crate) fn print_client(outcome: client::Outcome, copies: u8, pdu: &[u8]) {
+// The line of an event: its number, what happened, with the datagram where one arrived, what the event
+// gave, with the copies that are delivered of what it sent, and why.
+pub(crate) fn print_client(
+    number: u64,
+    event: ClientEvent,
+    ticket: u64,
+    datagram: &[u8],
+    outcome: client::Outcome,
+    copies: u8,
+    pdu: &[u8],
+) {
+    let reading = reader::read(datagram);
+    let header = reading.header;
+    let kind = header.kind;
     let client = outcome.client;
     let answer = outcome.answer;
     let sent = outcome.sent;
@@ -188,19 +193,40 @@ pub(crate) fn print_client(outcome: client::Outcome, copies: u8, pdu: &[u8]) {
     let state = client.state;
     let wait = client.wait;
     let ack = client.ack;
+    print_number(number, 4);
+    print(b"client ");
+    print_client_event(event, ticket, kind, header.fragment);
     print_outcome(answer, sent, notice, copies, pdu);
     print_client_state(state, wait, ack);
+    reasons::print_client(event, kind, answer, notice, state);
+    print(b"\n");
 }
 
-pub(crate) fn print_server(outcome: server::Outcome, copies: u8, pdu: &[u8]) {
+pub(crate) fn print_server(
+    number: u64,
+    event: ServerEvent,
+    ticket: u64,
+    datagram: &[u8],
+    outcome: server::Outcome,
+    copies: u8,
+    pdu: &[u8],
+) {
+    let reading = reader::read(datagram);
+    let header = reading.header;
+    let kind = header.kind;
     let server = outcome.server;
     let answer = outcome.answer;
     let sent = outcome.sent;
     let notice = outcome.notice;
     let state = server.state;
     let resend = server.resend;
+    print_number(number, 4);
+    print(b"server ");
+    print_server_event(event, ticket, kind, header.fragment);
     print_outcome(answer, sent, notice, copies, pdu);
     print_server_state(state, resend);
+    reasons::print_server(event, kind, answer, notice, state);
+    print(b"\n");
 }
 
 // What one side handed up, against what the other sent, and how often its stub was told to take it.
