@@ -4,6 +4,7 @@ use super::capture::Capture;
 use super::random::Random;
 use super::transcript::Transcript;
 use super::Failure;
+use crate::Outcome;
 use std::io::{Error, ErrorKind};
 use std::net::{Ipv4Addr, SocketAddr, SocketAddrV4, UdpSocket};
 use std::time::{Duration, Instant};
@@ -12,6 +13,8 @@ use std::time::{Duration, Instant};
 const LONGEST_DELAY: u64 = 30;
 /// More than the longest PDU, so that a longer datagram does not look whole.
 pub const RECEIVE_SIZE: usize = 2048;
+/// How often a program looks at the clock where no timer runs.
+pub const LOOK: Duration = Duration::from_millis(100);
 
 /// In how many of a hundred cases a PDU that is sent is lost, held back, or sent twice.
 #[derive(Clone, Copy, Debug, Default, PartialEq, Eq)]
@@ -80,8 +83,9 @@ impl Network {
         self.local
     }
 
-    /// Sends a PDU, as well as the faults let it.
-    pub fn send(&mut self, pdu: &[u8], to: SocketAddrV4) -> Result<(), Failure> {
+    /// Sends the PDU of an outcome, if it has one, as well as the faults let it.
+    pub fn send(&mut self, outcome: &Outcome<'_>, to: SocketAddrV4) -> Result<(), Failure> {
+        let Some(pdu) = outcome.pdu() else { return Ok(()) };
         if self.random.happens(self.faults.loss) {
             self.transcript.pdu("lost", pdu, "");
             return Ok(());
