@@ -105,7 +105,7 @@ impl Plan {
     fn report(&self, caller: &mut Caller, number: u64) -> Result<bool, Failure> {
         let request = self.request(number);
         let began = Instant::now();
-        let end = caller.call(&self.call, &request)?;
+        let end = caller.call(&self.call, &request).map_err(|failure| during(number, failure))?;
         let time = began.elapsed().as_secs_f64() * 1000.0;
         let (right, what) = match &end {
             End::Answered(answer) => self.judge(&request, answer),
@@ -124,5 +124,13 @@ impl Plan {
             Answer::Fault(status) => format!("fault {status:#010x} back"),
         };
         (right, format!("{} bytes, {what}", request.len()))
+    }
+}
+
+/// What ended the program while a call was out: the call is told too.
+fn during(number: u64, failure: Failure) -> Failure {
+    match failure {
+        Failure::Failed(text) => Failure::Failed(format!("call {number}: failed, {text}; it may have been executed")),
+        usage => usage,
     }
 }

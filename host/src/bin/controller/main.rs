@@ -52,8 +52,10 @@ fn run() -> Result<bool, Failure> {
         return Ok(true);
     }
     let mut controller = Controller::new(&arguments)?;
-    controller.serve()?;
-    summary(&controller.tally)
+    let served = controller.serve();
+    // Whatever ended it, the count is told.
+    let counted = summary(&controller.tally);
+    served.and(counted)
 }
 
 /// Prints the controller's own count. A call not idempotent that was executed twice is a failure.
