@@ -3,8 +3,9 @@
  *
  *   controller_c [PORT [SECONDS]]
  *
- * It listens on 127.0.0.1 (port 0, the default: any that is free), replies to every operation with the request's own
- * bytes, and answers operation 2 by a fault. It ends after SECONDS, or never. docs/USING.md explains it.
+ * It listens on 127.0.0.1 (port 0, the default: any that is free). It replies to every operation of its interface with
+ * the request's own bytes, but answers operation 2 and every other interface by a fault. It ends after SECONDS, or
+ * never. docs/USING.md explains it.
  */
 #define _POSIX_C_SOURCE 200809L
 #include <arpa/inet.h>
@@ -18,8 +19,12 @@
 
 #include "morphelai.h"
 
-enum { ACTIVITIES = 64, RESEND_MILLISECONDS = 300, FAULTED_OPERATION = 2, MOST_SECONDS = 1000000 };
+enum { ACTIVITIES = 64, RESEND_MILLISECONDS = 300, VERSION = 1, FAULTED_OPERATION = 2, MOST_SECONDS = 1000000 };
 #define FAULT_STATUS 0x1c010003u
+
+/* The interface that is served, in little-endian form. */
+static const uint8_t interface[MORPHELAI_UUID_SIZE] = {0x56, 0x41, 0x4c, 0x56, 0x45, 0x43, 0x0e, 0x47,
+                                                       0x9d, 0x3b, 0x6d, 0x6f, 0x72, 0x70, 0x68, 0x65};
 
 /* What a host keeps for each activity. */
 struct activity {
@@ -72,9 +77,10 @@ static size_t take_request(const struct activity *a) {
 }
 
 /* The shop's own work. It writes the reply and its length; false: the call is answered by a fault. What is called is
-   in the record: morphelai_operation, and morphelai_interface, _version and _object where there is more than one. */
+   in the record: an operation means nothing without its interface. */
 static bool operate(const uint8_t *record, size_t request_length, uint8_t *reply, size_t *reply_length) {
-    if (morphelai_operation(record) == FAULTED_OPERATION) return false;
+    if (memcmp(morphelai_interface(record), interface, sizeof interface) != 0) return false;
+    if (morphelai_version(record) != VERSION || morphelai_operation(record) == FAULTED_OPERATION) return false;
     memcpy(reply, request, request_length);
     *reply_length = request_length;
     return true;

@@ -5,12 +5,16 @@ use std::env;
 use std::path::{Path, PathBuf};
 use std::process::exit;
 
+/// What makes the archive.
+const MAKE: &str = "`rt staticlib morphelai` makes it in target/staticlib";
+
 fn main() {
     println!("cargo:rerun-if-env-changed=MORPHELAI_LIB");
-    let named = env::var("MORPHELAI_LIB").unwrap_or_else(|_| String::from("../target/staticlib"));
-    let folder = match PathBuf::from(&named).canonicalize() {
+    let named = env::var_os("MORPHELAI_LIB").filter(|named| !named.is_empty());
+    let named = named.map_or_else(|| PathBuf::from("../target/staticlib"), PathBuf::from);
+    let folder = match named.canonicalize() {
         Ok(folder) => folder,
-        Err(error) => fail(&format!("the library's folder {named}: {error}")),
+        Err(error) => fail(&format!("the library's folder {}: {error}; {MAKE}", named.display())),
     };
     println!("cargo:rustc-link-search=native={}", folder.display());
     link(&folder);
@@ -28,7 +32,7 @@ fn link(folder: &Path) {
         println!("cargo:rustc-link-lib=dylib=morphelai");
         println!("cargo:rustc-link-arg=-Wl,-rpath,{}", folder.display());
     } else {
-        fail(&format!("no libmorphelai.a in {}: make it by `rt staticlib morphelai`", folder.display()));
+        fail(&format!("no libmorphelai.a in {}; {MAKE}", folder.display()));
     }
 }
 

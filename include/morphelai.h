@@ -47,7 +47,7 @@ enum {
     MORPHELAI_WRONG_SIDE = 10,            /* a type that is not for this side */
     MORPHELAI_MAYBE_OR_BROADCAST = 11,    /* a request marked maybe or broadcast */
     MORPHELAI_WRONG_FRAGMENT = 12,        /* a fragment number above 31, or not 0 in a lone fragment */
-    MORPHELAI_OLD_CALL = 13,              /* of an old call, or a request of a call that is spent */
+    MORPHELAI_OLD_CALL = 13,              /* client: not of its call; server: of an older one, or a spent request */
     MORPHELAI_MALFORMED_BODY = 14,        /* the body of a fault, reject or fack is malformed */
     MORPHELAI_NO_ROW = 15,                /* the state has nothing to do for this event, or no such timer */
     MORPHELAI_REPEATED = 16,              /* a fragment already held, or a repeated request or ping */
@@ -106,7 +106,8 @@ enum {
 
 /* ---- Places in a header as morphelai_read gives it, for hosts that sort datagrams by activity */
 enum {
-    MORPHELAI_HEADER_TYPE = 1,     /* one byte: 0 request, 1 ping, 2 response, 3 fault, 4 working, 5 nocall, ... */
+    MORPHELAI_HEADER_TYPE = 1,     /* one byte: 0 request, 1 ping, 2 response, 3 fault, 4 working, 5 nocall,
+                                      6 reject, 7 ack, 8 cancel, 9 fack, 10 cancel_ack */
     MORPHELAI_HEADER_ACTIVITY = 40 /* 16 bytes */
 };
 

@@ -81,6 +81,17 @@ executed() {
     fi
 }
 
+# other_interface NAME: the controller that listens answers a request of an interface that it does not have by a fault.
+other_interface() {
+    local got
+    exec 3<>"/dev/udp/127.0.0.1/$port"
+    # Version 4, a request, no fack wanted, little-endian; interface, activity and all else are 0.
+    { printf '\4\0\10\0\20' && head -c 75 /dev/zero; } | dd bs=80 iflag=fullblock status=none >&3
+    got=$(timeout 5 dd bs=2048 count=1 status=none <&3 | od -An -v -tx1 -w1472 | cut -d ' ' -f 3,82-) || true
+    exec 3>&-
+    judge "$1, other interface" 0 0 "$got" '^03 03 00 01 1c$'
+}
+
 # Arguments that are bad: one line with the usage on standard error, nothing on standard output, status 2.
 usage() {
     local program=$1 line=$2 status=0 words

@@ -4,6 +4,7 @@ use super::capture::Capture;
 use super::random::Random;
 use super::transcript::Transcript;
 use super::Failure;
+use crate::Outcome;
 use std::io::{Error, ErrorKind};
 use std::net::{Ipv4Addr, SocketAddr, SocketAddrV4, UdpSocket};
 use std::time::{Duration, Instant};
@@ -12,6 +13,10 @@ use std::time::{Duration, Instant};
 const LONGEST_DELAY: u64 = 30;
 /// More than the longest PDU, so that a longer datagram does not look whole.
 pub const RECEIVE_SIZE: usize = 2048;
+/// Linux's number (EMSGSIZE) for a PDU longer than its way takes in one piece; the system cuts up those after it.
+const MESSAGE_TOO_LONG: i32 = 90;
+/// How often a program looks at the clock where no timer runs.
+pub const LOOK: Duration = Duration::from_millis(100);
 
 /// In how many of a hundred cases a PDU that is sent is lost, held back, or sent twice.
 #[derive(Clone, Copy, Debug, Default, PartialEq, Eq)]
@@ -80,8 +85,9 @@ impl Network {
         self.local
     }
 
-    /// Sends a PDU, as well as the faults let it.
-    pub fn send(&mut self, pdu: &[u8], to: SocketAddrV4) -> Result<(), Failure> {
+    /// Sends the PDU of an outcome, if it has one, as well as the faults let it.
+    pub fn send(&mut self, outcome: &Outcome<'_>, to: SocketAddrV4) -> Result<(), Failure> {
+        let Some(pdu) = outcome.pdu() else { return Ok(()) };
         if self.random.happens(self.faults.loss) {
             self.transcript.pdu("lost", pdu, "");
             return Ok(());
@@ -106,8 +112,7 @@ impl Network {
 
     fn put_out(&mut self, pdu: &[u8], to: SocketAddrV4, event: &str) -> Result<(), Failure> {
         let sent = match self.socket.send_to(pdu, to) {
-            // What an earlier PDU met is told at the next one, which is then not sent.
-            Err(error) if error.kind() == ErrorKind::ConnectionRefused => self.socket.send_to(pdu, to),
+            Err(error) if is_of_an_earlier_pdu(&error) => self.socket.send_to(pdu, to),
             sent => sent,
         };
         if let Err(error) = sent {
@@ -147,7 +152,7 @@ impl Network {
         let (length, from) = match self.socket.recv_from(buffer) {
             Ok((length, SocketAddr::V4(from))) => (length, from),
             Ok(_) => return Ok(None),
-            Err(error) => return nothing(error.kind()).then_some(None).ok_or_else(|| failed(error)),
+            Err(error) => return is_nothing(&error).then_some(None).ok_or_else(|| failed(error)),
         };
         if let Some(capture) = &mut self.capture {
             capture.add(from, self.local, &buffer[..length])?;
@@ -162,7 +167,14 @@ impl Network {
 }
 
 /// Errors that only say that nothing has come: the time is over, or what we sent did not get there.
-fn nothing(kind: ErrorKind) -> bool {
-    use ErrorKind::{ConnectionRefused, HostUnreachable, Interrupted, NetworkUnreachable, TimedOut, WouldBlock};
-    matches!(kind, WouldBlock | TimedOut | Interrupted | ConnectionRefused | HostUnreachable | NetworkUnreachable)
+fn is_nothing(error: &Error) -> bool {
+    use ErrorKind::{Interrupted, TimedOut, WouldBlock};
+    matches!(error.kind(), WouldBlock | TimedOut | Interrupted) || is_of_an_earlier_pdu(error)
+}
+
+/// Errors that tell what an earlier PDU met on its way. The next send or receive gets them, and is then not done.
+fn is_of_an_earlier_pdu(error: &Error) -> bool {
+    use ErrorKind::{ConnectionRefused, HostUnreachable, NetworkUnreachable};
+    matches!(error.kind(), ConnectionRefused | HostUnreachable | NetworkUnreachable)
+        || error.raw_os_error() == Some(MESSAGE_TOO_LONG)
 }

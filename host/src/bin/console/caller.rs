@@ -1,16 +1,13 @@
 //! The client with what the host owns for it: socket, timers, and when to give up.
 
-use morphelai::programs::network::{Network, RECEIVE_SIZE};
+use morphelai::programs::network::{Network, LOOK, RECEIVE_SIZE};
 use morphelai::programs::operations::Answer;
 use morphelai::programs::random::new_activity;
 use morphelai::programs::timer::Timer;
 use morphelai::programs::Failure;
-use morphelai::{Call, Client, ClientState, ClientTimer, Notice, Outcome};
+use morphelai::{Call, Client, ClientState, ClientTimer, Notice};
 use std::net::SocketAddrV4;
 use std::time::{Duration, Instant};
-
-/// How often to look at the clock where no timer runs.
-const LOOK: Duration = Duration::from_millis(100);
 
 pub struct Caller {
     client: Client,
@@ -94,7 +91,8 @@ impl Caller {
         if let Some(refusal) = outcome.refusal() {
             return Err(Failure::Failed(format!("the request cannot be sent: refused {refusal}")));
         }
-        let notice = pass(&mut self.network, self.peer, &outcome)?;
+        let notice = outcome.notice();
+        self.network.send(&outcome, self.peer)?;
         self.follow();
         Ok(notice)
     }
@@ -103,7 +101,8 @@ impl Caller {
         let number = self.client.number();
         let outcome = self.client.timer(kind, ticket);
         self.network.transcript.timer(&self.activity, number, name, ticket, &outcome);
-        let notice = pass(&mut self.network, self.peer, &outcome)?;
+        let notice = outcome.notice();
+        self.network.send(&outcome, self.peer)?;
         self.follow();
         Ok(notice)
     }
@@ -115,7 +114,8 @@ impl Caller {
         let Some((length, _)) = self.network.receive(&mut buffer, until)? else { return Ok(None) };
         let outcome = self.client.arrive(&buffer[..length]);
         self.network.transcript.received(&buffer[..length], &outcome);
-        let notice = pass(&mut self.network, self.peer, &outcome)?;
+        let notice = outcome.notice();
+        self.network.send(&outcome, self.peer)?;
         self.follow();
         Ok(notice)
     }
@@ -139,12 +139,4 @@ impl Caller {
     pub fn is_over(&self) -> bool {
         self.end.is_some_and(|end| end <= Instant::now())
     }
-}
-
-/// Sends the PDU of an outcome. Gives the notice.
-fn pass(network: &mut Network, peer: SocketAddrV4, outcome: &Outcome<'_>) -> Result<Option<Notice>, Failure> {
-    if let Some(pdu) = outcome.pdu() {
-        network.send(pdu, peer)?;
-    }
-    Ok(outcome.notice())
 }

@@ -52,13 +52,17 @@ fn run() -> Result<bool, Failure> {
         started += 1;
     }
     caller.settle()?;
+    if started < plan.calls {
+        say(&format!("{} calls not made: the limit of --seconds", plan.calls - started));
+    }
     say(&format!("{started} calls, {good} good, {} failed", started - good));
     Ok(good == plan.calls)
 }
 
 impl Plan {
     fn of(arguments: &Arguments) -> Result<Plan, Failure> {
-        let missing = || Failure::Usage(String::from("--to is missing"));
+        let to = arguments.address("--to")?.filter(|to| to.port() > 0);
+        let missing = || Failure::Usage(String::from("--to is missing, or its port is 0"));
         let milliseconds =
             |name, usual| Ok(arguments.span(name, Duration::from_millis(1))?.unwrap_or(Duration::from_millis(usual)));
         let reply = arguments.number("--reply", 0..=MESSAGE_SIZE as u64)?;
@@ -68,7 +72,7 @@ impl Plan {
             return Err(Failure::Usage(String::from("--reply has its own operation and a --size of 4 or more")));
         }
         Ok(Plan {
-            to: arguments.address("--to")?.ok_or_else(missing)?,
+            to: to.ok_or_else(missing)?,
             calls: arguments.number("--calls", 1..=1_000_000)?.unwrap_or(3),
             size: size as usize,
             reply: reply.map(|reply| reply as u32),
@@ -101,7 +105,7 @@ impl Plan {
     fn report(&self, caller: &mut Caller, number: u64) -> Result<bool, Failure> {
         let request = self.request(number);
         let began = Instant::now();
-        let end = caller.call(&self.call, &request)?;
+        let end = caller.call(&self.call, &request).map_err(|failure| during(number, failure))?;
         let time = began.elapsed().as_secs_f64() * 1000.0;
         let (right, what) = match &end {
             End::Answered(answer) => self.judge(&request, answer),
@@ -120,5 +124,13 @@ impl Plan {
             Answer::Fault(status) => format!("fault {status:#010x} back"),
         };
         (right, format!("{} bytes, {what}", request.len()))
+    }
+}
+
+/// What ended the program while a call was out: the call is told too.
+fn during(number: u64, failure: Failure) -> Failure {
+    match failure {
+        Failure::Failed(text) => Failure::Failed(format!("call {number}: failed, {text}; it may have been executed")),
+        usage => usage,
     }
 }

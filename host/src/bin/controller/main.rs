@@ -4,7 +4,7 @@
 mod service;
 
 use morphelai::header::IDEMPOTENT;
-use morphelai::programs::network::{Network, RECEIVE_SIZE};
+use morphelai::programs::network::{Network, LOOK, RECEIVE_SIZE};
 use morphelai::programs::options::Arguments;
 use morphelai::programs::tally::Tally;
 use morphelai::programs::transcript::Transcript;
@@ -19,8 +19,6 @@ use std::time::{Duration, Instant, SystemTime, UNIX_EPOCH};
 const USAGE: &str = "controller [--listen ADDRESS:PORT] [--resend MS] [--calls N] [--seconds N] [--idle SECONDS] \
 [--loss %] [--delay %] [--repeat %] [--seed N] [--trace] [--pcap FILE]";
 const VALUED: [&str; 3] = ["--listen", "--resend", "--idle"];
-/// How often to look at the clock where no timer runs.
-const LOOK: Duration = Duration::from_millis(100);
 /// How long nothing must have come before --calls ends the program: a console may still ask for a lost reply.
 const QUIET: Duration = Duration::from_secs(1);
 /// The most activities that have a record; more are not taken, so that memory stays bounded.
@@ -54,8 +52,10 @@ fn run() -> Result<bool, Failure> {
         return Ok(true);
     }
     let mut controller = Controller::new(&arguments)?;
-    controller.serve()?;
-    summary(&controller.tally)
+    let served = controller.serve();
+    // Whatever ended it, the count is told.
+    let counted = summary(&controller.tally);
+    served.and(counted)
 }
 
 /// Prints the controller's own count. A call not idempotent that was executed twice is a failure.

@@ -4,7 +4,7 @@ use morphelai::programs::network::Network;
 use morphelai::programs::operations::{execute, Answer, INTERFACE, UNKNOWN_INTERFACE, VERSION};
 use morphelai::programs::timer::Timer;
 use morphelai::programs::Failure;
-use morphelai::{Notice, Outcome, Refusal, Server, ServerState};
+use morphelai::{Notice, Refusal, Server, ServerState};
 use std::net::SocketAddrV4;
 use std::time::{Duration, Instant};
 
@@ -41,7 +41,7 @@ impl Service {
         let outcome = self.server.arrive(datagram);
         network.transcript.received(datagram, &outcome);
         let dispatched = outcome.notice() == Some(Notice::Dispatch);
-        send(network, self.peer, &outcome)?;
+        network.send(&outcome, self.peer)?;
         self.go_on(network)?;
         Ok(dispatched)
     }
@@ -67,7 +67,7 @@ impl Service {
         if let Some(refusal) = outcome.refusal() {
             return Err(Failure::Failed(format!("a call cannot be answered: refused {refusal}")));
         }
-        send(network, self.peer, &outcome)?;
+        network.send(&outcome, self.peer)?;
         self.go_on(network)
     }
 
@@ -77,7 +77,7 @@ impl Service {
         let number = self.server.number();
         let outcome = self.server.timer(ticket);
         network.transcript.timer(&self.activity, number, "RESEND", ticket, &outcome);
-        send(network, self.peer, &outcome)?;
+        network.send(&outcome, self.peer)?;
         self.go_on(network)
     }
 
@@ -88,16 +88,9 @@ impl Service {
             if let Some(refusal) = outcome.refusal() {
                 return Err(Failure::Failed(format!("a reply cannot be sent: refused {refusal}")));
             }
-            send(network, self.peer, &outcome)?;
+            network.send(&outcome, self.peer)?;
         }
         self.resend.follow(self.server.armed(), Instant::now());
         Ok(())
-    }
-}
-
-fn send(network: &mut Network, peer: SocketAddrV4, outcome: &Outcome<'_>) -> Result<(), Failure> {
-    match outcome.pdu() {
-        Some(pdu) => network.send(pdu, peer),
-        None => Ok(()),
     }
 }
