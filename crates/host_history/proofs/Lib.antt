@@ -21,3 +21,8 @@ pub mod Unreadable
 pub mod AnsweredBytes
 pub mod HeaderTold
 pub mod OthersRefused
+pub mod Notices
+pub mod BooksRead
+pub mod TimersRead
+pub mod RunsRead
+pub mod HostDemanded

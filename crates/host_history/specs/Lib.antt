@@ -6,3 +6,5 @@ pub mod Meaning
 pub mod Refusal
 pub mod HostClaim
 pub mod HandedUp
+pub mod HostReads
+pub mod HostDemand

@@ -1,0 +1,192 @@
+-- Demand 3, of a host that calls exports only, in its own terms: the bytes that it keeps, what exports give back, and
+-- the parts that it reads.
+use Prim.Native.Nat.{ℕ, _≤_}
+use mathlib.Core.Bool.{false}
+use mathlib.Core.List.{List, [], _++_}
+use mathlib.Core.Logic.{_⊎_}
+use mathlib.Core.Path.{_≡_}
+use lib.ListN.{getD}
+use Rattle.answers.specs.declared.Answer.the-variants.{Done}
+use Rattle.calls.specs.declared.Notice.the-variants.{Nothing as Untold, Last, Dispatch}
+use Rattle.calls.specs.declared.Sent.the-variants.{Nothing}
+use Rattle.fragments.specs.Joined.{Leads}
+use Rattle.history.specs.Lists.{In, andThen}
+use Rattle.history.specs.World.{Started, Dispatched, Replied, Completed}
+use Rattle.history.specs.Steps.{lastStart}
+use Rattle.history.specs.Claim.{times, DispatchOf, WholeMessage, WholeReply}
+use Rattle.host_history.specs.Results.{answerIn, noticeIn, sentIn}
+use Rattle.host_history.specs.Hosts.{HostWorld, HostCall, exported, hostStep, hostRun}
+use Rattle.host_history.specs.Meaning.{HostFits}
+use Rattle.host_history.specs.Refusal.{bufferLent}
+use Rattle.host_history.specs.HandedUp.{clientParts}
+use Rattle.host_history.specs.HostReads.{stateByte, HostTimer, WaitTimer, AckTimer, ResendTimer, markByte, ArmedWith, timerCall, ReadsDispatch, endsRun}
+
+-- A start that is not marked idempotent is dispatched at most once.
+unfoldable pub DispatchedOnce : HostWorld → Type 0
+DispatchedOnce h =
+    (s : Started) → In s (h .books .starts) → s .call .idempotent ≡ false
+    → times (s .ordinal) (h .books .dispatches) ≤ 1
+
+-- What the books call a dispatch is what a host sees: where the result of any further call tells "dispatch", one more
+-- is on the books, and it is what the host then reads of the server;
+pub record DispatchRead (before after : HostWorld) : Type 0 where
+  pub dispatch : Dispatched
+  pub added : after .books .dispatches ≡ andThen (before .books .dispatches) dispatch
+  pub read : ReadsDispatch (after .server) dispatch
+
+-- where it tells anything else, there is none.
+pub record DispatchesRead (h : HostWorld) : Type 0 where
+  pub told :
+      (call : HostCall) → HostFits call → noticeIn (exported h call .result) ≡ Dispatch
+      → DispatchRead h (hostStep h call)
+  pub untold :
+      (call : HostCall) → (noticeIn (exported h call .result) ≡ Dispatch → ⊥)
+      → hostStep h call .books .dispatches ≡ h .books .dispatches
+
+-- The same of "last": a call told complete is what the host then reads of the client, for its last start.
+pub record CompletionRead (before after : HostWorld) : Type 0 where
+  pub completion : Completed
+  pub added : after .books .completions ≡ andThen (before .books .completions) completion
+  pub parts : clientParts (after .client) ≡ completion .bytes
+  pub last : completion .ordinal ≡ lastStart (after .books .starts)
+
+pub record CompletionsRead (h : HostWorld) : Type 0 where
+  pub told :
+      (call : HostCall) → HostFits call → noticeIn (exported h call .result) ≡ Last
+      → CompletionRead h (hostStep h call)
+  pub untold :
+      (call : HostCall) → (noticeIn (exported h call .result) ≡ Last → ⊥)
+      → hostStep h call .books .completions ≡ h .books .completions
+
+-- Each dispatch has the whole message of its one start, and its call data.
+unfoldable pub DispatchesWhole : HostWorld → Type 0
+DispatchesWhole h = (d : Dispatched) → In d (h .books .dispatches) → WholeMessage (h .books .starts) d
+
+-- While a call runs, in RUNNING, 4, a host still reads all of what was last dispatched;
+pub record RunReads (h : HostWorld) : Type 0 where
+  pub before : List Dispatched
+  pub dispatch : Dispatched
+  pub last : h .books .dispatches ≡ andThen before dispatch
+  pub read : ReadsDispatch (h .server) dispatch
+  pub whole : WholeMessage (h .books .starts) dispatch
+
+unfoldable pub RunningWhole : HostWorld → Type 0
+RunningWhole h = stateByte (h .server) ≡ 4 → RunReads h
+
+-- and no further call but reply or fault changes the server's bytes, its slot buffer or the dispatches.
+pub record ServerSame (before after : HostWorld) : Type 0 where
+  pub bytes : after .server .machine ≡ before .server .machine
+  pub slots : after .server .slots ≡ before .server .slots
+  pub dispatches : after .books .dispatches ≡ before .books .dispatches
+
+unfoldable pub RunningAlone : HostWorld → Type 0
+RunningAlone h =
+    (call : HostCall) → HostFits call → stateByte (h .server) ≡ 4 → endsRun call ≡ false
+    → ServerSame h (hostStep h call)
+
+-- A reply is given to a start that was dispatched.
+unfoldable pub RepliesDispatched : HostWorld → Type 0
+RepliesDispatched h = (r : Replied) → In r (h .books .replies) → DispatchOf (h .books .dispatches) (r .ordinal)
+
+-- What a host reads of the client is nothing, or leads one reply to the last start.
+pub record ReplyLed (h : HostWorld) : Type 0 where
+  pub reply : Replied
+  pub given : In reply (h .books .replies)
+  pub last : reply .ordinal ≡ lastStart (h .books .starts)
+  pub leads : Leads (clientParts (h .client)) (reply .message)
+
+unfoldable pub OneReplyRead : HostWorld → Type 0
+OneReplyRead h = (clientParts (h .client) ≡ []) ⊎ ReplyLed h
+
+-- A call told complete has the whole of one reply to its start;
+unfoldable pub CompletionsWhole : HostWorld → Type 0
+CompletionsWhole h = (c : Completed) → In c (h .books .completions) → WholeReply (h .books .replies) c
+
+-- and in ACK_PENDING, 4, and COMPLETE, 5, a host reads the whole of one reply to the last start.
+pub record ReplyRead (h : HostWorld) : Type 0 where
+  pub reply : Replied
+  pub given : In reply (h .books .replies)
+  pub last : reply .ordinal ≡ lastStart (h .books .starts)
+  pub whole : clientParts (h .client) ≡ reply .message
+
+unfoldable pub AnsweredWhole : HostWorld → Type 0
+AnsweredWhole h = (stateByte (h .client) ≡ 4) ⊎ (stateByte (h .client) ≡ 5) → ReplyRead h
+
+-- It only grows: while no further start is accepted, what was read before leads what is read later.
+unfoldable pub ReplyGrows : HostWorld → List HostCall → Type 0
+ReplyGrows h calls =
+    (before after : List HostCall) → calls ≡ before ++ after
+    → hostRun h calls .books .starts ≡ hostRun h before .books .starts
+    → Leads (clientParts (hostRun h before .client)) (clientParts (hostRun h calls .client))
+
+-- A call that does nothing: it is not answered 0, tells nothing, sends nothing, and all that the host keeps and lent
+-- is as it was.
+pub record DoesNothing (h : HostWorld) (call : HostCall) : Type 0 where
+  pub refused : answerIn (exported h call .result) ≡ Done → ⊥
+  pub untold : noticeIn (exported h call .result) ≡ Untold
+  pub unsent : sentIn (exported h call .result) ≡ Nothing
+  pub same : hostStep h call ≡ h
+  pub buffer : exported h call .out ≡ bufferLent call
+
+-- A late timer does nothing: one whose ticket the bytes do not have armed;
+unfoldable pub LateDoesNothing : HostWorld → Type 0
+LateDoesNothing h =
+    (timer : HostTimer) (ticket : ℕ) (out : List ℕ) → HostFits (timerCall timer ticket out)
+    → (ArmedWith h timer ticket → ⊥) → DoesNothing h (timerCall timer ticket out)
+
+-- a ticket that was armed and is no longer never is again;
+unfoldable pub TicketsGone : HostWorld → List HostCall → Type 0
+TicketsGone h calls =
+    (before between after : List HostCall) → calls ≡ before ++ (between ++ after) → (timer : HostTimer) (ticket : ℕ)
+    → ArmedWith (hostRun h before) timer ticket → (ArmedWith (hostRun h (before ++ between)) timer ticket → ⊥)
+    → ArmedWith (hostRun h calls) timer ticket → ⊥
+
+-- and a ticket that acts is no longer armed.
+unfoldable pub TicketsActOnce : HostWorld → Type 0
+TicketsActOnce h =
+    (timer : HostTimer) (ticket : ℕ) (out : List ℕ) → HostFits (timerCall timer ticket out)
+    → answerIn (exported h (timerCall timer ticket out) .result) ≡ Done
+    → ArmedWith (hostStep h (timerCall timer ticket out)) timer ticket → ⊥
+
+-- A timer is armed only in the states that name it: WAIT in DISPATCHED and RECEIVE_FRAGS, ACK in ACK_PENDING, RESEND in
+-- HELD. The server has no second timer. So nothing is armed in a finished call: COMPLETE, FAULT, IDLE.
+pub record QuietBytes (h : HostWorld) : Type 0 where
+  pub wait : (stateByte (h .client) ≡ 2 → ⊥) → (stateByte (h .client) ≡ 3 → ⊥) → markByte h WaitTimer ≡ 0
+  pub ack : (stateByte (h .client) ≡ 4 → ⊥) → markByte h AckTimer ≡ 0
+  pub resend : (stateByte (h .server) ≡ 6 → ⊥) → (stateByte (h .server) ≡ 7 → ⊥) → markByte h ResendTimer ≡ 0
+  pub second : getD (h .server .machine) 65 0 ≡ 0
+  pub complete : stateByte (h .client) ≡ 5 → (markByte h WaitTimer ≡ 0) × (markByte h AckTimer ≡ 0)
+  pub fault : stateByte (h .client) ≡ 6 → (markByte h WaitTimer ≡ 0) × (markByte h AckTimer ≡ 0)
+  pub idle : stateByte (h .server) ≤ 2 → markByte h ResendTimer ≡ 0
+
+-- All of it, of what a host keeps after a list of calls.
+pub record HostDemand (h : HostWorld) (calls : List HostCall) : Type 0 where
+  -- A call that is not idempotent is dispatched at most once.
+  pub once : DispatchedOnce (hostRun h calls)
+  -- A dispatch is what the host is told and then reads, and so is a call told complete.
+  pub dispatches : DispatchesRead (hostRun h calls)
+  pub completions : CompletionsRead (hostRun h calls)
+  -- A dispatch gets a whole message and its call data,
+  pub whole : DispatchesWhole (hostRun h calls)
+  -- and the host reads both still while the call runs.
+  pub running : RunningWhole (hostRun h calls)
+  -- Nothing but its reply or fault touches a call that runs.
+  pub alone : RunningAlone (hostRun h calls)
+  -- Replies are given to what was dispatched.
+  pub replied : RepliesDispatched (hostRun h calls)
+  -- One of them is read,
+  pub reply : OneReplyRead (hostRun h calls)
+  -- whole when the host is told "last",
+  pub complete : CompletionsWhole (hostRun h calls)
+  -- and whole from then on.
+  pub answered : AnsweredWhole (hostRun h calls)
+  -- What is read only grows.
+  pub grows : ReplyGrows h calls
+  -- A late timer does nothing.
+  pub late : LateDoesNothing (hostRun h calls)
+  -- A ticket that is no longer armed is late for good,
+  pub gone : TicketsGone h calls
+  -- and a ticket that has acted is no longer armed.
+  pub acts : TicketsActOnce (hostRun h calls)
+  -- No timer is armed where no state names it, and so none in a finished call.
+  pub quiet : QuietBytes (hostRun h calls)
