@@ -57,8 +57,8 @@ unfoldable pub eventsOf : List HostCall → List Event
 eventsOf [] = []
 eventsOf (call ∷ calls) = meant call ++ eventsOf calls
 
--- What C's types say of the arguments: bytes, and numbers of so many bits. The message that a start or a reply is for is
--- no argument.
+-- What C's types say of the arguments: bytes, and numbers of so many bits. The message that a start or a reply is for
+-- is no argument.
 abbrev pub ClientCallFits : ClientCall → Type 0
 ClientCallFits (ClientStart idempotent object interface version operation n message) =
     (idempotent < 256) × Octets object × Octets interface × (version < 4294967296) × (operation < 65536)

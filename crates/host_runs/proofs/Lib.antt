@@ -1,0 +1,4 @@
+-- The runs of crate runs, at the door.
+pub mod AtTheDoor
+pub mod PduOctets
+pub mod HostRunsHold
