@@ -18,7 +18,7 @@ use Rattle.host_history.specs.Results.{noticeIn}
 use Rattle.host_history.specs.Hosts.{HostWorld, worldOf, ClientCall, ServerCall, HostCall, ToClient, ToServer, clientExport, serverExport, exported, clientSeen, serverSeen, startsSeen, subjectSeen, hostStep}
 use Rattle.host_history.specs.Meaning.{meantToClient, meantToServer, ClientCallFits, ServerCallFits, HostFits, Keeps}
 use Rattle.host_history.specs.HostReads.{ReadsDispatch}
-use Rattle.host_history.specs.HostDemand.{DispatchRead, DispatchesRead, CompletionRead, CompletionsRead}
+use Rattle.host_history.specs.HostBooks.{DispatchRead, DispatchesRead, CompletionRead, CompletionsRead}
 use Rattle.host_history.proofs.Refusals.{refused-leaves}
 use Rattle.host_history.proofs.ClientCalls.{ClientMeets, client-meets}
 use Rattle.host_history.proofs.ServerCalls.{ServerMeets, server-meets}

@@ -23,6 +23,7 @@ use Rattle.host_history.proofs.SameRun.{same-run, keeps-run}
 use Rattle.host_history.proofs.FreshHosts.{fresh-keeps}
 use Rattle.host_history.proofs.HostTheorem.{host-theorem, at-host}
 use Rattle.host_history.proofs.Handing.{client-parts}
+use Rattle.host_history.proofs.BooksGiven.{starts-given, replies-given}
 use Rattle.host_history.proofs.BooksRead.{dispatches-read, completions-read}
 use Rattle.host_history.proofs.TimersRead.{named, armed-told, armed-read, late-nothing, acts-read, quiet-read}
 use Rattle.host_history.proofs.RunsRead.{running-read, running-alone}
@@ -142,6 +143,8 @@ host-demanded h keeps calls small holds =
     let whole : DispatchesWhole now = at-host h calls holds WholeMessages (claim .whole) in
     record {
       once = at-host h calls holds AtMostOnce (claim .once);
+      starts = starts-given now;
+      replies = replies-given now;
       dispatches = dispatches-read now kept;
       completions = completions-read now kept;
       whole = whole;

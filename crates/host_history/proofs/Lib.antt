@@ -22,6 +22,7 @@ pub mod AnsweredBytes
 pub mod HeaderTold
 pub mod OthersRefused
 pub mod Notices
+pub mod BooksGiven
 pub mod BooksRead
 pub mod TimersRead
 pub mod RunsRead

@@ -7,7 +7,7 @@ use mathlib.Core.Logic.{_⊎_}
 use mathlib.Core.Path.{_≡_}
 use lib.ListN.{getD}
 use Rattle.answers.specs.declared.Answer.the-variants.{Done}
-use Rattle.calls.specs.declared.Notice.the-variants.{Nothing as Untold, Last, Dispatch}
+use Rattle.calls.specs.declared.Notice.the-variants.{Nothing as Untold}
 use Rattle.calls.specs.declared.Sent.the-variants.{Nothing}
 use Rattle.fragments.specs.Joined.{Leads}
 use Rattle.history.specs.Lists.{In, andThen}
@@ -20,43 +20,13 @@ use Rattle.host_history.specs.Meaning.{HostFits}
 use Rattle.host_history.specs.Refusal.{bufferLent}
 use Rattle.host_history.specs.HandedUp.{clientParts}
 use Rattle.host_history.specs.HostReads.{stateByte, HostTimer, WaitTimer, AckTimer, ResendTimer, markByte, ArmedWith, timerCall, ReadsDispatch, endsRun}
+use Rattle.host_history.specs.HostBooks.{StartsGiven, RepliesGiven, DispatchesRead, CompletionsRead}
 
 -- A start that is not marked idempotent is dispatched at most once.
 unfoldable pub DispatchedOnce : HostWorld → Type 0
 DispatchedOnce h =
     (s : Started) → In s (h .books .starts) → s .call .idempotent ≡ false
     → times (s .ordinal) (h .books .dispatches) ≤ 1
-
--- What the books call a dispatch is what a host sees: where the result of any further call tells "dispatch", one more
--- is on the books, and it is what the host then reads of the server;
-pub record DispatchRead (before after : HostWorld) : Type 0 where
-  pub dispatch : Dispatched
-  pub added : after .books .dispatches ≡ andThen (before .books .dispatches) dispatch
-  pub read : ReadsDispatch (after .server) dispatch
-
--- where it tells anything else, there is none.
-pub record DispatchesRead (h : HostWorld) : Type 0 where
-  pub told :
-      (call : HostCall) → HostFits call → noticeIn (exported h call .result) ≡ Dispatch
-      → DispatchRead h (hostStep h call)
-  pub untold :
-      (call : HostCall) → (noticeIn (exported h call .result) ≡ Dispatch → ⊥)
-      → hostStep h call .books .dispatches ≡ h .books .dispatches
-
--- The same of "last": a call told complete is what the host then reads of the client, for its last start.
-pub record CompletionRead (before after : HostWorld) : Type 0 where
-  pub completion : Completed
-  pub added : after .books .completions ≡ andThen (before .books .completions) completion
-  pub parts : clientParts (after .client) ≡ completion .bytes
-  pub last : completion .ordinal ≡ lastStart (after .books .starts)
-
-pub record CompletionsRead (h : HostWorld) : Type 0 where
-  pub told :
-      (call : HostCall) → HostFits call → noticeIn (exported h call .result) ≡ Last
-      → CompletionRead h (hostStep h call)
-  pub untold :
-      (call : HostCall) → (noticeIn (exported h call .result) ≡ Last → ⊥)
-      → hostStep h call .books .completions ≡ h .books .completions
 
 -- Each dispatch has the whole message of its one start, and its call data.
 unfoldable pub DispatchesWhole : HostWorld → Type 0
@@ -163,7 +133,10 @@ pub record QuietBytes (h : HostWorld) : Type 0 where
 pub record HostDemand (h : HostWorld) (calls : List HostCall) : Type 0 where
   -- A call that is not idempotent is dispatched at most once.
   pub once : DispatchedOnce (hostRun h calls)
-  -- A dispatch is what the host is told and then reads, and so is a call told complete.
+  -- A start or a reply is on the books where the host gave it and it was answered 0; a dispatch, and a call told
+  -- complete, where the host is told so, and it is what the host then reads.
+  pub starts : StartsGiven (hostRun h calls)
+  pub replies : RepliesGiven (hostRun h calls)
   pub dispatches : DispatchesRead (hostRun h calls)
   pub completions : CompletionsRead (hostRun h calls)
   -- A dispatch gets a whole message and its call data,

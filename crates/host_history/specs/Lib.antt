@@ -7,4 +7,5 @@ pub mod Refusal
 pub mod HostClaim
 pub mod HandedUp
 pub mod HostReads
+pub mod HostBooks
 pub mod HostDemand
