@@ -12,13 +12,13 @@ use Rattle.client_bytes.specs.Layout.{stateOf, clientOf, clientIn}
 use Rattle.history.specs.World.{World}
 use Rattle.history.specs.Events.{Event}
 use Rattle.history.specs.Steps.{run}
-use Rattle.history.specs.Claim.{AtMostOnce, WholeMessages, WholeWhereRunning, RunsUndisturbed, RepliesToDispatches, replyHandedUp, OneReply, WholeReplies, hasReply, WholeWhereAnswered, OnlyGrows, timerIn, LateTimers, GoneTickets, ActsOnce, Quiet}
+use Rattle.history.specs.Claim.{AtMostOnce, WholeMessages, WholeWhereRunning, RunsUndisturbed, RepliesToDispatches, replyHandedUp, OneReply, WholeReplies, hasReply, WholeWhereAnswered, OnlyGrows, timerIn, LateTimers, GoneTickets, ActsOnce, ArmedAfresh, Quiet, Numbered}
 use Rattle.host_history.specs.Hosts.{HostWorld, worldOf, HostCall, hostRun}
 use Rattle.host_history.specs.Meaning.{meant, eventsOf, AllFit, FairHost, Keeps, FreshHost}
 use Rattle.host_history.specs.HostClaim.{HostClaim}
 use Rattle.host_history.specs.HandedUp.{clientParts}
 use Rattle.host_history.specs.HostReads.{stateByte, HostTimer, ArmedWith}
-use Rattle.host_history.specs.HostDemand.{DispatchedOnce, DispatchesWhole, RepliesDispatched, OneReplyRead, CompletionsWhole, AnsweredWhole, ReplyGrows, TicketsGone, HostDemand}
+use Rattle.host_history.specs.HostDemand.{DispatchedOnce, DispatchesWhole, Numbers, RepliesDispatched, OneReplyRead, CompletionsWhole, AnsweredWhole, ReplyGrows, TicketsGone, HostDemand}
 use Rattle.host_history.proofs.SameRun.{same-run, keeps-run}
 use Rattle.host_history.proofs.FreshHosts.{fresh-keeps}
 use Rattle.host_history.proofs.HostTheorem.{host-theorem, at-host}
@@ -26,6 +26,7 @@ use Rattle.host_history.proofs.Handing.{client-parts}
 use Rattle.host_history.proofs.BooksGiven.{starts-given, replies-given}
 use Rattle.host_history.proofs.BooksRead.{dispatches-read, completions-read}
 use Rattle.host_history.proofs.TimersRead.{named, armed-told, armed-read, late-nothing, acts-read, quiet-read}
+use Rattle.host_history.proofs.WaitRead.{afresh-read}
 use Rattle.host_history.proofs.RunsRead.{running-read, running-alone}
 
 -- The events of calls one behind the other, and the first of calls that fit.
@@ -131,6 +132,9 @@ module _ (h : HostWorld) (keeps : Keeps h) (calls : List HostCall) (small : AllF
       (sym (events-append before between)) still)))
       (first-armed calls [] whole-list timer ticket again)
 
+numbers-read : (h : HostWorld) → Numbered (worldOf h) → Numbers h
+numbers-read h known = record { starts = known .starts; dispatches = known .dispatches }
+
 -- From what the theorem over histories claims of its calls,
 pub host-demanded : (h : HostWorld) → Keeps h → (calls : List HostCall) → AllFit calls → HostClaim h calls
     → HostDemand h calls
@@ -148,6 +152,7 @@ host-demanded h keeps calls small holds =
       dispatches = dispatches-read now kept;
       completions = completions-read now kept;
       whole = whole;
+      numbers = numbers-read now (at-host h calls holds Numbered (claim .numbered));
       running = running-read now kept (at-host h calls holds WholeWhereRunning (claim .running)) whole;
       alone = running-alone now kept (at-host h calls holds RunsUndisturbed (claim .undisturbed));
       replied = at-host h calls holds RepliesToDispatches (claim .replied);
@@ -158,6 +163,7 @@ host-demanded h keeps calls small holds =
       late = late-nothing now kept (at-host h calls holds LateTimers (claim .late));
       gone = gone-read h keeps calls small (claim .gone);
       acts = acts-read now kept (at-host h calls holds ActsOnce (claim .acts));
+      afresh = afresh-read now kept (at-host h calls holds ArmedAfresh (claim .afresh));
       quiet = quiet-read now kept (at-host h calls holds Quiet (claim .quiet));
     }
 

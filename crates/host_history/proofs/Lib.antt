@@ -25,5 +25,6 @@ pub mod Notices
 pub mod BooksGiven
 pub mod BooksRead
 pub mod TimersRead
+pub mod WaitRead
 pub mod RunsRead
 pub mod HostDemanded

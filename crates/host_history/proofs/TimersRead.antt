@@ -19,8 +19,10 @@ use Rattle.client_record.specs.declared.State.{State as ClientState}
 use Rattle.client_record.specs.declared.State.the-variants.{Queued, SendFrags, Dispatched, ReceiveFrags, AckPending, Complete, Fault}
 use Rattle.client_record.specs.declared.TimerKind.the-variants.{Wait, Ack}
 use Rattle.client_bytes.specs.Layout.{stateOf as clientState, readable as clientReadable, clientOf, clientIn}
+use Rattle.client_bytes.specs.Canonical.{Canonical as ClientCanonical}
 use Rattle.server_record.specs.declared.State.{State as ServerState}
 use Rattle.server_bytes.specs.Layout.{stateOf as serverState, readable as serverReadable, serverOf, serverIn}
+use Rattle.server_bytes.specs.Canonical.{Canonical as ServerCanonical}
 use Rattle.history.specs.World.{World}
 use Rattle.history.specs.Steps.{answerTo, step, run}
 use Rattle.history.specs.Claim.{TimerOf, OnClient, OnServer, timerIn, timerEvent, LateTimers, ActsOnce, namesWait, namesAck, namesResend, Quiet}
@@ -166,15 +168,22 @@ module _ (n : ℕ) where
       (λ l. choice-by Unnamed (eqb n 6) _ _ (other-byte 6 _ six)
       (λ m. choice-by Unnamed (eqb n 7) _ _ (other-byte 7 _ seven) (λ o. refl)))))))
 
+-- What both sides ask of readable bytes.
+pub shared-client : (b : List ℕ) → ClientCanonical b → sharedReadable b ≡ true
+unfolding clientReadable
+shared-client b canonical = both-true _ _ (both-true _ _ (canonical .readable) .1) .1
+
+shared-server : (b : List ℕ) → ServerCanonical b → sharedReadable b ≡ true
+unfolding serverReadable
+shared-server b canonical = both-true _ _ (both-true _ _ (canonical .readable) .1) .1
+
 -- Nothing is armed where no state names it.
 module _ (h : HostWorld) (keeps : Keeps h) (quiet : Quiet (worldOf h)) where
   client-known : sharedReadable (h .client .machine) ≡ true
-  unfolding clientReadable
-  client-known = both-true _ _ (both-true _ _ (keeps .client .readable) .1) .1
+  client-known = shared-client (h .client .machine) (keeps .client)
 
   server-known : sharedReadable (h .server .machine) ≡ true
-  unfolding serverReadable
-  server-known = both-true _ _ (both-true _ _ (keeps .server .readable) .1) .1
+  server-known = shared-server (h .server .machine) (keeps .server)
 
   wait-quiet : (stateByte (h .client) ≡ 2 → ⊥) → (stateByte (h .client) ≡ 3 → ⊥) → markByte h WaitTimer ≡ 0
   unfolding markByte clientIn clientOf fieldsIn

@@ -1,21 +1,23 @@
 -- Demand 3, of a host that calls exports only, in its own terms: the bytes that it keeps, what exports give back, and
 -- the parts that it reads.
 use Prim.Native.Nat.{ℕ, _≤_}
-use mathlib.Core.Bool.{false}
+use mathlib.Core.Bool.{true, false}
 use mathlib.Core.List.{List, [], _++_}
 use mathlib.Core.Logic.{_⊎_}
 use mathlib.Core.Path.{_≡_}
-use lib.ListN.{getD}
+use lib.ListN.{getD, drop}
+use Rattle.words.specs.Number.{number as numberAt}
 use Rattle.answers.specs.declared.Answer.the-variants.{Done}
 use Rattle.calls.specs.declared.Notice.the-variants.{Nothing as Untold}
 use Rattle.calls.specs.declared.Sent.the-variants.{Nothing}
 use Rattle.fragments.specs.Joined.{Leads}
 use Rattle.history.specs.Lists.{In, andThen}
-use Rattle.history.specs.World.{Started, Dispatched, Replied, Completed}
+use Rattle.history.specs.World.{callNumber, Started, Dispatched, Replied, Completed, SentPdu}
+use Rattle.history.specs.Events.{Lent}
 use Rattle.history.specs.Steps.{lastStart}
 use Rattle.history.specs.Claim.{times, DispatchOf, WholeMessage, WholeReply}
 use Rattle.host_history.specs.Results.{answerIn, noticeIn, sentIn}
-use Rattle.host_history.specs.Hosts.{HostWorld, HostCall, exported, hostStep, hostRun}
+use Rattle.host_history.specs.Hosts.{HostWorld, HostCall, ClientArrive, ToClient, exported, hostStep, hostRun}
 use Rattle.host_history.specs.Meaning.{HostFits}
 use Rattle.host_history.specs.Refusal.{bufferLent}
 use Rattle.host_history.specs.HandedUp.{clientParts}
@@ -31,6 +33,11 @@ DispatchedOnce h =
 -- Each dispatch has the whole message of its one start, and its call data.
 unfoldable pub DispatchesWhole : HostWorld → Type 0
 DispatchesWhole h = (d : Dispatched) → In d (h .books .dispatches) → WholeMessage (h .books .starts) d
+
+-- Both have the call number of their start, so a number names its start.
+pub record Numbers (h : HostWorld) : Type 0 where
+  pub starts : (s : Started) → In s (h .books .starts) → s .number ≡ callNumber (s .ordinal)
+  pub dispatches : (d : Dispatched) → In d (h .books .dispatches) → d .number ≡ callNumber (d .ordinal)
 
 -- While a call runs, in RUNNING, 4, a host still reads all of what was last dispatched;
 pub record RunReads (h : HostWorld) : Type 0 where
@@ -118,6 +125,23 @@ TicketsActOnce h =
     → answerIn (exported h (timerCall timer ticket out) .result) ≡ Done
     → ArmedWith (hostStep h (timerCall timer ticket out)) timer ticket → ⊥
 
+-- Nor is WAIT, with the ticket that it had, after an arriving working, whose byte 1 is 4, that is answered 0, or after
+-- such a response, 2, that changed what is held: the known last at 10, or the slots from 144 on.
+pub record HeldSame (before after : List ℕ) : Type 0 where
+  pub last : numberAt 2 true after 10 ≡ numberAt 2 true before 10
+  pub slots : drop 144 after ≡ drop 144 before
+
+abbrev pub RenewsWait : ℕ → List ℕ → List ℕ → Type 0
+RenewsWait kind before after = (kind ≡ 4) ⊎ ((kind ≡ 2) × (HeldSame before after → ⊥))
+
+unfoldable pub WaitAfresh : HostWorld → Type 0
+WaitAfresh h =
+    (p : SentPdu) (lent : Lent) (out : List ℕ)
+    → let call = ToClient (ClientArrive p lent out) in
+    HostFits call → answerIn (exported h call .result) ≡ Done
+    → RenewsWait (getD (p .bytes) 1 0) (h .client .machine) (hostStep h call .client .machine) → (ticket : ℕ)
+    → ArmedWith h WaitTimer ticket → ArmedWith (hostStep h call) WaitTimer ticket → ⊥
+
 -- A timer is armed only in the states that name it: WAIT in DISPATCHED and RECEIVE_FRAGS, ACK in ACK_PENDING, RESEND in
 -- HELD. The server has no second timer. So nothing is armed in a finished call: COMPLETE, FAULT, IDLE.
 pub record QuietBytes (h : HostWorld) : Type 0 where
@@ -141,7 +165,9 @@ pub record HostDemand (h : HostWorld) (calls : List HostCall) : Type 0 where
   pub completions : CompletionsRead (hostRun h calls)
   -- A dispatch gets a whole message and its call data,
   pub whole : DispatchesWhole (hostRun h calls)
-  -- and the host reads both still while the call runs.
+  -- under the number of its start,
+  pub numbers : Numbers (hostRun h calls)
+  -- and the host reads all of it still while the call runs.
   pub running : RunningWhole (hostRun h calls)
   -- Nothing but its reply or fault touches a call that runs.
   pub alone : RunningAlone (hostRun h calls)
@@ -159,7 +185,9 @@ pub record HostDemand (h : HostWorld) (calls : List HostCall) : Type 0 where
   pub late : LateDoesNothing (hostRun h calls)
   -- A ticket that is no longer armed is late for good,
   pub gone : TicketsGone h calls
-  -- and a ticket that has acted is no longer armed.
+  -- and a ticket that has acted is no longer armed,
   pub acts : TicketsActOnce (hostRun h calls)
+  -- nor is WAIT's after a working, or after a response that was put.
+  pub afresh : WaitAfresh (hostRun h calls)
   -- No timer is armed where no state names it, and so none in a finished call.
   pub quiet : QuietBytes (hostRun h calls)
