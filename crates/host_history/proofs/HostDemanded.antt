@@ -2,7 +2,7 @@
 use Prim.Native.Nat.{ℕ}
 use mathlib.Core.Bool.{true}
 use mathlib.Core.List.{List, [], _∷_, _++_, append-assoc, append-nil}
-use mathlib.Core.Logic.{_⊎_, inl, inr}
+use mathlib.Core.Logic.{inl, inr}
 use mathlib.Core.Path.{_≡_, refl, sym, ap, subst, _∙_}
 use Rattle.words.specs.Choice.{choose}
 use Rattle.timers.specs.declared.Timer.the-variants.{Armed}
@@ -17,7 +17,7 @@ use Rattle.host_history.specs.Hosts.{HostWorld, worldOf, HostCall, hostR
 use Rattle.host_history.specs.Meaning.{meant, eventsOf, AllFit, FairHost, Keeps, FreshHost}
 use Rattle.host_history.specs.HostClaim.{HostClaim}
 use Rattle.host_history.specs.HandedUp.{clientParts}
-use Rattle.host_history.specs.HostReads.{stateByte, HostTimer, ArmedWith}
+use Rattle.host_history.specs.HostReads.{HasReply, HostTimer, ArmedWith}
 use Rattle.host_history.specs.HostDemand.{DispatchedOnce, DispatchesWhole, Numbers, RepliesDispatched, OneReplyRead, CompletionsWhole, AnsweredWhole, ReplyGrows, TicketsGone, HostDemand}
 use Rattle.host_history.proofs.SameRun.{same-run, keeps-run}
 use Rattle.host_history.proofs.FreshHosts.{fresh-keeps}
@@ -55,8 +55,8 @@ module _ (h : HostWorld) (keeps : Keeps h) where
         leads = subst (λ (l : List ℕ). Leads l (known .reply .message)) (sym (client-parts h keeps)) (known .leads);
       })
 
-  -- The state bytes 4 and 5 are ACK_PENDING and COMPLETE.
-  state-answered : (stateByte (h .client) ≡ 4) ⊎ (stateByte (h .client) ≡ 5)
+  -- The state byte is that of ACK_PENDING or COMPLETE.
+  state-answered : HasReply (h .client)
       → hasReply (worldOf h .client .machine .state) ≡ true
   unfolding clientIn clientOf fieldsIn stateOf choose
   state-answered (inl four) = ap (λ (n : ℕ). hasReply (stateOf n)) four

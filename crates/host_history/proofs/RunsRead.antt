@@ -18,7 +18,7 @@ use Rattle.history.specs.Claim.{runs, WholeWhereRunning, LeftAlone, RunsUndistu
 use Rattle.history.proofs.ListLaws.{in-added}
 use Rattle.host_history.specs.Hosts.{HostWorld, worldOf, ServerCall, ServerArrive, ServerTransmit, ServerTimer, ServerReply, ServerFault, ToClient, ToServer, hostStep}
 use Rattle.host_history.specs.Meaning.{meant, HostFits, Keeps}
-use Rattle.host_history.specs.HostReads.{stateByte, ReadsDispatch, endsRun}
+use Rattle.host_history.specs.HostReads.{InRunning, ReadsDispatch, endsRun}
 use Rattle.host_history.specs.HostDemand.{DispatchesWhole, RunningWhole, ServerSame, RunningAlone}
 use Rattle.host_history.proofs.SameRun.{same-step, keeps-step}
 use Rattle.host_history.proofs.BooksRead.{entry-read}
@@ -42,16 +42,16 @@ ending P (y ∷ (z ∷ zs)) x here known =
       holds = rest .holds;
     }
 
--- The state byte 4 is RUNNING.
-state-runs : (h : HostWorld) → stateByte (h .server) ≡ 4 → runs (worldOf h .server .machine .state) ≡ true
+-- The state byte is that of RUNNING.
+state-runs : (h : HostWorld) → InRunning (h .server) → runs (worldOf h .server .machine .state) ≡ true
 unfolding serverIn serverOf fieldsIn stateOf choose
-state-runs h four = ap (λ (n : ℕ). runs (stateOf n (number 4 true (h .server .machine) 48))) four
+state-runs h state = ap (λ (n : ℕ). runs (stateOf n (number 4 true (h .server .machine) 48))) state
 
 module _ (h : HostWorld) (keeps : Keeps h) where
   pub running-read : WholeWhereRunning (worldOf h) → DispatchesWhole h → RunningWhole h
   unfolding WholeWhereRunning DispatchesWhole RunningWhole
-  running-read running whole four =
-      let known = running (state-runs h four) in
+  running-read running whole state =
+      let known = running (state-runs h state) in
       let end = ending _ (h .books .dispatches) (known .ran .dispatch) (known .ran .dispatched) (known .last) in
       record {
         before = end .before;
@@ -92,5 +92,5 @@ module _ (h : HostWorld) (keeps : Keeps h) where
 
   pub running-alone : RunsUndisturbed (worldOf h) → RunningAlone h
   unfolding RunningAlone hostStep
-  running-alone alone (ToClient call) small four other = record { bytes = refl; slots = refl; dispatches = refl }
-  running-alone alone (ToServer call) small four other = server-same alone (state-runs h four) call small other
+  running-alone alone (ToClient call) small state other = record { bytes = refl; slots = refl; dispatches = refl }
+  running-alone alone (ToServer call) small state other = server-same alone (state-runs h state) call small other

@@ -1,7 +1,8 @@
 -- The timers of the theorem's world are those that a host reads in the bytes.
-use Prim.Native.Nat.{ℕ}
+use Prim.Native.Nat.{ℕ, _≤_}
 use mathlib.Core.Bool.{Bool, true, false, false≢true}
 use mathlib.Core.List.{List, [], _∷_}
+use mathlib.Core.Logic.{inl, inr}
 use mathlib.Core.Path.{_≡_, refl, sym, ap, subst, _∙_}
 use native.Mathlib.Omega.{arith}
 use lib.Dec.{eqb, leb}
@@ -30,7 +31,7 @@ use Rattle.host_history.specs.Results.{answerIn}
 use Rattle.host_history.specs.Hosts.{HostWorld, worldOf, HostCall, exported, hostStep}
 use Rattle.host_history.specs.Meaning.{meant, HostFits, Keeps, TellsOf, Tells}
 use Rattle.host_history.specs.Refusal.{Undone}
-use Rattle.host_history.specs.HostReads.{stateByte, HostTimer, WaitTimer, AckTimer, ResendTimer, markByte, ticketBytes, ArmedWith, timerCall}
+use Rattle.host_history.specs.HostReads.{stateByte, NamesWait, NamesAck, NamesResend, HostTimer, WaitTimer, AckTimer, ResendTimer, markByte, ticketBytes, ArmedWith, timerCall}
 use Rattle.host_history.specs.HostDemand.{DoesNothing, LateDoesNothing, TicketsActOnce, QuietBytes}
 use Rattle.host_history.proofs.Refusals.{refused-leaves}
 use Rattle.host_history.proofs.Unchanged.{refused-same}
@@ -126,47 +127,59 @@ mark-off : (mark ticket : ℕ) → leb mark 1 ≡ true → timerWhere (eqb mark 
 mark-off mark ticket small off =
     mark-zero mark small (sym (armed-again (eqb mark 1) ticket) ∙ ap isArmed off)
 
--- What a state byte that is none of those names.
+-- The state of a byte that does not name a timer does not name it either.
 module _ (n : ℕ) where
-  other-byte : (k : ℕ) (P : Type 0) → (n ≡ k → ⊥) → eqb n k ≡ true → P
-  other-byte k P other e = absurd (other (eqb-true n k e))
+  abbrev Unwaited : ClientState → Type 0
+  Unwaited s = namesWait s ≡ false
 
-  abbrev Off-by : (ClientState → Bool) → ClientState → Type 0
-  Off-by names s = names s ≡ false
-
-  wait-unnamed : (n ≡ 2 → ⊥) → (n ≡ 3 → ⊥) → namesWait (clientState n) ≡ false
+  wait-unnamed : (NamesWait n → ⊥) → namesWait (clientState n) ≡ false
   unfolding clientState
-  wait-unnamed two three =
-      choice-by (Off-by namesWait) (eqb n 0) Queued _ (λ e. refl)
-      (λ e. choice-by (Off-by namesWait) (eqb n 1) SendFrags _ (λ f. refl)
-      (λ f. choice-by (Off-by namesWait) (eqb n 2) Dispatched _ (other-byte 2 _ two)
-      (λ g. choice-by (Off-by namesWait) (eqb n 3) ReceiveFrags _ (other-byte 3 _ three)
-      (λ k. choice-by (Off-by namesWait) (eqb n 4) AckPending _ (λ l. refl)
-      (λ l. choice-by (Off-by namesWait) (eqb n 5) Complete Fault (λ m. refl) (λ m. refl))))))
+  wait-unnamed other =
+      choice-by Unwaited (eqb n 0) Queued _ (λ e. refl)
+      (λ e. choice-by Unwaited (eqb n 1) SendFrags _ (λ f. refl)
+      (λ f. choice-by Unwaited (eqb n 2) Dispatched _ (λ two. absurd (other (inl (eqb-true n 2 two))))
+      (λ g. choice-by Unwaited (eqb n 3) ReceiveFrags _ (λ three. absurd (other (inr (eqb-true n 3 three))))
+      (λ k. choice-by Unwaited (eqb n 4) AckPending _ (λ l. refl)
+      (λ l. choice-by Unwaited (eqb n 5) Complete Fault (λ m. refl) (λ m. refl))))))
 
-  ack-unnamed : (n ≡ 4 → ⊥) → namesAck (clientState n) ≡ false
+  abbrev Unacked : ClientState → Type 0
+  Unacked s = namesAck s ≡ false
+
+  ack-unnamed : (NamesAck n → ⊥) → namesAck (clientState n) ≡ false
   unfolding clientState
-  ack-unnamed four =
-      choice-by (Off-by namesAck) (eqb n 0) Queued _ (λ e. refl)
-      (λ e. choice-by (Off-by namesAck) (eqb n 1) SendFrags _ (λ f. refl)
-      (λ f. choice-by (Off-by namesAck) (eqb n 2) Dispatched _ (λ g. refl)
-      (λ g. choice-by (Off-by namesAck) (eqb n 3) ReceiveFrags _ (λ k. refl)
-      (λ k. choice-by (Off-by namesAck) (eqb n 4) AckPending _ (other-byte 4 _ four)
-      (λ l. choice-by (Off-by namesAck) (eqb n 5) Complete Fault (λ m. refl) (λ m. refl))))))
+  ack-unnamed other =
+      choice-by Unacked (eqb n 0) Queued _ (λ e. refl)
+      (λ e. choice-by Unacked (eqb n 1) SendFrags _ (λ f. refl)
+      (λ f. choice-by Unacked (eqb n 2) Dispatched _ (λ g. refl)
+      (λ g. choice-by Unacked (eqb n 3) ReceiveFrags _ (λ k. refl)
+      (λ k. choice-by Unacked (eqb n 4) AckPending _ (λ four. absurd (other (eqb-true n 4 four)))
+      (λ l. choice-by Unacked (eqb n 5) Complete Fault (λ m. refl) (λ m. refl))))))
 
-  abbrev Unnamed : ServerState → Type 0
-  Unnamed s = namesResend s ≡ false
+  abbrev Unresent : ServerState → Type 0
+  Unresent s = namesResend s ≡ false
 
-  resend-unnamed : (status : ℕ) → (n ≡ 6 → ⊥) → (n ≡ 7 → ⊥) → namesResend (serverState n status) ≡ false
+  resend-unnamed : (status : ℕ) → (NamesResend n → ⊥) → namesResend (serverState n status) ≡ false
   unfolding serverState
-  resend-unnamed status six seven =
-      choice-by Unnamed (eqb n 1) _ _ (λ e. refl)
-      (λ e. choice-by Unnamed (eqb n 2) _ _ (λ f. refl)
-      (λ f. choice-by Unnamed (eqb n 3) _ _ (λ g. refl)
-      (λ g. choice-by Unnamed (eqb n 4) _ _ (λ k. refl)
-      (λ k. choice-by Unnamed (eqb n 5) _ _ (λ l. refl)
-      (λ l. choice-by Unnamed (eqb n 6) _ _ (other-byte 6 _ six)
-      (λ m. choice-by Unnamed (eqb n 7) _ _ (other-byte 7 _ seven) (λ o. refl)))))))
+  resend-unnamed status other =
+      choice-by Unresent (eqb n 1) _ _ (λ e. refl)
+      (λ e. choice-by Unresent (eqb n 2) _ _ (λ f. refl)
+      (λ f. choice-by Unresent (eqb n 3) _ _ (λ g. refl)
+      (λ g. choice-by Unresent (eqb n 4) _ _ (λ k. refl)
+      (λ k. choice-by Unresent (eqb n 5) _ _ (λ l. refl)
+      (λ l. choice-by Unresent (eqb n 6) _ _ (λ six. absurd (other (inl (eqb-true n 6 six))))
+      (λ m. choice-by Unresent (eqb n 7) _ _ (λ seven. absurd (other (inr (eqb-true n 7 seven)))) (λ o. refl)))))))
+
+  -- The states of a finished call name none.
+  finished-waits : 5 ≤ n → NamesWait n → ⊥
+  finished-waits late (inl two) = omega (arith, late, two)
+  finished-waits late (inr three) = omega (arith, late, three)
+
+  finished-acks : 5 ≤ n → NamesAck n → ⊥
+  finished-acks late four = omega (arith, late, four)
+
+  idle-resends : n ≤ 2 → NamesResend n → ⊥
+  idle-resends low (inl six) = omega (arith, low, six)
+  idle-resends low (inr seven) = omega (arith, low, seven)
 
 -- What both sides ask of readable bytes.
 pub shared-client : (b : List ℕ) → ClientCanonical b → sharedReadable b ≡ true
@@ -185,19 +198,22 @@ module _ (h : HostWorld) (keeps : Keeps h) (quiet : Quiet (worldOf h)) where
   server-known : sharedReadable (h .server .machine) ≡ true
   server-known = shared-server (h .server .machine) (keeps .server)
 
-  wait-quiet : (stateByte (h .client) ≡ 2 → ⊥) → (stateByte (h .client) ≡ 3 → ⊥) → markByte h WaitTimer ≡ 0
+  wait-quiet : (NamesWait (stateByte (h .client)) → ⊥) → markByte h WaitTimer ≡ 0
   unfolding markByte clientIn clientOf fieldsIn
-  wait-quiet two three =
-      mark-off _ _ (known (h .client .machine) client-known .first) (quiet .wait (wait-unnamed _ two three))
+  wait-quiet other =
+      mark-off _ _ (known (h .client .machine) client-known .first) (quiet .wait (wait-unnamed _ other))
 
-  ack-quiet : (stateByte (h .client) ≡ 4 → ⊥) → markByte h AckTimer ≡ 0
+  ack-quiet : (NamesAck (stateByte (h .client)) → ⊥) → markByte h AckTimer ≡ 0
   unfolding markByte clientIn clientOf fieldsIn
-  ack-quiet four = mark-off _ _ (known (h .client .machine) client-known .second) (quiet .ack (ack-unnamed _ four))
+  ack-quiet other = mark-off _ _ (known (h .client .machine) client-known .second) (quiet .ack (ack-unnamed _ other))
 
-  resend-quiet : (stateByte (h .server) ≡ 6 → ⊥) → (stateByte (h .server) ≡ 7 → ⊥) → markByte h ResendTimer ≡ 0
+  resend-quiet : (NamesResend (stateByte (h .server)) → ⊥) → markByte h ResendTimer ≡ 0
   unfolding markByte serverIn serverOf fieldsIn
-  resend-quiet six seven =
-      mark-off _ _ (known (h .server .machine) server-known .first) (quiet .resend (resend-unnamed _ _ six seven))
+  resend-quiet other =
+      mark-off _ _ (known (h .server .machine) server-known .first) (quiet .resend (resend-unnamed _ _ other))
+
+  finished-quiet : 5 ≤ stateByte (h .client) → (markByte h WaitTimer ≡ 0) × (markByte h AckTimer ≡ 0)
+  finished-quiet late = (wait-quiet (finished-waits _ late), ack-quiet (finished-acks _ late))
 
   no-second : getD (h .server .machine) 65 0 ≡ 0
   unfolding serverReadable
@@ -211,13 +227,7 @@ module _ (h : HostWorld) (keeps : Keeps h) (quiet : Quiet (worldOf h)) where
     ack = ack-quiet;
     resend = resend-quiet;
     second = no-second;
-    complete = λ five. (
-      wait-quiet (λ two. omega (arith, five, two)) (λ three. omega (arith, five, three)),
-      ack-quiet (λ four. omega (arith, five, four)),
-    );
-    fault = λ six. (
-      wait-quiet (λ two. omega (arith, six, two)) (λ three. omega (arith, six, three)),
-      ack-quiet (λ four. omega (arith, six, four)),
-    );
-    idle = λ low. resend-quiet (λ six. omega (arith, low, six)) (λ seven. omega (arith, low, seven));
+    complete = λ five. finished-quiet (omega (arith, five));
+    fault = λ six. finished-quiet (omega (arith, six));
+    idle = λ low. resend-quiet (idle-resends _ low);
   }

@@ -21,7 +21,7 @@ use Rattle.host_history.specs.Hosts.{HostWorld, HostCall, ClientArrive, 
 use Rattle.host_history.specs.Meaning.{HostFits}
 use Rattle.host_history.specs.Refusal.{bufferLent}
 use Rattle.host_history.specs.HandedUp.{clientParts}
-use Rattle.host_history.specs.HostReads.{stateByte, HostTimer, WaitTimer, AckTimer, ResendTimer, markByte, ArmedWith, timerCall, ReadsDispatch, endsRun}
+use Rattle.host_history.specs.HostReads.{stateByte, InRunning, HasReply, NamesWait, NamesAck, NamesResend, HostTimer, WaitTimer, AckTimer, ResendTimer, markByte, ArmedWith, timerCall, ReadsDispatch, endsRun}
 use Rattle.host_history.specs.HostBooks.{StartsGiven, RepliesGiven, DispatchesRead, CompletionsRead}
 
 -- A start that is not marked idempotent is dispatched at most once.
@@ -39,7 +39,7 @@ pub record Numbers (h : HostWorld) : Type 0 where
   pub starts : (s : Started) → In s (h .books .starts) → s .number ≡ callNumber (s .ordinal)
   pub dispatches : (d : Dispatched) → In d (h .books .dispatches) → d .number ≡ callNumber (d .ordinal)
 
--- While a call runs, in RUNNING, 4, a host still reads all of what was last dispatched;
+-- While a call runs, in RUNNING, a host still reads all of what was last dispatched;
 pub record RunReads (h : HostWorld) : Type 0 where
   pub before : List Dispatched
   pub dispatch : Dispatched
@@ -48,7 +48,7 @@ pub record RunReads (h : HostWorld) : Type 0 where
   pub whole : WholeMessage (h .books .starts) dispatch
 
 unfoldable pub RunningWhole : HostWorld → Type 0
-RunningWhole h = stateByte (h .server) ≡ 4 → RunReads h
+RunningWhole h = InRunning (h .server) → RunReads h
 
 -- and no further call but reply or fault changes the server's bytes, its slot buffer or the dispatches.
 pub record ServerSame (before after : HostWorld) : Type 0 where
@@ -58,7 +58,7 @@ pub record ServerSame (before after : HostWorld) : Type 0 where
 
 unfoldable pub RunningAlone : HostWorld → Type 0
 RunningAlone h =
-    (call : HostCall) → HostFits call → stateByte (h .server) ≡ 4 → endsRun call ≡ false
+    (call : HostCall) → HostFits call → InRunning (h .server) → endsRun call ≡ false
     → ServerSame h (hostStep h call)
 
 -- A reply is given to a start that was dispatched.
@@ -79,7 +79,7 @@ OneReplyRead h = (clientParts (h .client) ≡ []) ⊎ ReplyLed h
 unfoldable pub CompletionsWhole : HostWorld → Type 0
 CompletionsWhole h = (c : Completed) → In c (h .books .completions) → WholeReply (h .books .replies) c
 
--- and in ACK_PENDING, 4, and COMPLETE, 5, a host reads the whole of one reply to the last start.
+-- and in ACK_PENDING and COMPLETE a host reads the whole of one reply to the last start.
 pub record ReplyRead (h : HostWorld) : Type 0 where
   pub reply : Replied
   pub given : In reply (h .books .replies)
@@ -87,7 +87,7 @@ pub record ReplyRead (h : HostWorld) : Type 0 where
   pub whole : clientParts (h .client) ≡ reply .message
 
 unfoldable pub AnsweredWhole : HostWorld → Type 0
-AnsweredWhole h = (stateByte (h .client) ≡ 4) ⊎ (stateByte (h .client) ≡ 5) → ReplyRead h
+AnsweredWhole h = HasReply (h .client) → ReplyRead h
 
 -- It only grows: while no further start is accepted, what was read before leads what is read later.
 unfoldable pub ReplyGrows : HostWorld → List HostCall → Type 0
@@ -142,12 +142,12 @@ WaitAfresh h =
     → RenewsWait (getD (p .bytes) 1 0) (h .client .machine) (hostStep h call .client .machine) → (ticket : ℕ)
     → ArmedWith h WaitTimer ticket → ArmedWith (hostStep h call) WaitTimer ticket → ⊥
 
--- A timer is armed only in the states that name it: WAIT in DISPATCHED and RECEIVE_FRAGS, ACK in ACK_PENDING, RESEND in
--- HELD. The server has no second timer. So nothing is armed in a finished call: COMPLETE, FAULT, IDLE.
+-- A timer is armed only in the states that name it, and the server has no second timer. So nothing is armed in a
+-- finished call: COMPLETE, 5, FAULT, 6, and IDLE, 0 to 2.
 pub record QuietBytes (h : HostWorld) : Type 0 where
-  pub wait : (stateByte (h .client) ≡ 2 → ⊥) → (stateByte (h .client) ≡ 3 → ⊥) → markByte h WaitTimer ≡ 0
-  pub ack : (stateByte (h .client) ≡ 4 → ⊥) → markByte h AckTimer ≡ 0
-  pub resend : (stateByte (h .server) ≡ 6 → ⊥) → (stateByte (h .server) ≡ 7 → ⊥) → markByte h ResendTimer ≡ 0
+  pub wait : (NamesWait (stateByte (h .client)) → ⊥) → markByte h WaitTimer ≡ 0
+  pub ack : (NamesAck (stateByte (h .client)) → ⊥) → markByte h AckTimer ≡ 0
+  pub resend : (NamesResend (stateByte (h .server)) → ⊥) → markByte h ResendTimer ≡ 0
   pub second : getD (h .server .machine) 65 0 ≡ 0
   pub complete : stateByte (h .client) ≡ 5 → (markByte h WaitTimer ≡ 0) × (markByte h AckTimer ≡ 0)
   pub fault : stateByte (h .client) ≡ 6 → (markByte h WaitTimer ≡ 0) × (markByte h AckTimer ≡ 0)

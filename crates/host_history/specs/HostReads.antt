@@ -2,6 +2,7 @@
 use Prim.Native.Nat.{ℕ}
 use mathlib.Core.Bool.{Bool, true, false}
 use mathlib.Core.List.{List}
+use mathlib.Core.Logic.{_⊎_}
 use mathlib.Core.Path.{_≡_}
 use lib.Dec.{eqb}
 use lib.ListN.{getD}
@@ -14,6 +15,23 @@ use Rattle.host_history.specs.HandedUp.{serverParts}
 -- server 0 to 2 are IDLE, 4 is RUNNING, 6 and 7 are HELD.
 abbrev pub stateByte : Side (List ℕ) → ℕ
 stateByte side = getD (side .machine) 0 0
+
+-- The server is in RUNNING; the client is in ACK_PENDING or COMPLETE, where the call has its reply.
+abbrev pub InRunning : Side (List ℕ) → Type 0
+InRunning server = stateByte server ≡ 4
+
+abbrev pub HasReply : Side (List ℕ) → Type 0
+HasReply client = (stateByte client ≡ 4) ⊎ (stateByte client ≡ 5)
+
+-- The states that name a timer: WAIT in DISPATCHED and RECEIVE_FRAGS, ACK in ACK_PENDING, RESEND in HELD.
+abbrev pub NamesWait : ℕ → Type 0
+NamesWait state = (state ≡ 2) ⊎ (state ≡ 3)
+
+abbrev pub NamesAck : ℕ → Type 0
+NamesAck state = state ≡ 4
+
+abbrev pub NamesResend : ℕ → Type 0
+NamesResend state = (state ≡ 6) ⊎ (state ≡ 7)
 
 -- The timers: the client's WAIT and ACK, the server's RESEND.
 pub data HostTimer : Type 0 where
