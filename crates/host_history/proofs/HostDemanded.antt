@@ -13,7 +13,7 @@ use Rattle.history.specs.World.{World}
 use Rattle.history.specs.Events.{Event}
 use Rattle.history.specs.Steps.{run}
 use Rattle.history.specs.Claim.{AtMostOnce, WholeMessages, WholeWhereRunning, RunsUndisturbed, RepliesToDispatches, replyHandedUp, OneReply, WholeReplies, hasReply, WholeWhereAnswered, OnlyGrows, timerIn, LateTimers, GoneTickets, ActsOnce, ArmedAfresh, Quiet, Numbered}
-use Rattle.host_history.specs.Hosts.{HostWorld, worldOf, HostCall, hostRun}
+use Rattle.host_history.specs.Hosts.{HostWorld, worldOf, HostCall, hostStep, hostRun}
 use Rattle.host_history.specs.Meaning.{meant, eventsOf, AllFit, FairHost, Keeps, FreshHost}
 use Rattle.host_history.specs.HostClaim.{HostClaim}
 use Rattle.host_history.specs.HandedUp.{clientParts}
@@ -173,3 +173,13 @@ pub host-demand : (h : HostWorld) → FreshHost h → (calls : List HostCall) �
     → HostDemand h calls
 host-demand h fresh calls small fair =
     host-demanded h (fresh-keeps h fresh) calls small (host-theorem h fresh calls small fair)
+
+-- It holds at every moment on the way.
+fair-before : (h : HostWorld) (before after : List HostCall) → FairHost h (before ++ after) → FairHost h before
+fair-before h [] after fair = tt
+fair-before h (call ∷ calls) after fair = (fair .0, fair-before (hostStep h call) calls after (fair .1))
+
+pub always-demanded : (h : HostWorld) → FreshHost h → (before after : List HostCall) → AllFit (before ++ after)
+    → FairHost h (before ++ after) → HostDemand h before
+always-demanded h fresh before after small fair =
+    host-demand h fresh before (fit-before before after small) (fair-before h before after fair)

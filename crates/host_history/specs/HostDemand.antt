@@ -105,7 +105,7 @@ pub record DoesNothing (h : HostWorld) (call : HostCall) : Type 0 where
   pub same : hostStep h call ≡ h
   pub buffer : exported h call .out ≡ bufferLent call
 
--- A late timer does nothing: one whose ticket the bytes do not have armed;
+-- A late timer does nothing: one whose ticket the bytes do not have armed, since the mark is 0 or the ticket another;
 unfoldable pub LateDoesNothing : HostWorld → Type 0
 LateDoesNothing h =
     (timer : HostTimer) (ticket : ℕ) (out : List ℕ) → HostFits (timerCall timer ticket out)
@@ -153,7 +153,8 @@ pub record QuietBytes (h : HostWorld) : Type 0 where
   pub fault : stateByte (h .client) ≡ 6 → (markByte h WaitTimer ≡ 0) × (markByte h AckTimer ≡ 0)
   pub idle : stateByte (h .server) ≤ 2 → markByte h ResendTimer ≡ 0
 
--- All of it, of what a host keeps after a list of calls.
+-- All of it, of what a host keeps after a list of calls. It holds after every beginning of the list too
+-- (`always-demanded`), so of each of the calls.
 pub record HostDemand (h : HostWorld) (calls : List HostCall) : Type 0 where
   -- A call that is not idempotent is dispatched at most once.
   pub once : DispatchedOnce (hostRun h calls)

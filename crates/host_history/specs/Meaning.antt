@@ -82,7 +82,8 @@ abbrev pub AllFit : List HostCall → Type 0
 AllFit [] = Unit {0}
 AllFit (call ∷ calls) = HostFits call × AllFit calls
 
--- The premises of document 01, of the calls that a host is answered 0 for.
+-- The premises of document 01, of the calls that a host is answered 0 for. They look at the arguments, the books and
+-- what was sent, and at no record.
 abbrev pub PremiseOf : World → List Event → Type 0
 PremiseOf w [] = Unit {0}
 PremiseOf w (e ∷ es) = Premise w e
