@@ -100,7 +100,7 @@ module _ (side : Side (List ℕ)) (size : length (side .machine) ≡ 272) (octet
       (λ (e : startSized (side .machine) idempotent object interface ≡ true).
       given-leaves ClientCanonical _ _ _ _ (side .machine)
       (client-next (Start (callOf (eqb idempotent 1) object interface version operation) n message)
-      (call-fits idempotent object interface version operation n message small e, small .5, small .6)))
+      (call-fits idempotent object interface version operation n message small e, small .5)))
   client-answered (ClientTransmit message out) small =
       or-refuses ClientCanonical (side .machine) [] out (sized (side .machine)) _
       (λ (e : sized (side .machine) ≡ true).

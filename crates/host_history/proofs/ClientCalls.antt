@@ -148,7 +148,7 @@ module _ (side : Side (List ℕ)) (canonical : Canonical (side .machine)) where
     start-follows s =
         subst (λ (call : Call). ClientFollows side startCall (startExport call) startEvent) (sym (same-call s))
         (record {
-          shows = given-shown side canonical startEvent [] (call-fits s, small .5, small .6);
+          shows = given-shown side canonical startEvent [] (call-fits s, small .5);
           starts = λ before t. refl;
         })
 

@@ -142,6 +142,23 @@ server-begins lent activity boot tickets whole uuid booted small = record {
   left = refl;
 }
 
+-- Those bytes stand for the records that client_record::fresh and server_record::fresh give.
+pub client-begun : (lent activity : List ℕ) (tickets : ℕ) → length lent ≡ 272 → Uuid activity
+    → tickets < 18446744073709551616
+    → clientIn (clientFresh lent activity tickets .bytes) ≡ clientRecord activity tickets
+unfolding client-begins
+client-begun lent activity tickets whole uuid small =
+    fresh-client-lies _ (client-begins lent activity tickets whole uuid small) .same
+    ∙ ap (λ (u : List ℕ). clientRecord u tickets) (uuid-given activity (eq-eqb _ _ (uuid .size)))
+
+pub server-begun : (lent activity : List ℕ) (boot tickets : ℕ) → length lent ≡ 272 → Uuid activity → boot < 4294967296
+    → tickets < 18446744073709551616
+    → serverIn (serverFresh lent activity boot tickets .bytes) ≡ serverRecord activity boot tickets
+unfolding server-begins
+server-begun lent activity boot tickets whole uuid booted small =
+    fresh-server-lies _ (server-begins lent activity boot tickets whole uuid booted small) .same
+    ∙ ap (λ (u : List ℕ). serverRecord u boot tickets) (uuid-given activity (eq-eqb _ _ (uuid .size)))
+
 -- A host that begins keeps canonical bytes, and its world is a fresh one.
 module _ (h : HostWorld) (f : FreshHost h) where
   pub fresh-keeps : Keeps h

@@ -7,6 +7,7 @@ use Rattle.history.specs.Events.{Event}
 use Rattle.history.specs.Steps.{answerTo, step, run}
 use Rattle.history.specs.Fairness.{Fair}
 use Rattle.history.specs.Claim.{AtMostOnce, WholeMessages, WholeReplies}
+use Rattle.history.proofs.Histories.{fair-append}
 use Rattle.history.proofs.Theorem.{theorem}
 use Rattle.morphelai.specs.Export.{Export}
 use Rattle.host_history.specs.Results.{answerIn}
@@ -40,6 +41,24 @@ fair-host h (call ∷ calls) keeps small fair =
     (fair-call (worldOf h) (exported h call) (meant call) (told h call keeps (small .0)) (fair .0))
     (subst (λ (w : World). Fair w (eventsOf calls)) (same-step h call keeps (small .0))
     (fair-host (hostStep h call) calls (keeps-step h call keeps (small .0)) (small .1) (fair .1)))
+
+-- And the other way: premises that the events keep are kept at the door.
+premise-kept : (w : World) (x : Export) (es : List Event) → Tells w x es → Fair w es → answerIn (x .result) ≡ Done
+    → PremiseOf w es
+premise-kept w x [] tells fair done = tt
+premise-kept w x (e ∷ []) tells fair done = fair .0 (sym (tells .answer) ∙ done)
+premise-kept w x (e ∷ (f ∷ es)) never fair done = absurd never
+
+pub host-fair : (h : HostWorld) (calls : List HostCall) → Keeps h → AllFit calls
+    → Fair (worldOf h) (eventsOf calls) → FairHost h calls
+unfolding eventsOf
+host-fair h [] keeps small fair = tt
+host-fair h (call ∷ calls) keeps small fair =
+    let split = fair-append (worldOf h) (meant call) (eventsOf calls) fair in (
+      premise-kept (worldOf h) (exported h call) (meant call) (told h call keeps (small .0)) (split .0),
+      host-fair (hostStep h call) calls (keeps-step h call keeps (small .0)) (small .1)
+          (subst (λ (w : World). Fair w (eventsOf calls)) (sym (same-step h call keeps (small .0))) (split .1)),
+    )
 
 -- Every history of a host that calls exports only is one of the theorem's world, and the claim holds of it: where its
 -- events keep the theorem's premises,

@@ -21,3 +21,10 @@ pub mod Unreadable
 pub mod AnsweredBytes
 pub mod HeaderTold
 pub mod OthersRefused
+pub mod Notices
+pub mod BooksGiven
+pub mod BooksRead
+pub mod TimersRead
+pub mod WaitRead
+pub mod RunsRead
+pub mod HostDemanded

@@ -211,6 +211,6 @@ server-turn-fits side (ServerTransmit message out) fits given =
 server-turn-fits side (ServerTimer ticket out) fits given =
     timer-plan-fits (side .machine) fits (timerGround (side .machine) ticket (length out))
 server-turn-fits side (ReplyEvent n message) fits given =
-    reply-plan-fits (side .machine) fits (replyGround (side .machine) n) n (given .0)
+    reply-plan-fits (side .machine) fits (replyGround (side .machine) n) n given
 server-turn-fits side (Fault status out) fits given =
     fault-plan-fits (side .machine) fits (faultGround (side .machine) (length out)) status (given .0)

@@ -1,5 +1,6 @@
 -- Hosts that call exports only, the client's and the server's taken together: what they keep, the calls that they
--- make, and what they keep after each.
+-- make, and what they keep after each. They call morphelai_client_fresh and morphelai_server_fresh only once, at the
+-- beginning (`FreshHost`); so neither is among the calls.
 use Prim.Native.Nat.{ℕ}
 use mathlib.Core.List.{List, [], _∷_}
 use lib.Dec.{eqb}

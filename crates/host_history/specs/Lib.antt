@@ -6,3 +6,6 @@ pub mod Meaning
 pub mod Refusal
 pub mod HostClaim
 pub mod HandedUp
+pub mod HostReads
+pub mod HostBooks
+pub mod HostDemand

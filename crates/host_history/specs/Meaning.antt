@@ -57,11 +57,12 @@ unfoldable pub eventsOf : List HostCall → List Event
 eventsOf [] = []
 eventsOf (call ∷ calls) = meant call ++ eventsOf calls
 
--- What C's types say of the arguments: bytes, and numbers of so many bits.
+-- What C's types say of the arguments: bytes, and numbers of so many bits. The message that a start or a reply is for
+-- is no argument.
 abbrev pub ClientCallFits : ClientCall → Type 0
 ClientCallFits (ClientStart idempotent object interface version operation n message) =
     (idempotent < 256) × Octets object × Octets interface × (version < 4294967296) × (operation < 65536)
-    × (n < 4294967296) × Octets message
+    × (n < 4294967296)
 ClientCallFits (ClientTransmit message out) = Octets message × Octets out
 ClientCallFits (ClientArrive p lent out) = Octets (p .bytes) × LentFits lent × Octets out
 ClientCallFits (ClientTimer kind ticket out) = (kind < 256) × (ticket < 18446744073709551616) × Octets out
@@ -70,7 +71,7 @@ abbrev pub ServerCallFits : ServerCall → Type 0
 ServerCallFits (ServerArrive p lent out) = Octets (p .bytes) × LentFits lent × Octets out
 ServerCallFits (ServerTransmit message out) = Octets message × Octets out
 ServerCallFits (ServerTimer kind ticket out) = (kind < 256) × (ticket < 18446744073709551616) × Octets out
-ServerCallFits (ServerReply n message) = (n < 4294967296) × Octets message
+ServerCallFits (ServerReply n message) = n < 4294967296
 ServerCallFits (ServerFault status out) = (status < 4294967296) × Octets out
 
 abbrev pub HostFits : HostCall → Type 0
@@ -81,7 +82,8 @@ abbrev pub AllFit : List HostCall → Type 0
 AllFit [] = Unit {0}
 AllFit (call ∷ calls) = HostFits call × AllFit calls
 
--- The premises of document 01, of the calls that a host is answered 0 for.
+-- The premises of document 01, of the calls that a host is answered 0 for. They look at the arguments, the books and
+-- what was sent, and at no record.
 abbrev pub PremiseOf : World → List Event → Type 0
 PremiseOf w [] = Unit {0}
 PremiseOf w (e ∷ es) = Premise w e

@@ -1,0 +1,188 @@
+-- Which notices a side gives: the server alone tells "dispatch", by a request that has the number that its record then
+-- has, and the client alone "last".
+use Prim.Native.Nat.{ℕ}
+use mathlib.Core.Path.{_≡_, refl, sym, subst}
+use Rattle.answers.specs.declared.Answer.{Answer}
+use Rattle.answers.specs.declared.Ground.{Ground}
+use Rattle.answers.specs.declared.Ground.the-variants.{Pass, Refuse}
+use Rattle.calls.specs.declared.Call.{Call}
+use Rattle.calls.specs.declared.Notice.{Notice}
+use Rattle.calls.specs.declared.Notice.the-variants.{Nothing as Untold, Last, Count, Fault as FaultNotice, Reject as RejectNotice, Cause, Dispatch}
+use Rattle.flags.specs.Flags.{idempotent, hasFlag}
+use Rattle.pdu.specs.declared.Header.{Header}
+use Rattle.record_bytes.proofs.Keeping.{choice-keeps}
+use Rattle.client_record.specs.declared.Client.{Client}
+use Rattle.client_record.specs.declared.TimerKind.{TimerKind}
+use Rattle.client_record.specs.declared.TimerKind.the-variants.{Wait, Ack}
+use Rattle.client_table.specs.declared.Event.{Event}
+use Rattle.client_table.specs.declared.Event.the-variants.{Response, Fault as FaultRow, Reject, Working as WorkingRow, Nocall as NocallRow, Fack, Foreign}
+use Rattle.client_table.specs.Events.{eventOf as clientEventOf}
+use Rattle.client_steps.specs.declared.Plan.{Plan as ClientPlan}
+use Rattle.client_steps.specs.Plan.{refused as clientRefused, accepted as clientAccepted, failed}
+use Rattle.client_steps.specs.Rows.{startPlan, transmitPlan as clientTransmitPlan, waitPlan, ackPlan as clientAckPlan, timerRow as clientTimerRow, timerPlan as clientTimerPlan}
+use Rattle.client_arrivals.specs.Rows.{putNotice as clientPutNotice, putPlan as clientPutPlan, responsePlan, workingPlan as clientWorking, nocallPlan as clientNocall, fackPlan as clientFackPlan}
+use Rattle.client_arrivals.specs.Table.{arrivalRow as clientRow, arrivalPlan as clientArrivalPlan}
+use Rattle.client.specs.Machine.{outcomeOf as clientOutcome, starting, sending as clientSending, transmitting as clientTransmitting, timing as clientTiming, planOf as clientPlanOf, acted as clientActed, arriving as clientArriving}
+use Rattle.server_record.specs.declared.Reply.{Reply as HeldReply}
+use Rattle.server_record.specs.declared.Reply.the-variants.{Data, Fault as FaultReply}
+use Rattle.server_record.specs.declared.State.{State}
+use Rattle.server_record.specs.declared.State.the-variants.{Idle as IdleState, Collect, Running, Replying, Held}
+use Rattle.server_record.specs.declared.Server.{Server}
+use Rattle.server_record.specs.Record.{unarmed}
+use Rattle.server_record.specs.States.{isFresh}
+use Rattle.server_rows.specs.declared.Row.{Row}
+use Rattle.server_rows.specs.declared.Row.the-variants.{Old, Missing, Repeat, Begin, Put, Working, Nocall, Replay, Acknowledge, Finish}
+use Rattle.server_rows.specs.Events.{eventOf}
+use Rattle.server_rows.specs.Rows.{orderFor, rowFor}
+use Rattle.server_rows.proofs.TableLaws.{equal-told, put-told}
+use Rattle.server_steps.specs.declared.Plan.{Plan}
+use Rattle.server_steps.specs.Plan.{refused, accepted}
+use Rattle.server_steps.specs.Rows.{replyPlan, transmitPlan, faultPlan, replayHeld, replayPlan, resendHeld, resendRow, timerRow, timerPlan}
+use Rattle.server_arrivals.specs.Rows.{begun, withIncoming, putNotice, putPlan, requestPlan, beginPlan, workingPlan, nocallPlan, fackPlan, ackPlan}
+use Rattle.server_arrivals.specs.Table.{arrivalRow, arrivalPlan}
+use Rattle.server.specs.Machine.{outcomeOf, replying, sending, transmitting, timing, faulting, planOf, acted, arriving}
+use Rattle.history.specs.World.{Side, World}
+use Rattle.history.specs.Events.{ClientEvent, ServerEvent, Start, ClientTransmit, ClientArrive, ClientTimer, ServerArrive, ServerTransmit, ServerTimer, Reply, Fault}
+use Rattle.history.specs.Steps.{clientTurn, serverTurn, subjectOf}
+
+-- The client never tells "dispatch".
+abbrev pub ClientTells : Notice → Type 0
+ClientTells Untold = Unit {0}
+ClientTells Last = Unit {0}
+ClientTells (Count n) = Unit {0}
+ClientTells (FaultNotice status) = Unit {0}
+ClientTells (RejectNotice status) = Unit {0}
+ClientTells (Cause cause) = Unit {0}
+ClientTells Dispatch = ⊥
+
+module _ (c : Client) where
+  start-tells : (g : Ground) (call : Call) (n : ℕ) → ClientTells (startPlan g c call n .notice)
+  unfolding startPlan clientRefused clientAccepted
+  start-tells Pass call n = tt
+  start-tells (Refuse a) call n = tt
+
+  transmit-tells : (g : Ground) → ClientTells (clientTransmitPlan g c .notice)
+  unfolding clientTransmitPlan clientRefused clientAccepted
+  transmit-tells Pass = tt
+  transmit-tells (Refuse a) = tt
+
+  timer-tells : (g : Ground) (kind : TimerKind) → ClientTells (clientTimerPlan g kind c .notice)
+  unfolding clientTimerPlan clientTimerRow waitPlan clientAckPlan clientRefused clientAccepted failed
+  timer-tells (Refuse a) kind = tt
+  timer-tells Pass Wait = choice-keeps (λ (plan : ClientPlan). ClientTells (plan .notice)) _ _ _ tt tt
+  timer-tells Pass Ack = tt
+
+  row-tells : (event : Event) (h : Header) (n status : ℕ) → ClientTells (clientRow event c h n status .notice)
+  unfolding clientRow responsePlan clientPutPlan clientPutNotice clientWorking clientNocall clientFackPlan
+      clientRefused clientAccepted failed
+  row-tells Response h n status = choice-keeps ClientTells _ Last (Count _) tt tt
+  row-tells FaultRow h n status = tt
+  row-tells Reject h n status = tt
+  row-tells WorkingRow h n status = tt
+  row-tells NocallRow h n status = choice-keeps (λ (plan : ClientPlan). ClientTells (plan .notice)) _ _ _ tt tt
+  row-tells Fack h n status = tt
+  row-tells Foreign h n status = tt
+
+  arrival-tells : (g : Ground) (h : Header) (n status : ℕ) → ClientTells (clientArrivalPlan g c h n status .notice)
+  unfolding clientArrivalPlan clientRefused
+  arrival-tells (Refuse a) h n status = tt
+  arrival-tells Pass h n status = row-tells (clientEventOf (h .kind)) h n status
+
+pub client-tells : (c : Side Client) (e : ClientEvent) → ClientTells (clientTurn c e .notice)
+unfolding starting clientTransmitting clientTiming clientArriving clientActed clientPlanOf clientSending clientOutcome
+client-tells c (Start call n message) = start-tells (c .machine) _ call n
+client-tells c (ClientTransmit message out) = transmit-tells (c .machine) _
+client-tells c (ClientArrive p lent out) = arrival-tells (c .machine) _ _ _ _
+client-tells c (ClientTimer kind ticket out) = timer-tells (c .machine) _ kind
+
+-- The server tells nothing or, with a record of that number, "dispatch".
+abbrev pub ServerTells : ℕ → ℕ → Notice → Type 0
+ServerTells asked kept Untold = Unit {0}
+ServerTells asked kept Last = ⊥
+ServerTells asked kept (Count n) = ⊥
+ServerTells asked kept (FaultNotice status) = ⊥
+ServerTells asked kept (RejectNotice status) = ⊥
+ServerTells asked kept (Cause cause) = ⊥
+ServerTells asked kept Dispatch = kept ≡ asked
+
+abbrev PlanTells : ℕ → Plan → Type 0
+PlanTells asked plan = ServerTells asked (plan .server .number) (plan .notice)
+
+module _ (asked : ℕ) (s : Server) where
+  reply-tells : (g : Ground) (n : ℕ) → PlanTells asked (replyPlan g s n)
+  unfolding replyPlan refused accepted
+  reply-tells Pass n = tt
+  reply-tells (Refuse a) n = tt
+
+  sends-tells : (g : Ground) → PlanTells asked (transmitPlan g s)
+  unfolding transmitPlan refused accepted
+  sends-tells Pass = tt
+  sends-tells (Refuse a) = tt
+
+  fault-tells : (g : Ground) (status : ℕ) → PlanTells asked (faultPlan g s status)
+  unfolding faultPlan refused accepted
+  fault-tells Pass status = tt
+  fault-tells (Refuse a) status = tt
+
+  resend-tells : (reply : HeldReply) → PlanTells asked (resendRow s reply)
+  unfolding resendRow resendHeld accepted
+  resend-tells Data = choice-keeps (PlanTells asked) _ _ _ tt tt
+  resend-tells (FaultReply status) = choice-keeps (PlanTells asked) _ _ _ tt tt
+
+  resends-tells : (g : Ground) (state : State) → s .state ≡ state → PlanTells asked (timerPlan g s)
+  unfolding timerPlan timerRow refused
+  resends-tells (Refuse a) state e = tt
+  resends-tells Pass state e = subst (λ (x : State). PlanTells asked (timerRow x s)) (sym e) (by-state state)
+    where
+      by-state : (x : State) → PlanTells asked (timerRow x s)
+      by-state (IdleState idle) = unfold timerRow refused in tt
+      by-state Collect = unfold timerRow refused in tt
+      by-state Running = unfold timerRow refused in tt
+      by-state Replying = unfold timerRow refused in tt
+      by-state (Held reply) = unfold timerRow in resend-tells reply
+
+  replay-tells : (state : State) → PlanTells asked (replayPlan state s)
+  unfolding replayPlan replayHeld refused accepted
+  replay-tells (IdleState idle) = tt
+  replay-tells Collect = tt
+  replay-tells Running = tt
+  replay-tells Replying = tt
+  replay-tells (Held Data) = tt
+  replay-tells (Held (FaultReply status)) = tt
+
+module _ (s : Server) (h : Header) (n : ℕ) where
+  put-number : rowFor s h ≡ Put → s .number ≡ h .number
+  unfolding rowFor orderFor
+  put-number e =
+      let told =
+      put-told (eventOf (h .kind)) (orderFor s h) (s .state) (hasFlag idempotent (h .flags1)) (s .call .idempotent) e in
+      equal-told (isFresh (s .state)) (s .number) (h .number) (told .1) .1
+
+  by-row : (row : Row) → rowFor s h ≡ row → PlanTells (h .number) (arrivalRow row s h n)
+  unfolding arrivalRow beginPlan requestPlan putPlan putNotice withIncoming unarmed begun workingPlan nocallPlan
+      fackPlan ackPlan refused accepted
+  by-row Old e = tt
+  by-row Missing e = tt
+  by-row Repeat e = tt
+  by-row Begin e = choice-keeps (ServerTells (h .number) (h .number)) _ Dispatch Untold refl tt
+  by-row Put e = choice-keeps (ServerTells (h .number) (s .number)) _ Dispatch Untold (put-number e) tt
+  by-row Working e = tt
+  by-row Nocall e = tt
+  by-row Replay e = replay-tells (h .number) s (s .state)
+  by-row Acknowledge e = tt
+  by-row Finish e = tt
+
+  arrives-tells : (g : Ground) → PlanTells (h .number) (arrivalPlan g s h n)
+  unfolding arrivalPlan refused
+  arrives-tells (Refuse a) = tt
+  arrives-tells Pass = by-row (rowFor s h) refl
+
+pub server-tells : (w : World) (e : ServerEvent) (a : Answer)
+    → ServerTells (subjectOf w e a .number) (serverTurn (w .server) e .machine .number)
+    (serverTurn (w .server) e .notice)
+unfolding replying transmitting timing faulting arriving acted planOf sending outcomeOf
+server-tells w (ServerArrive p lent out) a = arrives-tells (w .server .machine) _ _ _
+server-tells w (ServerTransmit message out) a = sends-tells _ (w .server .machine) _
+server-tells w (ServerTimer ticket out) a = resends-tells _ (w .server .machine) _ (w .server .machine .state) refl
+server-tells w (Reply n message) a = reply-tells _ (w .server .machine) _ n
+server-tells w (Fault status out) a = fault-tells _ (w .server .machine) _ status

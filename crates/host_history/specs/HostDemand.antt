@@ -1,0 +1,194 @@
+-- Demand 3, of a host that calls exports only, in its own terms: the bytes that it keeps, what exports give back, and
+-- the parts that it reads.
+use Prim.Native.Nat.{ℕ, _≤_}
+use mathlib.Core.Bool.{true, false}
+use mathlib.Core.List.{List, [], _++_}
+use mathlib.Core.Logic.{_⊎_}
+use mathlib.Core.Path.{_≡_}
+use lib.ListN.{getD, drop}
+use Rattle.words.specs.Number.{number as numberAt}
+use Rattle.answers.specs.declared.Answer.the-variants.{Done}
+use Rattle.calls.specs.declared.Notice.the-variants.{Nothing as Untold}
+use Rattle.calls.specs.declared.Sent.the-variants.{Nothing}
+use Rattle.fragments.specs.Joined.{Leads}
+use Rattle.history.specs.Lists.{In, andThen}
+use Rattle.history.specs.World.{callNumber, Started, Dispatched, Replied, Completed, SentPdu}
+use Rattle.history.specs.Events.{Lent}
+use Rattle.history.specs.Steps.{lastStart}
+use Rattle.history.specs.Claim.{times, DispatchOf, WholeMessage, WholeReply}
+use Rattle.host_history.specs.Results.{answerIn, noticeIn, sentIn}
+use Rattle.host_history.specs.Hosts.{HostWorld, HostCall, ClientArrive, ToClient, exported, hostStep, hostRun}
+use Rattle.host_history.specs.Meaning.{HostFits}
+use Rattle.host_history.specs.Refusal.{bufferLent}
+use Rattle.host_history.specs.HandedUp.{clientParts}
+use Rattle.host_history.specs.HostReads.{stateByte, InRunning, HasReply, NamesWait, NamesAck, NamesResend, HostTimer, WaitTimer, AckTimer, ResendTimer, markByte, ArmedWith, timerCall, ReadsDispatch, endsRun}
+use Rattle.host_history.specs.HostBooks.{StartsGiven, RepliesGiven, DispatchesRead, CompletionsRead}
+
+-- A start that is not marked idempotent is dispatched at most once.
+unfoldable pub DispatchedOnce : HostWorld → Type 0
+DispatchedOnce h =
+    (s : Started) → In s (h .books .starts) → s .call .idempotent ≡ false
+    → times (s .ordinal) (h .books .dispatches) ≤ 1
+
+-- Each dispatch has the whole message of its one start, and its call data.
+unfoldable pub DispatchesWhole : HostWorld → Type 0
+DispatchesWhole h = (d : Dispatched) → In d (h .books .dispatches) → WholeMessage (h .books .starts) d
+
+-- Both have the call number of their start, so a number names its start.
+pub record Numbers (h : HostWorld) : Type 0 where
+  pub starts : (s : Started) → In s (h .books .starts) → s .number ≡ callNumber (s .ordinal)
+  pub dispatches : (d : Dispatched) → In d (h .books .dispatches) → d .number ≡ callNumber (d .ordinal)
+
+-- While a call runs, in RUNNING, a host still reads all of what was last dispatched;
+pub record RunReads (h : HostWorld) : Type 0 where
+  pub before : List Dispatched
+  pub dispatch : Dispatched
+  pub last : h .books .dispatches ≡ andThen before dispatch
+  pub read : ReadsDispatch (h .server) dispatch
+  pub whole : WholeMessage (h .books .starts) dispatch
+
+unfoldable pub RunningWhole : HostWorld → Type 0
+RunningWhole h = InRunning (h .server) → RunReads h
+
+-- and no further call but reply or fault changes the server's bytes, its slot buffer or the dispatches.
+pub record ServerSame (before after : HostWorld) : Type 0 where
+  pub bytes : after .server .machine ≡ before .server .machine
+  pub slots : after .server .slots ≡ before .server .slots
+  pub dispatches : after .books .dispatches ≡ before .books .dispatches
+
+unfoldable pub RunningAlone : HostWorld → Type 0
+RunningAlone h =
+    (call : HostCall) → HostFits call → InRunning (h .server) → endsRun call ≡ false
+    → ServerSame h (hostStep h call)
+
+-- A reply is given to a start that was dispatched.
+unfoldable pub RepliesDispatched : HostWorld → Type 0
+RepliesDispatched h = (r : Replied) → In r (h .books .replies) → DispatchOf (h .books .dispatches) (r .ordinal)
+
+-- What a host reads of the client is nothing, or leads one reply to the last start.
+pub record ReplyLed (h : HostWorld) : Type 0 where
+  pub reply : Replied
+  pub given : In reply (h .books .replies)
+  pub last : reply .ordinal ≡ lastStart (h .books .starts)
+  pub leads : Leads (clientParts (h .client)) (reply .message)
+
+unfoldable pub OneReplyRead : HostWorld → Type 0
+OneReplyRead h = (clientParts (h .client) ≡ []) ⊎ ReplyLed h
+
+-- A call told complete has the whole of one reply to its start;
+unfoldable pub CompletionsWhole : HostWorld → Type 0
+CompletionsWhole h = (c : Completed) → In c (h .books .completions) → WholeReply (h .books .replies) c
+
+-- and in ACK_PENDING and COMPLETE a host reads the whole of one reply to the last start.
+pub record ReplyRead (h : HostWorld) : Type 0 where
+  pub reply : Replied
+  pub given : In reply (h .books .replies)
+  pub last : reply .ordinal ≡ lastStart (h .books .starts)
+  pub whole : clientParts (h .client) ≡ reply .message
+
+unfoldable pub AnsweredWhole : HostWorld → Type 0
+AnsweredWhole h = HasReply (h .client) → ReplyRead h
+
+-- It only grows: while no further start is accepted, what was read before leads what is read later.
+unfoldable pub ReplyGrows : HostWorld → List HostCall → Type 0
+ReplyGrows h calls =
+    (before after : List HostCall) → calls ≡ before ++ after
+    → hostRun h calls .books .starts ≡ hostRun h before .books .starts
+    → Leads (clientParts (hostRun h before .client)) (clientParts (hostRun h calls .client))
+
+-- A call that does nothing: it is not answered 0, tells nothing, sends nothing, and all that the host keeps and lent
+-- is as it was.
+pub record DoesNothing (h : HostWorld) (call : HostCall) : Type 0 where
+  pub refused : answerIn (exported h call .result) ≡ Done → ⊥
+  pub untold : noticeIn (exported h call .result) ≡ Untold
+  pub unsent : sentIn (exported h call .result) ≡ Nothing
+  pub same : hostStep h call ≡ h
+  pub buffer : exported h call .out ≡ bufferLent call
+
+-- A late timer does nothing: one whose ticket the bytes do not have armed, since the mark is 0 or the ticket another;
+unfoldable pub LateDoesNothing : HostWorld → Type 0
+LateDoesNothing h =
+    (timer : HostTimer) (ticket : ℕ) (out : List ℕ) → HostFits (timerCall timer ticket out)
+    → (ArmedWith h timer ticket → ⊥) → DoesNothing h (timerCall timer ticket out)
+
+-- a ticket that was armed and is no longer never is again;
+unfoldable pub TicketsGone : HostWorld → List HostCall → Type 0
+TicketsGone h calls =
+    (before between after : List HostCall) → calls ≡ before ++ (between ++ after) → (timer : HostTimer) (ticket : ℕ)
+    → ArmedWith (hostRun h before) timer ticket → (ArmedWith (hostRun h (before ++ between)) timer ticket → ⊥)
+    → ArmedWith (hostRun h calls) timer ticket → ⊥
+
+-- and a ticket that acts is no longer armed.
+unfoldable pub TicketsActOnce : HostWorld → Type 0
+TicketsActOnce h =
+    (timer : HostTimer) (ticket : ℕ) (out : List ℕ) → HostFits (timerCall timer ticket out)
+    → answerIn (exported h (timerCall timer ticket out) .result) ≡ Done
+    → ArmedWith (hostStep h (timerCall timer ticket out)) timer ticket → ⊥
+
+-- Nor is WAIT, with the ticket that it had, after an arriving working, whose byte 1 is 4, that is answered 0, or after
+-- such a response, 2, that changed what is held: the known last at 10, or the slots from 144 on.
+pub record HeldSame (before after : List ℕ) : Type 0 where
+  pub last : numberAt 2 true after 10 ≡ numberAt 2 true before 10
+  pub slots : drop 144 after ≡ drop 144 before
+
+abbrev pub RenewsWait : ℕ → List ℕ → List ℕ → Type 0
+RenewsWait kind before after = (kind ≡ 4) ⊎ ((kind ≡ 2) × (HeldSame before after → ⊥))
+
+unfoldable pub WaitAfresh : HostWorld → Type 0
+WaitAfresh h =
+    (p : SentPdu) (lent : Lent) (out : List ℕ)
+    → let call = ToClient (ClientArrive p lent out) in
+    HostFits call → answerIn (exported h call .result) ≡ Done
+    → RenewsWait (getD (p .bytes) 1 0) (h .client .machine) (hostStep h call .client .machine) → (ticket : ℕ)
+    → ArmedWith h WaitTimer ticket → ArmedWith (hostStep h call) WaitTimer ticket → ⊥
+
+-- A timer is armed only in the states that name it, and the server has no second timer. So nothing is armed in a
+-- finished call: COMPLETE, 5, FAULT, 6, and IDLE, 0 to 2.
+pub record QuietBytes (h : HostWorld) : Type 0 where
+  pub wait : (NamesWait (stateByte (h .client)) → ⊥) → markByte h WaitTimer ≡ 0
+  pub ack : (NamesAck (stateByte (h .client)) → ⊥) → markByte h AckTimer ≡ 0
+  pub resend : (NamesResend (stateByte (h .server)) → ⊥) → markByte h ResendTimer ≡ 0
+  pub second : getD (h .server .machine) 65 0 ≡ 0
+  pub complete : stateByte (h .client) ≡ 5 → (markByte h WaitTimer ≡ 0) × (markByte h AckTimer ≡ 0)
+  pub fault : stateByte (h .client) ≡ 6 → (markByte h WaitTimer ≡ 0) × (markByte h AckTimer ≡ 0)
+  pub idle : stateByte (h .server) ≤ 2 → markByte h ResendTimer ≡ 0
+
+-- All of it, of what a host keeps after a list of calls. It holds after every beginning of the list too
+-- (`always-demanded`), so of each of the calls.
+pub record HostDemand (h : HostWorld) (calls : List HostCall) : Type 0 where
+  -- A call that is not idempotent is dispatched at most once.
+  pub once : DispatchedOnce (hostRun h calls)
+  -- A start or a reply is on the books where the host gave it and it was answered 0; a dispatch, and a call told
+  -- complete, where the host is told so, and it is what the host then reads.
+  pub starts : StartsGiven (hostRun h calls)
+  pub replies : RepliesGiven (hostRun h calls)
+  pub dispatches : DispatchesRead (hostRun h calls)
+  pub completions : CompletionsRead (hostRun h calls)
+  -- A dispatch gets a whole message and its call data,
+  pub whole : DispatchesWhole (hostRun h calls)
+  -- under the number of its start,
+  pub numbers : Numbers (hostRun h calls)
+  -- and the host reads all of it still while the call runs.
+  pub running : RunningWhole (hostRun h calls)
+  -- Nothing but its reply or fault touches a call that runs.
+  pub alone : RunningAlone (hostRun h calls)
+  -- Replies are given to what was dispatched.
+  pub replied : RepliesDispatched (hostRun h calls)
+  -- One of them is read,
+  pub reply : OneReplyRead (hostRun h calls)
+  -- whole when the host is told "last",
+  pub complete : CompletionsWhole (hostRun h calls)
+  -- and whole from then on.
+  pub answered : AnsweredWhole (hostRun h calls)
+  -- What is read only grows.
+  pub grows : ReplyGrows h calls
+  -- A late timer does nothing.
+  pub late : LateDoesNothing (hostRun h calls)
+  -- A ticket that is no longer armed is late for good,
+  pub gone : TicketsGone h calls
+  -- and a ticket that has acted is no longer armed,
+  pub acts : TicketsActOnce (hostRun h calls)
+  -- nor is WAIT's after a working, or after a response that was put.
+  pub afresh : WaitAfresh (hostRun h calls)
+  -- No timer is armed where no state names it, and so none in a finished call.
+  pub quiet : QuietBytes (hostRun h calls)

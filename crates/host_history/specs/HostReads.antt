@@ -1,0 +1,81 @@
+-- What a host reads in the bytes of a record: the state, the timers that are armed, and the call that is dispatched.
+use Prim.Native.Nat.{ℕ}
+use mathlib.Core.Bool.{Bool, true, false}
+use mathlib.Core.List.{List}
+use mathlib.Core.Logic.{_⊎_}
+use mathlib.Core.Path.{_≡_}
+use lib.Dec.{eqb}
+use lib.ListN.{getD}
+use Rattle.words.specs.Number.{part, number as numberAt}
+use Rattle.history.specs.World.{Dispatched, Side}
+use Rattle.host_history.specs.Hosts.{HostWorld, ClientTimer, HostCall, ServerArrive, ServerTransmit, ServerTimer, ServerReply, ServerFault, ToClient, ToServer}
+use Rattle.host_history.specs.HandedUp.{serverParts}
+
+-- The state stands at 0. Of the client 2 is DISPATCHED, 3 RECEIVE_FRAGS, 4 ACK_PENDING, 5 COMPLETE, 6 FAULT; of the
+-- server 0 to 2 are IDLE, 4 is RUNNING, 6 and 7 are HELD.
+abbrev pub stateByte : Side (List ℕ) → ℕ
+stateByte side = getD (side .machine) 0 0
+
+-- The server is in RUNNING; the client is in ACK_PENDING or COMPLETE, where the call has its reply.
+abbrev pub InRunning : Side (List ℕ) → Type 0
+InRunning server = stateByte server ≡ 4
+
+abbrev pub HasReply : Side (List ℕ) → Type 0
+HasReply client = (stateByte client ≡ 4) ⊎ (stateByte client ≡ 5)
+
+-- The states that name a timer: WAIT in DISPATCHED and RECEIVE_FRAGS, ACK in ACK_PENDING, RESEND in HELD.
+abbrev pub NamesWait : ℕ → Type 0
+NamesWait state = (state ≡ 2) ⊎ (state ≡ 3)
+
+abbrev pub NamesAck : ℕ → Type 0
+NamesAck state = state ≡ 4
+
+abbrev pub NamesResend : ℕ → Type 0
+NamesResend state = (state ≡ 6) ⊎ (state ≡ 7)
+
+-- The timers: the client's WAIT and ACK, the server's RESEND.
+pub data HostTimer : Type 0 where
+  WaitTimer : HostTimer
+  AckTimer : HostTimer
+  ResendTimer : HostTimer
+
+-- Whether a timer is armed stands at 64, of ACK at 65; its ticket of eight bytes at 40, of ACK at 48.
+unfoldable pub markByte : HostWorld → HostTimer → ℕ
+markByte h WaitTimer = getD (h .client .machine) 64 0
+markByte h AckTimer = getD (h .client .machine) 65 0
+markByte h ResendTimer = getD (h .server .machine) 64 0
+
+unfoldable pub ticketBytes : HostWorld → HostTimer → ℕ
+ticketBytes h WaitTimer = numberAt 8 true (h .client .machine) 40
+ticketBytes h AckTimer = numberAt 8 true (h .client .machine) 48
+ticketBytes h ResendTimer = numberAt 8 true (h .server .machine) 40
+
+-- The bytes have that ticket armed.
+pub record ArmedWith (h : HostWorld) (timer : HostTimer) (ticket : ℕ) : Type 0 where
+  pub mark : markByte h timer ≡ 1
+  pub same : ticketBytes h timer ≡ ticket
+
+-- The call of a timer that ran out: kinds 1 and 2 of the client, 3 of the server.
+unfoldable pub timerCall : HostTimer → ℕ → List ℕ → HostCall
+timerCall WaitTimer ticket out = ToClient (ClientTimer 1 ticket out)
+timerCall AckTimer ticket out = ToClient (ClientTimer 2 ticket out)
+timerCall ResendTimer ticket out = ToServer (ServerTimer 3 ticket out)
+
+-- A dispatch is what a host reads of the server: the parts of the message, and the call data in the record's bytes.
+pub record ReadsDispatch (server : Side (List ℕ)) (d : Dispatched) : Type 0 where
+  pub parts : serverParts server ≡ d .bytes
+  pub number : numberAt 4 true (server .machine) 16 ≡ d .number
+  pub operation : numberAt 2 true (server .machine) 14 ≡ d .call .operation
+  pub version : numberAt 4 true (server .machine) 20 ≡ d .call .version
+  pub object : part 16 (server .machine) 112 ≡ d .call .object
+  pub interface : part 16 (server .machine) 128 ≡ d .call .interface
+  pub idempotent : eqb (getD (server .machine) 1 0) 1 ≡ d .call .idempotent
+
+-- The calls that end a run: reply and fault.
+abbrev pub endsRun : HostCall → Bool
+endsRun (ToClient call) = false
+endsRun (ToServer (ServerArrive p lent out)) = false
+endsRun (ToServer (ServerTransmit message out)) = false
+endsRun (ToServer (ServerTimer kind ticket out)) = false
+endsRun (ToServer (ServerReply n message)) = true
+endsRun (ToServer (ServerFault status out)) = true

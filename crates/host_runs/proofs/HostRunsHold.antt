@@ -1,0 +1,73 @@
+-- The first run of crate runs is a run of a host that calls exports only: so there are hosts of which the theorem
+-- speaks, and to which it gives a dispatch and a whole reply.
+use Prim.Native.Nat.{ℕ}
+use mathlib.Core.List.{List, [], _∷_}
+use mathlib.Core.Path.{_≡_, refl}
+use native.Mathlib.Omega.{arith}
+use lib.ListN.{length, replicate, length-replicate}
+use Rattle.record_bytes.specs.Fits.{Octets}
+use Rattle.record_bytes.proofs.ByteLaws.{octets-three}
+use Rattle.host_history.specs.HostDemand.{HostDemand}
+use Rattle.host_history.proofs.HostDemanded.{host-demand}
+use Rattle.runs.specs.Runs.{eventsOf, numbersOf, called, lossy, exampleMessage, exampleReply, zeros}
+use Rattle.runs.proofs.RunsHold.{lossy-ran}
+use Rattle.host_runs.specs.HostRuns.{beginning, callsFor, HostRan}
+use Rattle.host_runs.proofs.PduOctets.{octets-same}
+use Rattle.host_runs.proofs.LossyFits.{lossy-fits}
+use Rattle.host_runs.proofs.AtTheDoor.{host-ran, begins, begins-there}
+
+-- A host that begins with fresh records and makes the calls of the first run keeps every premise. It sees one dispatch,
+-- of the whole request, is told complete once, and reads the whole reply.
+pub host-lossy : (message reply clientMemory serverMemory clientSlots serverSlots out : List ℕ)
+    → length message ≡ 2785 → length reply ≡ 2786 → length clientMemory ≡ 272 → length serverMemory ≡ 272
+    → length clientSlots ≡ 44544 → length serverSlots ≡ 44544 → length out ≡ 1472
+    → Octets message → Octets reply → Octets out
+    → HostRan (beginning clientMemory serverMemory clientSlots serverSlots)
+    (callsFor (eventsOf (lossy message reply out))) (numbersOf (lossy message reply out))
+    (record { ordinal = 0; number = 0; call = called; bytes = message } ∷ [])
+    (record { ordinal = 0; bytes = reply } ∷ []) reply
+host-lossy message reply clientMemory serverMemory clientSlots serverSlots out asks replies clientWhole serverWhole
+    clientRoom serverRoom room askedBytes repliedBytes outBytes =
+    host-ran (beginning clientMemory serverMemory clientSlots serverSlots) _ (lossy message reply out) _ _ _ _ reply
+    (begins clientMemory serverMemory clientSlots serverSlots clientWhole serverWhole)
+    (begins-there clientMemory serverMemory clientSlots serverSlots clientWhole serverWhole)
+    (lossy-fits message reply out askedBytes repliedBytes outBytes)
+    (lossy-ran message reply clientSlots serverSlots out asks replies clientRoom serverRoom room)
+
+-- So it is of the bytes written out in crate runs, and of memory that holds zeros.
+zeros-long : (n : ℕ) → length (zeros n) ≡ n
+unfolding zeros
+zeros-long n = length-replicate n 0
+
+zeros-octets : (n : ℕ) → Octets (zeros n)
+unfolding zeros
+zeros-octets n = octets-same n 0 (omega arith)
+
+message-octets : Octets exampleMessage
+unfolding exampleMessage
+message-octets =
+    octets-three (replicate 1392 10) (replicate 1392 20) (30 ∷ []) (octets-same 1392 10 (omega arith))
+    (octets-same 1392 20 (omega arith)) (omega arith)
+
+reply-octets : Octets exampleReply
+unfolding exampleReply
+reply-octets =
+    octets-three (replicate 1392 40) (replicate 1392 50) (60 ∷ 70 ∷ []) (octets-same 1392 40 (omega arith))
+    (octets-same 1392 50 (omega arith)) (omega arith)
+
+pub host-example :
+    HostRan (beginning (zeros 272) (zeros 272) (zeros 44544) (zeros 44544))
+    (callsFor (eventsOf (lossy exampleMessage exampleReply (zeros 1472))))
+    (numbersOf (lossy exampleMessage exampleReply (zeros 1472)))
+    (record { ordinal = 0; number = 0; call = called; bytes = exampleMessage } ∷ [])
+    (record { ordinal = 0; bytes = exampleReply } ∷ []) exampleReply
+host-example =
+    host-lossy exampleMessage exampleReply (zeros 272) (zeros 272) (zeros 44544) (zeros 44544) (zeros 1472)
+    (unfold exampleMessage in refl) (unfold exampleReply in refl) (zeros-long 272) (zeros-long 272) (zeros-long 44544)
+    (zeros-long 44544) (zeros-long 1472) message-octets reply-octets (zeros-octets 1472)
+
+-- Of that host demand 3 holds.
+pub example-demanded :
+    HostDemand (beginning (zeros 272) (zeros 272) (zeros 44544) (zeros 44544))
+    (callsFor (eventsOf (lossy exampleMessage exampleReply (zeros 1472))))
+example-demanded = host-demand _ (host-example .fresh) _ (host-example .small) (host-example .fair)

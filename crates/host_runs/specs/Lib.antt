@@ -1,0 +1,2 @@
+-- Runs of a host that calls exports only.
+pub mod HostRuns
