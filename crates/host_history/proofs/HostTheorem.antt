@@ -6,7 +6,6 @@ use Rattle.history.specs.World.{World}
 use Rattle.history.specs.Events.{Event}
 use Rattle.history.specs.Steps.{answerTo, step, run}
 use Rattle.history.specs.Fairness.{Fair}
-use Rattle.history.specs.Claim.{AtMostOnce, WholeMessages, WholeReplies}
 use Rattle.history.proofs.Histories.{fair-append}
 use Rattle.history.proofs.Theorem.{theorem}
 use Rattle.morphelai.specs.Export.{Export}
@@ -82,15 +81,3 @@ host-theorem h fresh calls small fair =
 pub at-host : (h : HostWorld) (calls : List HostCall) → HostClaim h calls → (P : World → Type 0)
     → P (run (worldOf h) (eventsOf calls)) → P (worldOf (hostRun h calls))
 at-host h calls holds P known = subst P (sym (holds .same)) known
-
--- So at the host: a start not marked idempotent is dispatched at most once, a dispatch gets a whole message, and a
--- call told complete has the whole of one reply.
-module _ (h : HostWorld) (calls : List HostCall) (holds : HostClaim h calls) where
-  pub host-once : AtMostOnce (worldOf (hostRun h calls))
-  host-once = at-host h calls holds AtMostOnce (holds .claim .once)
-
-  pub host-whole : WholeMessages (worldOf (hostRun h calls))
-  host-whole = at-host h calls holds WholeMessages (holds .claim .whole)
-
-  pub host-complete : WholeReplies (worldOf (hostRun h calls))
-  host-complete = at-host h calls holds WholeReplies (holds .claim .complete)
