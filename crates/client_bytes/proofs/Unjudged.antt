@@ -1,0 +1,68 @@
+-- Bytes that are the same but at places that are not judged are both readable as a client's record or both not, and
+-- stand for the same record.
+use Prim.Native.Nat.{ℕ, _≤_, _<_}
+use mathlib.Core.Bool.{true}
+use mathlib.Core.List.{List}
+use mathlib.Core.Logic.{_⊎_, inl, inr}
+use mathlib.Core.Path.{_≡_, _∙_}
+use native.Mathlib.Omega.{arith}
+use lib.Dec.{eqb, leb}
+use lib.ListN.{getD}
+use Rattle.words.specs.Choice.{both}
+use Rattle.words.specs.Number.{number}
+use Rattle.record_bytes.specs.Canonical.{SharedUnjudged, SameButAt}
+use Rattle.record_bytes.specs.Parts.{timerWhere}
+use Rattle.record_bytes.specs.Layout.{fieldsIn}
+use Rattle.record_bytes.proofs.Unjudged.{timer-alike, mark-not-zero, number-alike, clear-alike, front-alike, shared-readable, fields-alike}
+use Rattle.client_bytes.specs.Canonical.{Unjudged}
+use Rattle.client_bytes.specs.Layout.{readable, clientOf, clientIn}
+
+module _ (b c : List ℕ) (alike : SameButAt (Unjudged b) b c) where
+  own : (i : ℕ) → Unjudged b i → SharedUnjudged b i ⊎ ((48 ≤ i) × (i < 56))
+  own i (inl u) = inl u
+  own i (inr u) = inr (u .1, u .2)
+
+  front : (i : ℕ) → i < 40 → getD c i 0 ≡ getD b i 0
+  front = front-alike (Unjudged b) b c alike own
+
+  -- The ticket of ACK is judged where it is armed.
+  ack-ticket : (getD b 65 0 ≡ 0 → ⊥) → number 8 true c 48 ≡ number 8 true b 48
+  ack-ticket armed =
+      number-alike 8 b c 48 (λ (i : ℕ) (low : 48 ≤ i) (high : i < 56). alike .same i (judged i low high))
+    where
+      judged : (i : ℕ) → 48 ≤ i → i < 56 → Unjudged b i → ⊥
+      judged i low high (inl (inl u)) = omega (arith, u .2)
+      judged i low high (inl (inr u)) = omega (arith, u .from)
+      judged i low high (inr u) = armed (u .0)
+
+  ack-alike : timerWhere (eqb (getD b 65 0) 1) (number 8 true c 48)
+      ≡ timerWhere (eqb (getD b 65 0) 1) (number 8 true b 48)
+  ack-alike =
+      timer-alike (eqb (getD b 65 0) 1) _ _
+      (λ (e : eqb (getD b 65 0) 1 ≡ true). ack-ticket (mark-not-zero (getD b 65 0) e))
+
+  pub client-readable-alike : readable c ≡ readable b
+  unfolding readable
+  client-readable-alike =
+      λ i.
+      both (leb (front 0 (omega arith) i) 6)
+      (both (clear-alike 4 b c 28 (λ (k : ℕ) (low : 28 ≤ k) (high : k < 32). front k (omega arith)) i)
+      (shared-readable (Unjudged b) b c alike own i))
+
+  pub client-alike : clientIn c ≡ clientIn b
+  unfolding clientIn clientOf fieldsIn
+  client-alike =
+      (λ i. clientOf (client-readable-alike i) (fields-alike (Unjudged b) b c alike own i))
+      ∙ (λ i. record {
+        state = clientIn b .state;
+        activity = clientIn b .activity;
+        number = clientIn b .number;
+        call = clientIn b .call;
+        outgoing = clientIn b .outgoing;
+        incoming = clientIn b .incoming;
+        waits = clientIn b .waits;
+        resends = clientIn b .resends;
+        tickets = clientIn b .tickets;
+        wait = clientIn b .wait;
+        ack = ack-alike i;
+      })
