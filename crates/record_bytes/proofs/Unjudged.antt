@@ -42,7 +42,7 @@ module _ (s t : List ℕ) (mark : (f : ℕ) → getD t (4 * f + 2) 0 ≡ getD s 
   slots-alike lengths zero = refl
   slots-alike lengths (suc n) =
       let length : lengthWhere (eqb (getD t (4 * n + 2) 0) 1) (number 2 true t (4 * n))
-          ≡ lengthWhere (eqb (getD s (4 * n + 2) 0) 1) (number 2 true s (4 * n)) =
+      ≡ lengthWhere (eqb (getD s (4 * n + 2) 0) 1) (number 2 true s (4 * n)) =
       ap (λ (m : ℕ). lengthWhere (eqb m 1) (number 2 true t (4 * n))) (mark n)
       ∙ length-alike (eqb (getD s (4 * n + 2) 0) 1) _ _
       (λ (e : eqb (getD s (4 * n + 2) 0) 1 ≡ true). lengths n (mark-not-zero (getD s (4 * n + 2) 0) e)) in
@@ -194,7 +194,7 @@ module _ (Unjudged : ℕ → Type 0) (b c : List ℕ) (alike : SameButAt Unjudge
       let front : (i : ℕ) → i < 40 → getD c i 0 ≡ getD b i 0 = front-alike in
       let armed : getD c 64 0 ≡ getD b 64 0 = back-alike 64 (omega arith) (omega arith) in
       let timer : timerWhere (eqb (getD c 64 0) 1) (number 8 true c 40)
-          ≡ timerWhere (eqb (getD b 64 0) 1) (number 8 true b 40) =
+      ≡ timerWhere (eqb (getD b 64 0) 1) (number 8 true b 40) =
       ap (λ (m : ℕ). timerWhere (eqb m 1) (number 8 true c 40)) armed
       ∙ timer-alike (eqb (getD b 64 0) 1) _ _
       (λ (e : eqb (getD b 64 0) 1 ≡ true). ticket-alike (mark-not-zero (getD b 64 0) e)) in
