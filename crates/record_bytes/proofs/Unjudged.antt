@@ -78,12 +78,12 @@ clear-alike (suc n) b c at h =
     λ i.
     both (clear-alike n b c at (λ (k : ℕ) (low : at ≤ k) (high : k < at + n). h k low (omega arith)) i) (eqb (here i) 0)
 
--- What stands in bytes, with another second ticket.
-abbrev pub withTicket : ℕ → Fields → Fields
-withTicket ticket f = record {
+-- What stands in bytes, with another word at 48.
+abbrev pub withWord : ℕ → Fields → Fields
+withWord word f = record {
   state = f .state;
   count = f .count;
-  resends = f .resends;
+  extra = f .extra;
   activity = f .activity;
   number = f .number;
   boot = f .boot;
@@ -93,7 +93,7 @@ withTicket ticket f = record {
   tickets = f .tickets;
   timer = f .timer;
   armed = f .armed;
-  ticket = ticket;
+  word = word;
 }
 
 -- Each side has its own places that are not judged beside those of both, and they are among bytes 48 to 55.
@@ -187,8 +187,8 @@ module _ (Unjudged : ℕ → Type 0) (b c : List ℕ) (alike : SameButAt Unjudge
       ∙ part-alike 16 b c at (λ (i : ℕ) (from : at ≤ i) (to : i < at + 16). back-alike i (omega arith) (omega arith))
       ∙ sym (uuid-part b at (omega (arith, alike .size)))
 
-  -- and the same stands in them, but for the second ticket.
-  pub fields-alike : fieldsIn c ≡ withTicket (number 8 true c 48) (fieldsIn b)
+  -- and the same stands in them, but for the word at 48.
+  pub fields-alike : fieldsIn c ≡ withWord (number 8 true c 48) (fieldsIn b)
   unfolding fieldsIn callIn outgoingIn incomingIn slotsIn
   fields-alike =
       let front : (i : ℕ) → i < 40 → getD c i 0 ≡ getD b i 0 = front-alike in
@@ -201,7 +201,7 @@ module _ (Unjudged : ℕ → Type 0) (b c : List ℕ) (alike : SameButAt Unjudge
       λ i. record {
         state = front 0 (omega arith) i;
         count = front 2 (omega arith) i;
-        resends = front 3 (omega arith) i;
+        extra = front 3 (omega arith) i;
         activity = uuid-alike 96 (omega arith) (omega arith) i;
         number = low-number 4 16 (omega arith) i;
         boot = low-number 4 28 (omega arith) i;
@@ -226,5 +226,5 @@ module _ (Unjudged : ℕ → Type 0) (b c : List ℕ) (alike : SameButAt Unjudge
         tickets = low-number 8 32 (omega arith) i;
         timer = timer i;
         armed = eqb (back-alike 65 (omega arith) (omega arith) i) 1;
-        ticket = number 8 true c 48;
+        word = number 8 true c 48;
       }
