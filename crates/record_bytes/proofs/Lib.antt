@@ -10,4 +10,4 @@ pub mod FieldsBack
 pub mod Reading
 pub mod SlotReading
 pub mod FieldsAgain
-pub mod Unjudged
+pub mod Alike

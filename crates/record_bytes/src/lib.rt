@@ -456,7 +456,10 @@ fn lay_front(
     second: [u8; 8],
     out: &mut [u8],
 )
-    ensures { λ _. ⌜ now (out .exit) ≡ placed 48 second (placed 40 first (placed 32 tickets (placed 16 numbers (placed 0 front (now (out .entry)))))) ⌝ }
+    ensures { λ _. ⌜
+        now (out .exit)
+        ≡ placed 48 second (placed 40 first (placed 32 tickets (placed 16 numbers (placed 0 front (now (out .entry))))))
+        ⌝ }
 {
     words::put(out, 0, &front);
     words::put(out, 16, &numbers);
@@ -474,7 +477,11 @@ fn lay_back(
     held: [u8; 128],
     out: &mut [u8],
 )
-    ensures { λ _. ⌜ now (out .exit) ≡ placed 144 held (placed 128 interface (placed 112 object (placed 96 activity (placed 56 back (now (out .entry)))))) ⌝ }
+    ensures { λ _. ⌜
+        now (out .exit)
+        ≡ placed 144 held
+        (placed 128 interface (placed 112 object (placed 96 activity (placed 56 back (now (out .entry))))))
+        ⌝ }
 {
     words::put(out, 56, &back);
     words::put(out, 96, &activity);
@@ -497,7 +504,11 @@ fn lay(
     held: [u8; 128],
     out: &mut [u8],
 )
-    ensures { λ _. ⌜ now (out .exit) ≡ placed 0 (laidBytes front numbers tickets first second back activity object interface held) (now (out .entry)) ⌝ }
+    ensures { λ _. ⌜
+        now (out .exit)
+        ≡ placed 0 (laidBytes front numbers tickets first second back activity object interface held)
+        (now (out .entry))
+        ⌝ }
 {
     if out.len() < SIZE {
         return;

@@ -13,7 +13,7 @@ use Rattle.words.specs.Number.{number}
 use Rattle.record_bytes.specs.Canonical.{SharedUnjudged, SameButAt}
 use Rattle.record_bytes.specs.Parts.{timerWhere}
 use Rattle.record_bytes.specs.Layout.{fieldsIn}
-use Rattle.record_bytes.proofs.Unjudged.{timer-alike, mark-not-zero, number-alike, clear-alike, front-alike, shared-readable, fields-alike}
+use Rattle.record_bytes.proofs.Alike.{timer-alike, mark-not-zero, number-alike, clear-alike, front-alike, shared-readable, fields-alike}
 use Rattle.client_bytes.specs.Canonical.{Unjudged}
 use Rattle.client_bytes.specs.Layout.{readable, clientOf, clientIn}
 

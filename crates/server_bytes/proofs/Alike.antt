@@ -13,7 +13,7 @@ use Rattle.words.specs.Number.{number}
 use Rattle.record_bytes.specs.Canonical.{SharedUnjudged, SameButAt}
 use Rattle.record_bytes.specs.Parts.{clear}
 use Rattle.record_bytes.specs.Layout.{fieldsIn}
-use Rattle.record_bytes.proofs.Unjudged.{number-alike, clear-alike, front-alike, back-alike, shared-readable, fields-alike}
+use Rattle.record_bytes.proofs.Alike.{number-alike, clear-alike, front-alike, back-alike, shared-readable, fields-alike}
 use Rattle.server_record.specs.declared.State.{State}
 use Rattle.server_record.specs.declared.State.the-variants.{Idle as IdleState, Collect, Running, Replying, Held}
 use Rattle.server_record.specs.declared.Idle.the-variants.{Fresh, Spent, Repeatable}
