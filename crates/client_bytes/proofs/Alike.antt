@@ -6,9 +6,8 @@ use mathlib.Core.List.{List}
 use mathlib.Core.Logic.{_⊎_, inl, inr}
 use mathlib.Core.Path.{_≡_, _∙_}
 use native.Mathlib.Omega.{arith}
-use lib.Dec.{eqb, leb}
+use lib.Dec.{eqb}
 use lib.ListN.{getD}
-use Rattle.words.specs.Choice.{both}
 use Rattle.words.specs.Number.{number}
 use Rattle.record_bytes.specs.Canonical.{SharedUnjudged, SameButAt}
 use Rattle.record_bytes.specs.Parts.{timerWhere}
@@ -44,10 +43,11 @@ module _ (b c : List ℕ) (alike : SameButAt (Unjudged b) b c) where
   pub client-readable-alike : readable c ≡ readable b
   unfolding readable
   client-readable-alike =
-      λ i.
-      both (leb (front 0 (omega arith) i) 6)
-      (both (clear-alike 4 b c 28 (λ (k : ℕ) (low : 28 ≤ k) (high : k < 32). front k (omega arith)) i)
-      (shared-readable (Unjudged b) b c alike own i))
+      rw (
+        front 0 (omega arith),
+        clear-alike 4 b c 28 (λ (k : ℕ) (low : 28 ≤ k) (high : k < 32). front k (omega arith)),
+        shared-readable (Unjudged b) b c alike own,
+      )
 
   pub client-alike : clientIn c ≡ clientIn b
   unfolding clientIn clientOf fieldsIn

@@ -5,7 +5,7 @@ use mathlib.Core.List.{List, _∷_}
 use mathlib.Core.Logic.{_⊎_, inl, inr}
 use mathlib.Core.Path.{_≡_, refl, sym, ap, _∙_}
 use native.Mathlib.Omega.{arith}
-use lib.Dec.{eqb, leb}
+use lib.Dec.{eqb}
 use lib.ListN.{length, getD, drop, set}
 use lib.Seq.{getD-drop}
 use borrow.Author.Tests.{eqb-true}
@@ -15,7 +15,7 @@ use Rattle.record_bytes.specs.declared.Fields.{Fields}
 use Rattle.record_bytes.specs.Canonical.{SharedUnjudged, SameButAt}
 use Rattle.record_bytes.specs.Parts.{timerWhere, lastOf, uuidIn, clear}
 use Rattle.record_bytes.specs.Held.{lengthWhere, slotIn, slotsBelow, slotsIn, slotReadable, readableBelow, slotsReadable}
-use Rattle.record_bytes.specs.Layout.{lastReadable, marksReadable, countsReadable, sparesReadable, readable}
+use Rattle.record_bytes.specs.Layout.{sparesReadable, readable}
 use Rattle.record_bytes.specs.Layout.{callIn, outgoingIn, incomingIn, fieldsIn}
 use Rattle.record_bytes.proofs.PartLaws.{uuid-part}
 
@@ -52,8 +52,7 @@ module _ (s t : List ℕ) (mark : (f : ℕ) → getD t (4 * f + 2) 0 ≡ getD s 
       → (n : ℕ) → readableBelow t n ≡ readableBelow s n
   unfolding readableBelow slotReadable
   readable-alike spare zero = refl
-  readable-alike spare (suc n) =
-      λ i. both (readable-alike spare n i) (both (leb (mark n i) 1) (eqb (spare n i) 0))
+  readable-alike spare (suc n) = rw (readable-alike spare n, mark n, spare n)
 
 -- Numbers and places that are clear.
 part-alike : (n : ℕ) (b c : List ℕ) (at : ℕ) → ((i : ℕ) → at ≤ i → i < at + n → getD c i 0 ≡ getD b i 0)
@@ -170,16 +169,18 @@ module _ (Unjudged : ℕ → Type 0) (b c : List ℕ) (alike : SameButAt Unjudge
   shared-readable =
       let front : (i : ℕ) → i < 40 → getD c i 0 ≡ getD b i 0 = front-alike in
       let back : (i : ℕ) → 56 ≤ i → i < 144 → getD c i 0 ≡ getD b i 0 = back-alike in
-      λ i.
-      both
-      (marksReadable (front 1 (omega arith) i) (back 64 (omega arith) (omega arith) i) (back 65 (omega arith) (omega arith) i))
-      (both (countsReadable (front 5 (omega arith) i) (front 7 (omega arith) i) (front 9 (omega arith) i))
-      (both (lastReadable (low-number 2 10 (omega arith) i))
-      (both
-      (both
-      (clear-alike 8 b c 56 (λ (k : ℕ) (low : 56 ≤ k) (high : k < 64). back k low (omega arith)) i)
-      (clear-alike 30 b c 66 (λ (k : ℕ) (low : 66 ≤ k) (high : k < 96). back k (omega arith) (omega arith)) i))
-      (readable-alike (drop 144 b) (drop 144 c) mark-alike spare-alike 32 i))))
+      rw (
+        front 1 (omega arith),
+        back 64 (omega arith) (omega arith),
+        back 65 (omega arith) (omega arith),
+        front 5 (omega arith),
+        front 7 (omega arith),
+        front 9 (omega arith),
+        low-number 2 10 (omega arith),
+        clear-alike 8 b c 56 (λ (k : ℕ) (low : 56 ≤ k) (high : k < 64). back k low (omega arith)),
+        clear-alike 30 b c 66 (λ (k : ℕ) (low : 66 ≤ k) (high : k < 96). back k (omega arith) (omega arith)),
+        readable-alike (drop 144 b) (drop 144 c) mark-alike spare-alike 32,
+      )
 
   uuid-alike : (at : ℕ) → 56 ≤ at → at + 16 ≤ 144 → uuidIn c at ≡ uuidIn b at
   uuid-alike at low high =

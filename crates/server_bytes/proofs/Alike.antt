@@ -6,9 +6,9 @@ use mathlib.Core.List.{List}
 use mathlib.Core.Logic.{_⊎_, inl, inr}
 use mathlib.Core.Path.{_≡_, refl, sym, ap, _∙_}
 use native.Mathlib.Omega.{arith}
-use lib.Dec.{eqb, leb}
+use lib.Dec.{eqb}
 use lib.ListN.{getD, drop}
-use Rattle.words.specs.Choice.{choose, both}
+use Rattle.words.specs.Choice.{choose}
 use Rattle.words.specs.Number.{number}
 use Rattle.record_bytes.specs.Canonical.{SharedUnjudged, SameButAt}
 use Rattle.record_bytes.specs.Parts.{clear}
@@ -73,10 +73,13 @@ module _ (b c : List ℕ) (alike : SameButAt (Unjudged b) b c) where
   server-readable-alike =
       let second : getD c 65 0 ≡ getD b 65 0 =
       back-alike (Unjudged b) b c alike own 65 (omega arith) (omega arith) in
-      λ i.
-      both (leb (front 0 (omega arith) i) 7)
-      (both (both (eqb (front 3 (omega arith) i) 0) (both (eqb (second i) 0) (behind-status i)))
-      (shared-readable (Unjudged b) b c alike own i))
+      rw (
+        front 0 (omega arith),
+        front 3 (omega arith),
+        second,
+        behind-status,
+        shared-readable (Unjudged b) b c alike own,
+      )
 
   pub server-alike : serverIn c ≡ serverIn b
   unfolding serverIn serverOf fieldsIn
