@@ -105,7 +105,8 @@ module _ (s out : List ℕ) (octets : Octets s) (room : length out ≡ 80) (done
       read-written h (bodyOf s) fits (rw kind (r .known-type)) (authentication ∙ r .unauthenticated)
       (body-short s done)
 
-  again : reading whole ≡ record { answer = Done; little = orderIs 16 whole; header = headerOf (orderIs 16 whole) whole }
+  again : reading whole
+      ≡ record { answer = Done; little = orderIs 16 whole; header = headerOf (orderIs 16 whole) whole }
   again = accepted-reading whole (ap (λ (x : Reading). x .answer) read)
 
   little : orderIs 16 whole ≡ true

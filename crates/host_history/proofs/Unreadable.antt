@@ -128,7 +128,7 @@ no-part : (kept : Bool) (m : Incoming) (f : ℕ) (slots : List ℕ) → kept ≡
 unfolding partOf
 no-part kept m f slots broken = ap length (choose-false kept _ [] broken)
 
--- A transmit's lengths are right: of the PDU buffer, and of the message, which is judged more closely where one is sent.
+-- A transmit's lengths are right: of the PDU buffer, and of the message, judged more closely where one is sent.
 abbrev transmitSized : Bool → ℕ → List ℕ → List ℕ → Bool
 transmitSized sending size message out =
     both (eqb (length out) 1472)

@@ -32,8 +32,8 @@ refusingCodec out = record { result = 1; out = out }
 unfoldable pub orderByte : Bool → ℕ
 orderByte little = choose little 16 0
 
--- The header in its little-endian form, before a body of that length, with the sender's order at byte 4; a refusal leaves
--- the buffer as it was.
+-- The header in its little-endian form, before a body of that length, with the sender's order at byte 4; a refusal
+-- leaves the buffer as it was.
 unfoldable pub headerOut : Reading → ℕ → List ℕ → List ℕ
 headerOut r length out =
     choose (eqb (numberOf (r .answer)) 0)

@@ -86,7 +86,8 @@ pub extern "C" fn morphelai_client_start(
 ) -> u64
     ensures { λ r. ⌜
         Exported
-        (clientStart (now (bytes .entry)) idempotent (now (object .entry)) (now (interface .entry)) version operation length)
+        (clientStart (now (bytes .entry)) idempotent (now (object .entry)) (now (interface .entry))
+        version operation length)
         r (now (bytes .exit)) [] []
         ⌝ }
 {

@@ -1,16 +1,18 @@
 -- Bytes that are the same but at places that are not judged are both readable or both not, and the same stands in them.
-use Prim.Native.Nat.{ℕ, zero, suc, _+_, _*_, _≤_, _<_}
+use Prim.Native.Nat.{ℕ, zero, suc, _+_, _-_, _*_, _≤_, _<_}
 use mathlib.Core.Bool.{Bool, true, false}
-use mathlib.Core.List.{List, _∷_}
+use mathlib.Core.List.{List, _∷_, _++_}
 use mathlib.Core.Logic.{_⊎_, inl, inr}
 use mathlib.Core.Path.{_≡_, refl, sym, ap, _∙_}
 use native.Mathlib.Omega.{arith}
-use lib.Dec.{eqb}
-use lib.ListN.{length, getD, drop, set}
-use lib.Seq.{getD-drop}
-use borrow.Author.Tests.{eqb-true}
+use lib.Dec.{eqb, ltb}
+use lib.ListN.{length, getD, take, drop, set, List·getD-append}
+use lib.Seq.{getD-append-add, getD-take, getD-drop, length-take-le}
+use borrow.Author.Tests.{eqb-true, ltb-true, ltb-false}
 use Rattle.words.specs.Choice.{choose, both}
 use Rattle.words.specs.Number.{le, part, number}
+use Rattle.words.specs.Place.{putAt, placed}
+use Rattle.words.proofs.Place.{placed-fits, length-putAt}
 use Rattle.record_bytes.specs.declared.Fields.{Fields}
 use Rattle.record_bytes.specs.Canonical.{SharedUnjudged, SameButAt}
 use Rattle.record_bytes.specs.Parts.{timerWhere, lastOf, uuidIn, clear}
@@ -59,8 +61,9 @@ part-alike : (n : ℕ) (b c : List ℕ) (at : ℕ) → ((i : ℕ) → at ≤ i �
     → part n c at ≡ part n b at
 part-alike zero b c at h = refl
 part-alike (suc n) b c at h =
-    λ i. h at (omega arith) (omega arith) i
-    ∷ part-alike n b c (at + 1) (λ (k : ℕ) (low : at + 1 ≤ k) (high : k < at + 1 + n). h k (omega arith) (omega arith)) i
+    let rest : part n c (at + 1) ≡ part n b (at + 1) =
+    part-alike n b c (at + 1) (λ (k : ℕ) (low : at + 1 ≤ k) (high : k < at + 1 + n). h k (omega arith) (omega arith)) in
+    λ i. h at (omega arith) (omega arith) i ∷ rest i
 
 pub number-alike : (n : ℕ) (b c : List ℕ) (at : ℕ) → ((i : ℕ) → at ≤ i → i < at + n → getD c i 0 ≡ getD b i 0)
     → number n true c at ≡ number n true b at
@@ -229,3 +232,45 @@ module _ (Unjudged : ℕ → Type 0) (b c : List ℕ) (alike : SameButAt Unjudge
         armed = eqb (back-alike 65 (omega arith) (omega arith) i) 1;
         word = number 8 true c 48;
       }
+
+-- Bytes put into places that are not judged: any ticket, length or status there.
+put-aside : (at : ℕ) (s d : List ℕ) (i : ℕ) → at + length s ≤ length d → ((at ≤ i) × (i < at + length s) → ⊥)
+    → getD (putAt at s d) i 0 ≡ getD d i 0
+unfolding putAt
+put-aside at s d i room outside = by-place (ltb i at) refl
+  where
+    front : length (take at d) ≡ at
+    front = length-take-le at d (omega (arith, room))
+
+    past-end : at ≤ i → (test : Bool) → ltb i (at + length s) ≡ test → at + length s ≤ i
+    past-end low true e = absurd (outside (low, ltb-true i (at + length s) e))
+    past-end low false e = ltb-false i (at + length s) e
+
+    behind : at ≤ i → getD (take at d ++ (s ++ drop (at + length s) d)) i 0 ≡ getD d i 0
+    behind low =
+        let past : at + length s ≤ i = past-end low (ltb i (at + length s)) refl in
+        let first : i ≡ length (take at d) + (length s + (i - (at + length s))) = omega (arith, front, past) in
+        let last : at + length s + (i - (at + length s)) ≡ i = omega (arith, past) in
+        ap (λ (k : ℕ). getD (take at d ++ (s ++ drop (at + length s) d)) k 0) first
+        ∙ getD-append-add (take at d) (s ++ drop (at + length s) d) (length s + (i - (at + length s))) 0
+        ∙ getD-append-add s (drop (at + length s) d) (i - (at + length s)) 0
+        ∙ getD-drop (at + length s) d (i - (at + length s)) 0
+        ∙ ap (λ (k : ℕ). getD d k 0) last
+
+    by-place : (test : Bool) → ltb i at ≡ test → getD (take at d ++ (s ++ drop (at + length s) d)) i 0 ≡ getD d i 0
+    by-place true e =
+        List·getD-append (take at d) (s ++ drop (at + length s) d) 0 i (omega (arith, front, ltb-true i at e))
+        ∙ getD-take at d i 0 (ltb-true i at e)
+    by-place false e = behind (ltb-false i at e)
+
+pub put-alike : (Unjudged : ℕ → Type 0) (at : ℕ) (s b : List ℕ) → length b ≡ 272 → at + length s ≤ 272
+    → ((i : ℕ) → at ≤ i → i < at + length s → Unjudged i) → SameButAt Unjudged b (placed at s b)
+put-alike Unjudged at s b size room there =
+    let fits : at + length s ≤ length b = omega (arith, size, room) in
+    record {
+      size = size;
+      other-size = ap length (placed-fits at s b fits) ∙ length-putAt at s b fits ∙ size;
+      same = λ (i : ℕ) (judged : Unjudged i → ⊥).
+          ap (λ (l : List ℕ). getD l i 0) (placed-fits at s b fits)
+          ∙ put-aside at s b i fits (λ (place : (at ≤ i) × (i < at + length s)). judged (there i (place .0) (place .1)));
+    }

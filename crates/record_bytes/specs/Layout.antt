@@ -103,8 +103,8 @@ numberBytes number version length boot = digits 4 number ++ (digits 4 version ++
 abbrev pub backBytes : ℕ → ℕ → List ℕ
 backBytes first second = replicate 8 0 ++ (first ∷ (second ∷ replicate 30 0))
 
--- Ten parts, one behind the other: the ticket counter is bytes 32 to 39, the first timer's ticket 40 to 47, the second's,
--- at a server the status, 48 to 55, the UUIDs are 96 to 143, the slots the rest.
+-- Ten parts, one behind the other: the ticket counter is bytes 32 to 39, the first timer's ticket 40 to 47, the
+-- second's, at a server the status, 48 to 55, the UUIDs are 96 to 143, the slots the rest.
 abbrev pub laidBytes
     : List ℕ → List ℕ → List ℕ → List ℕ → List ℕ → List ℕ → List ℕ → List ℕ → List ℕ → List ℕ → List ℕ
 laidBytes front numbers tickets first second back activity object interface held =
