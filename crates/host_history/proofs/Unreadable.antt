@@ -313,9 +313,9 @@ pub unreadable-answered : (h : HostWorld) (call : HostCall) → readableAt h cal
 unreadable-answered h (ToClient call) = client-so (h .client) call
 unreadable-answered h (ToServer call) = server-so (h .server) call
 
-pub unreadable-broken : (h : HostWorld) (call : HostCall) → readableAt h call ≡ false → sizedAt h call ≡ true
+pub unreadable-two : (h : HostWorld) (call : HostCall) → readableAt h call ≡ false → sizedAt h call ≡ true
     → answerIn (exported h call .result) ≡ BrokenRecord
-unreadable-broken h call e right = unreadable-answered h call e ∙ choose-true (sizedAt h call) _ _ right
+unreadable-two h call e right = unreadable-answered h call e ∙ choose-true (sizedAt h call) _ _ right
 
 -- so it is one of the two,
 pub unreadable-refused : (h : HostWorld) (call : HostCall) → readableAt h call ≡ false
