@@ -1,7 +1,7 @@
 //! A small check of this program against itself and against rows of the papers.
 
 use super::side::datagram_rows;
-use super::{client, layout, played, rows, server, server_calls};
+use super::{client, compared, demand, layout, played, rows, server, server_calls};
 use crate::bench::message::message;
 use crate::codec::fack::Held;
 use crate::codec::pdu::{read, write, ByteOrder, Header, BODY_LIMIT, HIGHEST_TYPE, PDU_LIMIT};
@@ -30,6 +30,8 @@ pub fn self_test() -> Result<(), &'static str> {
     server_calls::self_test()?;
     rows::self_test()?;
     layout::self_test()?;
+    compared::self_test()?;
+    demand::self_test()?;
     played::self_test()
 }
 
