@@ -72,7 +72,7 @@ impl Counts {
         }
     }
 
-    /// Counts a name. One that was not foreseen is printed behind the others.
+    /// Counts a name. One that was not foreseen stands behind the others.
     pub fn add(&mut self, name: fmt::Arguments) {
         self.add_times(name, 1);
     }
@@ -150,6 +150,12 @@ impl Told {
             rest = behind;
         }
         groups
+    }
+
+    /// The counts of names that no group has.
+    pub fn not_foreseen(&self) -> &[(String, u64)] {
+        let foreseen: usize = self.groups.iter().map(|(_, size)| size).sum();
+        &self.counts[foreseen..]
     }
 }
 
