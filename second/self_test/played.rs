@@ -1,5 +1,5 @@
 //! Events of every kind, played with this implementation in the library's place: once with every
-//! call checked, and once with something wrong after every call.
+//! call checked, and once with something wrong after every call. Of each the report is looked at.
 
 use super::all::check;
 use super::checked::{Broken, Checked};
