@@ -32,7 +32,7 @@ module _ (c : Client) (fits : FitsClient c) where
   fields-fit = record {
     state = omega (arith, state-small (c .state));
     count = fits .waits;
-    resends = fits .resends;
+    extra = fits .resends;
     activity = fits .activity;
     number = fits .number;
     boot = omega arith;
@@ -41,7 +41,7 @@ module _ (c : Client) (fits : FitsClient c) where
     incoming = fits .incoming;
     tickets = fits .tickets;
     timer = fits .wait;
-    ticket = ticket-small (c .ack) (fits .ack);
+    word = ticket-small (c .ack) (fits .ack);
   }
 
   pub client-readable : readable (clientBytes c) ≡ true
@@ -115,10 +115,10 @@ client-fits b size octets allowed =
       outgoing = f .outgoing;
       incoming = f .incoming;
       waits = subst (λ (n : ℕ). n < 256) (sym (count-again (readable b) _ allowed)) (f .count);
-      resends = f .resends;
+      resends = f .extra;
       tickets = f .tickets;
       wait = f .timer;
-      ack = timer-fits _ _ (f .ticket);
+      ack = timer-fits _ _ (f .word);
     }
 
 -- Bytes that are not readable stand for a record that breaks its rules, so every event refuses them with 2.
@@ -132,7 +132,7 @@ module _ (b : List ℕ) (canonical : Canonical b) where
   fields-same = λ i. record {
     state = state-again (getD b 0 0) (known b (canonical .readable) .state) i;
     count = count-again (readable b) (getD b 2 0) (canonical .readable) i;
-    resends = getD b 3 0;
+    extra = getD b 3 0;
     activity = uuidIn b 96;
     number = number 4 true b 16;
     boot = sym (known b (canonical .readable) .boot) i;
@@ -142,7 +142,7 @@ module _ (b : List ℕ) (canonical : Canonical b) where
     tickets = number 8 true b 32;
     timer = timerWhere (eqb (getD b 64 0) 1) (number 8 true b 40);
     armed = armed-again (eqb (getD b 65 0) 1) (number 8 true b 48) i;
-    ticket = ticket-again b 65 48 (shared-known b (known b (canonical .readable) .shared) .second) (canonical .ack) i;
+    word = ticket-again b 65 48 (shared-known b (known b (canonical .readable) .shared) .second) (canonical .ack) i;
   }
 
   -- Canonical bytes as a record and back are the bytes again.

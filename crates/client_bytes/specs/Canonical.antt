@@ -1,11 +1,12 @@
--- The bytes that encoding gives of a client's record.
+-- The bytes that encoding gives of a client's record, and what is not judged of readable ones.
 use Prim.Native.Nat.{ℕ}
 use mathlib.Core.Bool.{true}
 use mathlib.Core.List.{List}
+use mathlib.Core.Logic.{_⊎_}
 use mathlib.Core.Path.{_≡_}
 use lib.ListN.{length, drop}
 use Rattle.record_bytes.specs.Fits.{Octets}
-use Rattle.record_bytes.specs.Canonical.{TicketClear, LengthsClear}
+use Rattle.record_bytes.specs.Canonical.{TicketClear, LengthsClear, TicketUnjudged, SharedUnjudged}
 use Rattle.client_bytes.specs.Layout.{readable as isReadable}
 
 -- 272 readable bytes. The ticket of WAIT stands at 40 and its mark at 64, that of ACK at 48 and its mark at 65; each
@@ -17,3 +18,7 @@ pub record Canonical (b : List ℕ) : Type 0 where
   pub wait : TicketClear 64 40 b
   pub ack : TicketClear 65 48 b
   pub slots : LengthsClear (drop 144 b)
+
+-- The places that are not judged: what is not on either side, and the ticket of ACK where it is not armed.
+abbrev pub Unjudged : List ℕ → ℕ → Type 0
+Unjudged b i = SharedUnjudged b i ⊎ TicketUnjudged 65 48 b i

@@ -47,10 +47,10 @@ clientOf readable f = record {
   outgoing = f .outgoing;
   incoming = f .incoming;
   waits = countWhere readable (f .count);
-  resends = f .resends;
+  resends = f .extra;
   tickets = f .tickets;
   wait = f .timer;
-  ack = timerWhere (f .armed) (f .ticket);
+  ack = timerWhere (f .armed) (f .word);
 }
 
 -- The record that bytes stand for.
@@ -62,7 +62,7 @@ unfoldable pub fieldsOf : Client → Fields
 fieldsOf c = record {
   state = stateNumber (c .state);
   count = c .waits;
-  resends = c .resends;
+  extra = c .resends;
   activity = c .activity;
   number = c .number;
   boot = 0;
@@ -72,7 +72,7 @@ fieldsOf c = record {
   tickets = c .tickets;
   timer = c .wait;
   armed = isArmed (c .ack);
-  ticket = timerTicket (c .ack);
+  word = timerTicket (c .ack);
 }
 
 -- The bytes of a record.

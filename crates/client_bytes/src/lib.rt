@@ -65,7 +65,7 @@ fn client_of(readable: bool, f: Fields) -> Client
     let incoming = f.incoming;
     let wait = f.timer;
     let state = state_of(f.state);
-    let ack = record_bytes::timer_where(f.armed, f.ticket);
+    let ack = record_bytes::timer_where(f.armed, f.word);
     Client {
         state,
         activity,
@@ -74,7 +74,7 @@ fn client_of(readable: bool, f: Fields) -> Client
         outgoing,
         incoming,
         waits: record_bytes::count_where(readable, f.count),
-        resends: f.resends,
+        resends: f.extra,
         tickets: f.tickets,
         wait,
         ack,
@@ -103,7 +103,7 @@ fn fields_of(c: Client) -> Fields
     Fields {
         state: state_number(state),
         count: c.waits,
-        resends: c.resends,
+        extra: c.resends,
         activity,
         number: c.number,
         boot: 0,
@@ -113,7 +113,7 @@ fn fields_of(c: Client) -> Fields
         tickets: c.tickets,
         timer,
         armed: record_bytes::is_armed(ack),
-        ticket: record_bytes::timer_ticket(ack),
+        word: record_bytes::timer_ticket(ack),
     }
 }
 

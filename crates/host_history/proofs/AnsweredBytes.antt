@@ -38,13 +38,14 @@ use Rattle.host_history.specs.Arguments.{ClientFits, ServerFits}
 use Rattle.host_history.specs.Results.{answerIn}
 use Rattle.host_history.specs.Hosts.{HostWorld, HostCall, exported, sideOf, ClientCall, ServerCall, ClientStart, ClientTransmit, ClientArrive, ClientTimer, ServerArrive, ServerTransmit, ServerTimer, ServerReply, ServerFault, clientExport, serverExport}
 use Rattle.host_history.specs.Meaning.{ClientCallFits, ServerCallFits}
+use Rattle.host_history.specs.Refusal.{readableAt}
 use Rattle.host_history.proofs.ClientKeeps.{client-turn-fits}
 use Rattle.host_history.proofs.ServerKeeps.{server-turn-fits}
 use Rattle.host_history.proofs.Unpacking.{result-answer}
 use Rattle.host_history.proofs.Leaving.{refusing-undone, kind-undone}
 use Rattle.host_history.proofs.ClientCalls.{uuid-given, client-placed}
 use Rattle.host_history.proofs.ServerCalls.{server-placed}
-use Rattle.host_history.proofs.Unreadable.{unreadable-refused, readableAt}
+use Rattle.host_history.proofs.Unreadable.{unreadable-refused}
 
 -- Where the answer read is 0, the bytes left are such.
 abbrev Leaves : (List ℕ → Type 0) → Export → Type 0

@@ -1,12 +1,12 @@
--- What morphelai_read leaves is the header that was read, with the sender's order at byte 4, and morphelai_write takes
--- it so.
-use Prim.Native.Nat.{ℕ}
+-- What morphelai_read leaves is the header that was read, with the sender's order at byte 4, version 4 and the body's
+-- length; and morphelai_write takes it so.
+use Prim.Native.Nat.{ℕ, _+_}
 use mathlib.Core.Bool.{Bool, true, false}
 use mathlib.Core.List.{List, [], _∷_, _++_}
 use mathlib.Core.Path.{_≡_, refl, sym, ap, subst, _∙_}
 use native.Mathlib.Omega.{arith}
 use lib.Dec.{eqb}
-use lib.ListN.{length, getD}
+use lib.ListN.{length, getD, length-append}
 use borrow.Author.Tests.{eq-eqb}
 use Rattle.words.specs.Choice.{choose}
 use Rattle.words.specs.Number.{number}
@@ -33,18 +33,29 @@ unfolding headerOf placed putAt choose number
 order-aside s order size =
     subst (λ (t : List ℕ). headerOf true (placed 4 (order ∷ []) t) ≡ headerOf true t) (part-all 80 s size) refl
 
-order-there : (s : List ℕ) (order : ℕ) → length s ≡ 80
-    → (getD (placed 4 (order ∷ []) s) 4 0 ≡ order) × (length (placed 4 (order ∷ []) s) ≡ 80)
-unfolding placed putAt choose
-order-there s order size =
-    subst
-    (λ (t : List ℕ). (getD (placed 4 (order ∷ []) t) 4 0 ≡ order) × (length (placed 4 (order ∷ []) t) ≡ 80))
-    (part-all 80 s size) (refl, refl)
+-- What stands at byte 4 is put there; the bytes beside the fields, and their count, stay.
+record Beside (before after : List ℕ) (byte : ℕ) : Type 0 where
+  size : length after ≡ 80
+  version : getD after 0 0 ≡ getD before 0 0
+  order : getD after 4 0 ≡ byte
+  second : getD after 5 0 ≡ getD before 5 0
+  third : getD after 6 0 ≡ getD before 6 0
+  body : number 2 true after 74 ≡ number 2 true before 74
 
-body-aside : (s body : List ℕ) → length s ≡ 80 → headerOf true (s ++ body) ≡ headerOf true s
+order-there : (s : List ℕ) (order : ℕ) → length s ≡ 80 → Beside s (placed 4 (order ∷ []) s) order
+unfolding placed putAt choose number
+order-there s order size =
+    subst (λ (t : List ℕ). Beside t (placed 4 (order ∷ []) t) order) (part-all 80 s size)
+    (record { size = refl; version = refl; order = refl; second = refl; third = refl; body = refl })
+
+body-aside : (s body : List ℕ) → length s ≡ 80
+    → (headerOf true (s ++ body) ≡ headerOf true s) × (number 2 true (s ++ body) 74 ≡ number 2 true s 74)
 unfolding headerOf number
 body-aside s body size =
-    subst (λ (t : List ℕ). headerOf true (t ++ body) ≡ headerOf true t) (part-all 80 s size) refl
+    subst
+    (λ (t : List ℕ).
+    (headerOf true (t ++ body) ≡ headerOf true t) × (number 2 true (t ++ body) 74 ≡ number 2 true t 74))
+    (part-all 80 s size) (refl, refl)
 
 -- A header that stands in bytes fits its widths.
 header-fits : (little : Bool) (s : List ℕ) → Octets s → Fits (headerOf little s)
@@ -72,39 +83,64 @@ module _ (s out : List ℕ) (octets : Octets s) (room : length out ≡ 80) (done
       subst Fits (sym (ap (λ (r : Reading). r .header) (accepted-reading s done)))
       (header-fits (orderIs 16 s) s octets)
 
-  -- Its header in the little-endian form has its fields.
-  same-fields : headerOf true (headerBytes (reading s .header) (length (bodyOf s))) ≡ reading s .header
-  unfolding datagram headerOf
-  same-fields =
+  -- Its header in the little-endian form, as it stands and with the body behind it.
+  told : List ℕ
+  told = headerBytes (reading s .header) (length (bodyOf s))
+
+  whole : List ℕ
+  whole = datagram (reading s .header) (bodyOf s)
+
+  size : length told ≡ 80
+  unfolding told
+  size = length-header (reading s .header) (length (bodyOf s)) (fits .sized)
+
+  read : reading whole ≡ record { answer = Done; little = true; header = reading s .header }
+  unfolding whole headerOf
+  read =
       let h = reading s .header in
       let r = accepted-readable s done in
       let is = accepted-reading s done in
       let kind : h .kind ≡ getD s 1 0 = ap (λ (x : Reading). x .header .kind) is in
       let authentication : h .authentication ≡ getD s 78 0 = ap (λ (x : Reading). x .header .authentication) is in
-      let read : reading (datagram h (bodyOf s)) ≡ record { answer = Done; little = true; header = h } =
       read-written h (bodyOf s) fits (rw kind (r .known-type)) (authentication ∙ r .unauthenticated)
-      (body-short s done) in
-      let again = accepted-reading (datagram h (bodyOf s)) (ap (λ (x : Reading). x .answer) read) in
-      let order : orderIs 16 (datagram h (bodyOf s)) ≡ true =
-      ap (λ (x : Reading). x .little) (sym again ∙ read) in
-      sym (body-aside (headerBytes h (length (bodyOf s))) (bodyOf s) (length-header h _ (fits .sized)))
-      ∙ sym (ap (λ (b : Bool). headerOf b (datagram h (bodyOf s))) order)
+      (body-short s done)
+
+  again : reading whole
+      ≡ record { answer = Done; little = orderIs 16 whole; header = headerOf (orderIs 16 whole) whole }
+  again = accepted-reading whole (ap (λ (x : Reading). x .answer) read)
+
+  little : orderIs 16 whole ≡ true
+  little = ap (λ (x : Reading). x .little) (sym again ∙ read)
+
+  -- It has the fields that were read, and the length of the body.
+  same-fields : headerOf true told ≡ reading s .header
+  unfolding told whole datagram
+  same-fields =
+      sym (body-aside told (bodyOf s) size .0) ∙ sym (ap (λ (b : Bool). headerOf b whole) little)
       ∙ ap (λ (x : Reading). x .header) (sym again ∙ read)
 
+  same-length : number 2 true told 74 ≡ length (bodyOf s)
+  unfolding told whole datagram
+  same-length =
+      let sum : length whole ≡ 80 + number 2 (orderIs 16 whole) whole 74 =
+      accepted-readable whole (ap (λ (x : Reading). x .answer) read) .whole in
+      let here : number 2 (orderIs 16 whole) whole 74 ≡ number 2 true told 74 =
+      ap (λ (b : Bool). number 2 b whole 74) little ∙ body-aside told (bodyOf s) size .1 in
+      omega (arith, sum, here, length-append told (bodyOf s), size)
+
   -- What is left is that form, but for byte 4.
-  left : codecRead s out .out
-      ≡ placed 4 (orderByte (reading s .little) ∷ []) (headerBytes (reading s .header) (length (bodyOf s)))
-  unfolding codecRead headerOut
+  left : codecRead s out .out ≡ placed 4 (orderByte (reading s .little) ∷ []) told
+  unfolding codecRead headerOut told
   left =
-      let h = headerBytes (reading s .header) (length (bodyOf s)) in
       let zero : numberOf (reading s .answer) ≡ 0 = ap numberOf done in
       ap (λ (c : Codec). c .out) (choose-true (eqb (length out) 80) _ _ (eq-eqb (length out) 80 room))
       ∙ choose-true (eqb (numberOf (reading s .answer)) 0) _ out (eq-eqb _ 0 zero)
       ∙ ap (placed 4 (orderByte (reading s .little) ∷ []))
-      (placed-all h out (length-header (reading s .header) _ (fits .sized) ∙ sym room))
+      (placed-all told out (size ∙ sym room))
 
-  size : length (headerBytes (reading s .header) (length (bodyOf s))) ≡ 80
-  size = length-header (reading s .header) (length (bodyOf s)) (fits .sized)
+  beside : Beside told (codecRead s out .out) (orderByte (reading s .little))
+  beside =
+      subst (λ (l : List ℕ). Beside told l (orderByte (reading s .little))) (sym left) (order-there told _ size)
 
   -- So its fields are those that were read,
   pub told-fields : headerOf true (codecRead s out .out) ≡ reading s .header
@@ -113,12 +149,25 @@ module _ (s out : List ℕ) (octets : Octets s) (room : length out ≡ 80) (done
   -- byte 4 is 16 of a little-endian sender and 0 of a big-endian one,
   pub told-order : getD (codecRead s out .out) 4 0 ≡ choose (reading s .little) 16 0
   unfolding orderByte
-  told-order = ap (λ (l : List ℕ). getD l 4 0) left ∙ order-there _ _ size .0
+  told-order = beside .order
+
+  -- version 4 and the rest of the representation, 0 and 0, stand there as a header has them,
+  pub told-version : getD (codecRead s out .out) 0 0 ≡ 4
+  unfolding told headerBytes
+  told-version = beside .version
+
+  pub told-representation : (getD (codecRead s out .out) 5 0 ≡ 0) × (getD (codecRead s out .out) 6 0 ≡ 0)
+  unfolding told headerBytes
+  told-representation = (beside .second, beside .third)
+
+  -- the length told is that of the body,
+  pub told-length : number 2 true (codecRead s out .out) 74 ≡ length (bodyOf s)
+  told-length = beside .body ∙ same-length
 
   -- and a write of it is one of the header that was read.
   pub told-written : (body pdu : List ℕ)
       → codecWrite (codecRead s out .out) body pdu ≡ codecWritten (writing (reading s .header) body pdu)
   unfolding codecWrite
   told-written body pdu =
-      choose-true _ _ _ (eq-eqb _ 80 (ap length left ∙ order-there _ _ size .1))
+      choose-true _ _ _ (eq-eqb _ 80 (beside .size))
       ∙ ap (λ (h : Header). codecWritten (writing h body pdu)) told-fields

@@ -1,16 +1,25 @@
--- What a refused call leaves: all lent memory as it was, and a result that is the answer's number alone.
+-- What a refused call leaves: all lent memory as it was, and a result that is the answer's number alone. And what 1 and
+-- 2 judge of a call: its lengths, and whether the bytes lent as a record are readable.
 use Prim.Native.Nat.{ℕ}
+use mathlib.Core.Bool.{Bool, true, not}
 use mathlib.Core.List.{List, []}
 use mathlib.Core.Path.{_≡_}
+use lib.Dec.{eqb, leb}
+use lib.ListN.{length, getD}
+use Rattle.words.specs.Choice.{both, either}
+use Rattle.words.specs.Number.{number}
 use Rattle.answers.specs.declared.Answer.the-variants.{Done}
 use Rattle.answers.specs.Number.{numberOf}
 use Rattle.calls.specs.declared.Notice.the-variants.{Nothing as Untold}
 use Rattle.calls.specs.declared.Sent.the-variants.{Nothing}
+use Rattle.client_bytes.specs.Layout.{readable as clientReadable}
+use Rattle.server_bytes.specs.Layout.{readable as serverReadable}
 use Rattle.history.specs.World.{Side}
 use Rattle.history.specs.Steps.{bytesLent}
-use Rattle.morphelai.specs.Export.{Export}
+use Rattle.morphelai.specs.Export.{Export, sized}
 use Rattle.host_history.specs.Results.{answerIn, noticeIn, sentIn}
 use Rattle.host_history.specs.Hosts.{HostWorld, ClientCall, ServerCall, HostCall, ClientStart, ClientTransmit, ClientArrive, ClientTimer, ServerArrive, ServerTransmit, ServerTimer, ServerReply, ServerFault, ToClient, ToServer}
+use Rattle.host_history.specs.Meaning.{startable}
 
 -- The answer that a host reads is not 0.
 abbrev pub Undone : Export → Type 0
@@ -66,3 +75,39 @@ slotsLent h (ToServer call) = serverLends (h .server) call
 abbrev pub bufferLent : HostCall → List ℕ
 bufferLent (ToClient call) = clientBuffer call
 bufferLent (ToServer call) = serverBuffer call
+
+-- Whether the bytes are readable that a call lends as a record: those of the client, or of the server.
+abbrev pub readableAt : HostWorld → HostCall → Bool
+readableAt h (ToClient call) = clientReadable (h .client .machine)
+readableAt h (ToServer call) = serverReadable (h .server .machine)
+
+-- The message of a transmit has at most 44,544 bytes, and in the state that sends, by the state byte, as many as the
+-- record says at 24.
+abbrev pub messageSized : ℕ → List ℕ → List ℕ → Bool
+messageSized sending bytes message =
+    both (leb (length message) 44544)
+    (either (not (eqb (getD bytes 0 0) sending)) (eqb (length message) (number 4 true bytes 24)))
+
+-- What 1 judges beside the record's length is as it should be: a PDU buffer has 1,472 bytes, a slot buffer 44,544, a
+-- message at most 44,544, and a start's other arguments are an event's. The client sends in state 1, SEND_FRAGS,
+abbrev pub clientSized : Side (List ℕ) → ClientCall → Bool
+clientSized c (ClientStart idempotent object interface version operation n message) =
+    both (startable idempotent object interface) (leb n 44544)
+clientSized c (ClientTransmit message out) = both (eqb (length out) 1472) (messageSized 1 (c .machine) message)
+clientSized c (ClientArrive p lent out) =
+    both (eqb (length (bytesLent lent (c .slots))) 44544) (eqb (length out) 1472)
+clientSized c (ClientTimer kind ticket out) = eqb (length out) 1472
+
+-- the server in state 5, REPLYING.
+abbrev pub serverSized : Side (List ℕ) → ServerCall → Bool
+serverSized s (ServerArrive p lent out) =
+    both (eqb (length (bytesLent lent (s .slots))) 44544) (eqb (length out) 1472)
+serverSized s (ServerTransmit message out) = both (eqb (length out) 1472) (messageSized 5 (s .machine) message)
+serverSized s (ServerTimer kind ticket out) = eqb (length out) 1472
+serverSized s (ServerReply n message) = leb n 44544
+serverSized s (ServerFault status out) = eqb (length out) 1472
+
+-- 1 has nothing to refuse: the record has 272 bytes, and the rest is as it should be.
+abbrev pub sizedAt : HostWorld → HostCall → Bool
+sizedAt h (ToClient call) = both (sized (h .client .machine)) (clientSized (h .client) call)
+sizedAt h (ToServer call) = both (sized (h .server .machine)) (serverSized (h .server) call)

@@ -40,7 +40,12 @@ clientArrived a bytes = clientGiven (a .outcome) bytes (a .slots) (a .out)
 unfoldable pub clientFresh : List ℕ → List ℕ → ℕ → Export
 clientFresh bytes activity tickets =
     choose (both (sized bytes) (eqb (length activity) 16))
-    (record { result = 0; bytes = placed 0 (clientBytes (fresh (uuidIn activity 0) tickets)) bytes; slots = []; out = [] })
+    (record {
+      result = 0;
+      bytes = placed 0 (clientBytes (fresh (uuidIn activity 0) tickets)) bytes;
+      slots = [];
+      out = [];
+    })
     (refusing bytes [] [])
 
 -- The call of a start.
@@ -58,11 +63,13 @@ unfoldable pub startSized : List ℕ → ℕ → List ℕ → List ℕ → Bool
 startSized bytes idempotent object interface =
     both (sized bytes) (both (leb idempotent 1) (both (eqb (length object) 16) (eqb (length interface) 16)))
 
--- morphelai_client_start.
+-- morphelai_client_start, with the length of the message.
 unfoldable pub clientStart : List ℕ → ℕ → List ℕ → List ℕ → ℕ → ℕ → ℕ → Export
-clientStart bytes idempotent object interface version operation n =
+clientStart bytes idempotent object interface version operation length =
     choose (startSized bytes idempotent object interface)
-    (clientGiven (starting (clientIn bytes) (callOf (eqb idempotent 1) object interface version operation) n) bytes [] [])
+    (clientGiven
+    (starting (clientIn bytes) (callOf (eqb idempotent 1) object interface version operation) length)
+    bytes [] [])
     (refusing bytes [] [])
 
 -- morphelai_client_transmit.
@@ -84,7 +91,8 @@ clientTiming c kind ticket bytes out =
 
 -- morphelai_client_timer.
 unfoldable pub clientTimer : List ℕ → ℕ → ℕ → List ℕ → Export
-clientTimer bytes kind ticket out = choose (sized bytes) (clientTiming (clientIn bytes) kind ticket bytes out) (refusing bytes [] out)
+clientTimer bytes kind ticket out =
+    choose (sized bytes) (clientTiming (clientIn bytes) kind ticket bytes out) (refusing bytes [] out)
 
 -- morphelai_client_part: how many bytes are handed up of that fragment.
 unfoldable pub clientPart : List ℕ → ℕ → List ℕ → ℕ

@@ -32,16 +32,21 @@ refusingCodec out = record { result = 1; out = out }
 unfoldable pub orderByte : Bool → ℕ
 orderByte little = choose little 16 0
 
--- The header in its little-endian form, with the sender's order at byte 4; a refusal leaves the buffer as it was.
+-- The header in its little-endian form, before a body of that length, with the sender's order at byte 4; a refusal
+-- leaves the buffer as it was.
 unfoldable pub headerOut : Reading → ℕ → List ℕ → List ℕ
-headerOut r n out =
-    choose (eqb (numberOf (r .answer)) 0) (placed 4 (orderByte (r .little) ∷ []) (placed 0 (headerBytes (r .header) n) out)) out
+headerOut r length out =
+    choose (eqb (numberOf (r .answer)) 0)
+    (placed 4 (orderByte (r .little) ∷ []) (placed 0 (headerBytes (r .header) length) out)) out
 
 -- morphelai_read.
 unfoldable pub codecRead : List ℕ → List ℕ → Codec
 codecRead datagram out =
     choose (eqb (length out) 80)
-    (record { result = numberOf (reading datagram .answer); out = headerOut (reading datagram) (length (bodyOf datagram)) out })
+    (record {
+      result = numberOf (reading datagram .answer);
+      out = headerOut (reading datagram) (length (bodyOf datagram)) out;
+    })
     (refusingCodec out)
 
 -- What writing gives: its answer, and the length of the PDU in 16 bits, which no PDU passes.

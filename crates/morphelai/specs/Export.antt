@@ -28,7 +28,7 @@ pub record Exported (e : Export) (r : ℕ) (bytes slots out : List ℕ) : Type 0
 unfoldable pub sized : List ℕ → Bool
 sized bytes = eqb (length bytes) 272
 
--- 1, of a record or an argument of another length: all is as it was.
+-- 1, of a record or an argument of another length, or an idempotent above 1: all is as it was.
 unfoldable pub refusing : List ℕ → List ℕ → List ℕ → Export
 refusing bytes slots out = record { result = 1; bytes = bytes; slots = slots; out = out }
 
@@ -36,9 +36,10 @@ refusing bytes slots out = record { result = 1; bytes = bytes; slots = slots; ou
 unfoldable pub keptBytes : Answer → List ℕ → List ℕ → List ℕ
 keptBytes answer next bytes = choose (eqb (numberOf answer) 0) (placed 0 next bytes) bytes
 
--- What a timer answers whose kind the side does not have: 1 and 2 first, then 15.
+-- What a timer answers whose kind the side does not have, by the size of the PDU buffer: 1 and 2 first, then 15.
 unfoldable pub otherTimer : Bool → ℕ → ℕ
-otherTimer sound out = choose (not (eqb out 1472)) 1 (choose (not sound) 2 15)
+otherTimer sound size = choose (not (eqb size 1472)) 1 (choose (not sound) 2 15)
 
 unfoldable pub otherKind : Bool → List ℕ → List ℕ → List ℕ → Export
-otherKind sound bytes slots out = record { result = otherTimer sound (length out); bytes = bytes; slots = slots; out = out }
+otherKind sound bytes slots out =
+    record { result = otherTimer sound (length out); bytes = bytes; slots = slots; out = out }

@@ -37,7 +37,12 @@ serverArrived a bytes = serverGiven (a .outcome) bytes (a .slots) (a .out)
 unfoldable pub serverFresh : List ℕ → List ℕ → ℕ → ℕ → Export
 serverFresh bytes activity boot tickets =
     choose (both (sized bytes) (eqb (length activity) 16))
-    (record { result = 0; bytes = placed 0 (serverBytes (fresh (uuidIn activity 0) boot tickets)) bytes; slots = []; out = [] })
+    (record {
+      result = 0;
+      bytes = placed 0 (serverBytes (fresh (uuidIn activity 0) boot tickets)) bytes;
+      slots = [];
+      out = [];
+    })
     (refusing bytes [] [])
 
 -- morphelai_server_arrive.
@@ -57,11 +62,13 @@ serverTiming s kind ticket bytes out =
 
 -- morphelai_server_timer.
 unfoldable pub serverTimer : List ℕ → ℕ → ℕ → List ℕ → Export
-serverTimer bytes kind ticket out = choose (sized bytes) (serverTiming (serverIn bytes) kind ticket bytes out) (refusing bytes [] out)
+serverTimer bytes kind ticket out =
+    choose (sized bytes) (serverTiming (serverIn bytes) kind ticket bytes out) (refusing bytes [] out)
 
--- morphelai_server_reply.
+-- morphelai_server_reply, with the length of the message.
 unfoldable pub serverReply : List ℕ → ℕ → Export
-serverReply bytes n = choose (sized bytes) (serverGiven (replying (serverIn bytes) n) bytes [] []) (refusing bytes [] [])
+serverReply bytes length =
+    choose (sized bytes) (serverGiven (replying (serverIn bytes) length) bytes [] []) (refusing bytes [] [])
 
 -- morphelai_server_fault.
 unfoldable pub serverFault : List ℕ → ℕ → List ℕ → Export

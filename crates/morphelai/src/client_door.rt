@@ -34,7 +34,10 @@ fn keep(o: Outcome, bytes: &mut [u8])
 // Makes a fresh record of an activity, whose first ticket is one more than this.
 #[no_mangle]
 pub extern "C" fn morphelai_client_fresh(bytes: &mut [u8], activity: &[u8], tickets: u64) -> u64
-    ensures { λ r. ⌜ Exported (clientFresh (now (bytes .entry)) (now (activity .entry)) tickets) r (now (bytes .exit)) [] [] ⌝ }
+    ensures { λ r. ⌜
+        Exported (clientFresh (now (bytes .entry)) (now (activity .entry)) tickets)
+        r (now (bytes .exit)) [] []
+        ⌝ }
 {
     if words::both(bytes.len() == record_bytes::SIZE, activity.len() == 16) {
         let fresh = client_record::fresh(record_bytes::uuid(activity, 0), tickets);
@@ -48,12 +51,12 @@ pub extern "C" fn morphelai_client_fresh(bytes: &mut [u8], activity: &[u8], tick
 fn call_of(idempotent: bool, object: &[u8], interface: &[u8], version: u32, operation: u16) -> Call
     ensures { λ r. ⌜ r ≡ callOf idempotent (now (object .entry)) (now (interface .entry)) version operation ⌝ }
 {
-    let o = record_bytes::uuid(object, 0);
-    let i = record_bytes::uuid(interface, 0);
+    let object = record_bytes::uuid(object, 0);
+    let interface = record_bytes::uuid(interface, 0);
     Call {
         idempotent,
-        object: o,
-        interface: i,
+        object,
+        interface,
         version,
         operation,
     }
@@ -79,13 +82,18 @@ pub extern "C" fn morphelai_client_start(
     interface: &[u8],
     version: u32,
     operation: u16,
-    size: u32,
+    length: u32,
 ) -> u64
-    ensures { λ r. ⌜ Exported (clientStart (now (bytes .entry)) idempotent (now (object .entry)) (now (interface .entry)) version operation size) r (now (bytes .exit)) [] [] ⌝ }
+    ensures { λ r. ⌜
+        Exported
+        (clientStart (now (bytes .entry)) idempotent (now (object .entry)) (now (interface .entry))
+        version operation length)
+        r (now (bytes .exit)) [] []
+        ⌝ }
 {
     if is_sized(bytes, idempotent, object, interface) {
         let call = call_of(idempotent == 1, object, interface, version, operation);
-        let o = client::start(client_bytes::decode(bytes), call, size);
+        let o = client::start(client_bytes::decode(bytes), call, length);
         keep(o, bytes);
         return given(o);
     }
@@ -95,7 +103,10 @@ pub extern "C" fn morphelai_client_start(
 // Transmit: the next fragment of the lent message.
 #[no_mangle]
 pub extern "C" fn morphelai_client_transmit(bytes: &mut [u8], message: &[u8], out: &mut [u8]) -> u64
-    ensures { λ r. ⌜ Exported (clientTransmit (now (bytes .entry)) (now (message .entry)) (now (out .entry))) r (now (bytes .exit)) [] (now (out .exit)) ⌝ }
+    ensures { λ r. ⌜
+        Exported (clientTransmit (now (bytes .entry)) (now (message .entry)) (now (out .entry)))
+        r (now (bytes .exit)) [] (now (out .exit))
+        ⌝ }
 {
     if bytes.len() != record_bytes::SIZE {
         return 1;
@@ -113,7 +124,10 @@ pub extern "C" fn morphelai_client_arrive(
     slots: &mut [u8],
     out: &mut [u8],
 ) -> u64
-    ensures { λ r. ⌜ Exported (clientArrive (now (bytes .entry)) (now (datagram .entry)) (now (slots .entry)) (now (out .entry))) r (now (bytes .exit)) (now (slots .exit)) (now (out .exit)) ⌝ }
+    ensures { λ r. ⌜
+        Exported (clientArrive (now (bytes .entry)) (now (datagram .entry)) (now (slots .entry)) (now (out .entry)))
+        r (now (bytes .exit)) (now (slots .exit)) (now (out .exit))
+        ⌝ }
 {
     if bytes.len() != record_bytes::SIZE {
         return 1;
@@ -125,7 +139,10 @@ pub extern "C" fn morphelai_client_arrive(
 
 // A timer of the client that ran out.
 fn run_out(c: Client, kind: TimerKind, ticket: u64, bytes: &mut [u8], out: &mut [u8]) -> u64
-    ensures { λ r. ⌜ Exported (clientStepped (timing c kind ticket (now (out .entry))) (now (bytes .entry))) r (now (bytes .exit)) [] (now (out .exit)) ⌝ }
+    ensures { λ r. ⌜
+        Exported (clientStepped (timing c kind ticket (now (out .entry))) (now (bytes .entry)))
+        r (now (bytes .exit)) [] (now (out .exit))
+        ⌝ }
 {
     let o = client::timer(c, kind, ticket, out);
     keep(o, bytes);
@@ -140,7 +157,10 @@ pub extern "C" fn morphelai_client_timer(
     ticket: u64,
     out: &mut [u8],
 ) -> u64
-    ensures { λ r. ⌜ Exported (clientTimer (now (bytes .entry)) kind ticket (now (out .entry))) r (now (bytes .exit)) [] (now (out .exit)) ⌝ }
+    ensures { λ r. ⌜
+        Exported (clientTimer (now (bytes .entry)) kind ticket (now (out .entry)))
+        r (now (bytes .exit)) [] (now (out .exit))
+        ⌝ }
 {
     if bytes.len() != record_bytes::SIZE {
         return 1;

@@ -26,12 +26,15 @@ fn order_byte(little: bool) -> u8
     0
 }
 
-// Lays a header down in its little-endian form, with the sender's order at byte 4.
-fn lay(h: Header, body: u16, little: bool, out: &mut [u8])
-    ensures { λ _. ⌜ now (out .exit) ≡ placed 4 (orderByte little ∷ []) (placed 0 (headerBytes h body) (now (out .entry))) ⌝ }
+// Lays a header down in its little-endian form, before a body of that length, with the sender's order at byte 4.
+fn lay(header: Header, length: u16, little: bool, out: &mut [u8])
+    ensures { λ _. ⌜
+        now (out .exit)
+        ≡ placed 4 (orderByte little ∷ []) (placed 0 (headerBytes header length) (now (out .entry)))
+        ⌝ }
 {
     let order = [order_byte(little)];
-    writer::write_header(h, body, out);
+    writer::write_header(header, length, out);
     words::put(out, 4, &order);
 }
 
@@ -43,13 +46,13 @@ pub extern "C" fn morphelai_read(datagram: &[u8], out: &mut [u8]) -> u64
     if out.len() != HEADER_SIZE {
         return 1;
     }
-    let size = reader::body(datagram).len();
+    let length = reader::body(datagram).len();
     let reading = reader::read(datagram);
     let answer = reading.answer;
     let header = reading.header;
     let number = answers::number(answer);
     if number == 0 {
-        lay(header, (size % 65536) as u16, reading.little, out);
+        lay(header, (length % 65536) as u16, reading.little, out);
         return 0;
     }
     number as u64
@@ -67,7 +70,10 @@ fn written(w: Written) -> u64
 // Writes the PDU of a header in its little-endian form and a body.
 #[no_mangle]
 pub extern "C" fn morphelai_write(header: &[u8], body: &[u8], out: &mut [u8]) -> u64
-    ensures { λ r. ⌜ Coded (codecWrite (now (header .entry)) (now (body .entry)) (now (out .entry))) r (now (out .exit)) ⌝ }
+    ensures { λ r. ⌜
+        Coded (codecWrite (now (header .entry)) (now (body .entry)) (now (out .entry)))
+        r (now (out .exit))
+        ⌝ }
 {
     if header.len() != HEADER_SIZE {
         return 1;

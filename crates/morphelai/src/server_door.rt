@@ -35,7 +35,10 @@ pub extern "C" fn morphelai_server_fresh(
     boot: u32,
     tickets: u64,
 ) -> u64
-    ensures { λ r. ⌜ Exported (serverFresh (now (bytes .entry)) (now (activity .entry)) boot tickets) r (now (bytes .exit)) [] [] ⌝ }
+    ensures { λ r. ⌜
+        Exported (serverFresh (now (bytes .entry)) (now (activity .entry)) boot tickets)
+        r (now (bytes .exit)) [] []
+        ⌝ }
 {
     if words::both(bytes.len() == record_bytes::SIZE, activity.len() == 16) {
         let fresh = server_record::fresh(record_bytes::uuid(activity, 0), boot, tickets);
@@ -48,7 +51,10 @@ pub extern "C" fn morphelai_server_fresh(
 // Transmit: the next fragment of the lent message.
 #[no_mangle]
 pub extern "C" fn morphelai_server_transmit(bytes: &mut [u8], message: &[u8], out: &mut [u8]) -> u64
-    ensures { λ r. ⌜ Exported (serverTransmit (now (bytes .entry)) (now (message .entry)) (now (out .entry))) r (now (bytes .exit)) [] (now (out .exit)) ⌝ }
+    ensures { λ r. ⌜
+        Exported (serverTransmit (now (bytes .entry)) (now (message .entry)) (now (out .entry)))
+        r (now (bytes .exit)) [] (now (out .exit))
+        ⌝ }
 {
     if bytes.len() != record_bytes::SIZE {
         return 1;
@@ -66,7 +72,10 @@ pub extern "C" fn morphelai_server_arrive(
     slots: &mut [u8],
     out: &mut [u8],
 ) -> u64
-    ensures { λ r. ⌜ Exported (serverArrive (now (bytes .entry)) (now (datagram .entry)) (now (slots .entry)) (now (out .entry))) r (now (bytes .exit)) (now (slots .exit)) (now (out .exit)) ⌝ }
+    ensures { λ r. ⌜
+        Exported (serverArrive (now (bytes .entry)) (now (datagram .entry)) (now (slots .entry)) (now (out .entry)))
+        r (now (bytes .exit)) (now (slots .exit)) (now (out .exit))
+        ⌝ }
 {
     if bytes.len() != record_bytes::SIZE {
         return 1;
@@ -84,7 +93,10 @@ pub extern "C" fn morphelai_server_timer(
     ticket: u64,
     out: &mut [u8],
 ) -> u64
-    ensures { λ r. ⌜ Exported (serverTimer (now (bytes .entry)) kind ticket (now (out .entry))) r (now (bytes .exit)) [] (now (out .exit)) ⌝ }
+    ensures { λ r. ⌜
+        Exported (serverTimer (now (bytes .entry)) kind ticket (now (out .entry)))
+        r (now (bytes .exit)) [] (now (out .exit))
+        ⌝ }
 {
     if bytes.len() != record_bytes::SIZE {
         return 1;
@@ -100,13 +112,13 @@ pub extern "C" fn morphelai_server_timer(
 
 // Reply: a message of this length for the call that is running.
 #[no_mangle]
-pub extern "C" fn morphelai_server_reply(bytes: &mut [u8], size: u32) -> u64
-    ensures { λ r. ⌜ Exported (serverReply (now (bytes .entry)) size) r (now (bytes .exit)) [] [] ⌝ }
+pub extern "C" fn morphelai_server_reply(bytes: &mut [u8], length: u32) -> u64
+    ensures { λ r. ⌜ Exported (serverReply (now (bytes .entry)) length) r (now (bytes .exit)) [] [] ⌝ }
 {
     if bytes.len() != record_bytes::SIZE {
         return 1;
     }
-    let o = server::reply(server_bytes::decode(bytes), size);
+    let o = server::reply(server_bytes::decode(bytes), length);
     keep(o, bytes);
     given(o)
 }
@@ -114,7 +126,10 @@ pub extern "C" fn morphelai_server_reply(bytes: &mut [u8], size: u32) -> u64
 // Fault: the call that is running fails with this status.
 #[no_mangle]
 pub extern "C" fn morphelai_server_fault(bytes: &mut [u8], status: u32, out: &mut [u8]) -> u64
-    ensures { λ r. ⌜ Exported (serverFault (now (bytes .entry)) status (now (out .entry))) r (now (bytes .exit)) [] (now (out .exit)) ⌝ }
+    ensures { λ r. ⌜
+        Exported (serverFault (now (bytes .entry)) status (now (out .entry)))
+        r (now (bytes .exit)) [] (now (out .exit))
+        ⌝ }
 {
     if bytes.len() != record_bytes::SIZE {
         return 1;

@@ -75,7 +75,7 @@ module _ (b : List ℕ) (size : length b ≡ 272) (octets : Octets b) (allowed :
   bytes-fit = record {
     state = byte 0;
     count = byte 2;
-    resends = byte 3;
+    extra = byte 3;
     activity = uuid-fits 96 (omega arith);
     number = number-below 4 true b 16 octets;
     boot = number-below 4 true b 28 octets;
@@ -99,7 +99,7 @@ module _ (b : List ℕ) (size : length b ≡ 272) (octets : Octets b) (allowed :
     };
     tickets = number-below 8 true b 32 octets;
     timer = timer-fits (eqb (getD b 64 0) 1) (number 8 true b 40) (number-below 8 true b 40 octets);
-    ticket = number-below 8 true b 48 octets;
+    word = number-below 8 true b 48 octets;
   }
 
   digits-at : (n at : ℕ) → digits n (number n true b at) ≡ part n b at

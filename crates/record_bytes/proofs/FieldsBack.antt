@@ -29,7 +29,7 @@ spelled : Fields → Fields
 spelled f = record {
   state = f .state;
   count = f .count;
-  resends = f .resends;
+  extra = f .extra;
   activity = part 16 (f .activity) 0;
   number = f .number;
   boot = f .boot;
@@ -45,13 +45,13 @@ spelled f = record {
   tickets = f .tickets;
   timer = f .timer;
   armed = f .armed;
-  ticket = f .ticket;
+  word = f .word;
 }
 
 -- Three of the ten parts that its bytes are, the first without its first four bytes too.
 abbrev frontOf : Fields → List ℕ
 frontOf f =
-    frontBytes (f .state) (markOf (f .call .idempotent)) (f .count) (f .resends) (f .outgoing)
+    frontBytes (f .state) (markOf (f .call .idempotent)) (f .count) (f .extra) (f .outgoing)
     (lastNumber (f .incoming .last)) (f .call .operation)
 
 abbrev countsOf : Fields → List ℕ
@@ -69,7 +69,7 @@ module _ (f : Fields) (fits : FitsFields f) where
   spelled-same = λ i. record {
     state = f .state;
     count = f .count;
-    resends = f .resends;
+    extra = f .extra;
     activity = part-all 16 (f .activity) (fits .activity .size) i;
     number = f .number;
     boot = f .boot;
@@ -85,7 +85,7 @@ module _ (f : Fields) (fits : FitsFields f) where
     tickets = f .tickets;
     timer = f .timer;
     armed = f .armed;
-    ticket = f .ticket;
+    word = f .word;
   }
 
   size-spelled : length (fieldBytes (spelled f)) ≡ 272
@@ -100,7 +100,7 @@ module _ (f : Fields) (fits : FitsFields f) where
   back-spelled = λ i. record {
     state = f .state;
     count = f .count;
-    resends = f .resends;
+    extra = f .extra;
     activity = uuid-part (fieldBytes (spelled f)) 96 (omega (arith, size-spelled)) i;
     number = value-bytes 4 true (f .number) (fits .number) i;
     boot = value-bytes 4 true (f .boot) (fits .boot) i;
@@ -125,7 +125,7 @@ module _ (f : Fields) (fits : FitsFields f) where
     tickets = value-bytes 8 true (f .tickets) (fits .tickets) i;
     timer = timer-back (f .timer) (fits .timer) i;
     armed = mark-back (f .armed) i;
-    ticket = value-bytes 8 true (f .ticket) (fits .ticket) i;
+    word = value-bytes 8 true (f .word) (fits .word) i;
   }
 
   readable-spelled : readable (fieldBytes (spelled f)) ≡ true
@@ -152,7 +152,7 @@ module _ (f : Fields) (fits : FitsFields f) where
       (o .count, (omega arith, (o .sent, (omega arith, (o .acknowledged, (omega arith, shorts))))))
 
   octets-front : Octets (frontOf f)
-  octets-front = (fits .state, (mark-small (f .call .idempotent), (fits .count, (fits .resends, octets-counts))))
+  octets-front = (fits .state, (mark-small (f .call .idempotent), (fits .count, (fits .extra, octets-counts))))
 
   octets-numbers : Octets (numbersOf f)
   octets-numbers =
@@ -168,7 +168,7 @@ module _ (f : Fields) (fits : FitsFields f) where
   unfolding fieldBytes
   octets-fields =
       octets-laid (frontOf f) (numbersOf f) (digits 8 (f .tickets)) (digits 8 (timerTicket (f .timer)))
-      (digits 8 (f .ticket)) (backOf f) (f .activity) (f .call .object) (f .call .interface)
+      (digits 8 (f .word)) (backOf f) (f .activity) (f .call .object) (f .call .interface)
       (slotsBytes (f .incoming .slots))
       octets-front octets-numbers (octets-digits 8 _) (octets-digits 8 _) (octets-digits 8 _)
       octets-back (fits .activity .octets) (fits .call .object .octets) (fits .call .interface .octets)

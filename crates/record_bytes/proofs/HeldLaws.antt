@@ -1,4 +1,5 @@
--- One more slot, one more that is readable, one more byte that is 0, of those that bytes give, and the bytes of one more slot.
+-- One more slot, one more that is readable, one more byte that is 0, of those that bytes give, and the bytes of one
+-- more slot.
 use Prim.Native.Nat.{ℕ, _+_, _*_, _<_, _≤_}
 use mathlib.Core.Bool.{Bool}
 use mathlib.Core.List.{List, [], _∷_, _++_}

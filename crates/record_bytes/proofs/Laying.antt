@@ -48,10 +48,11 @@ octets-laid a b t u v n x y z h pa pb pt pu pv pn px py pz ph =
     (octets-four u v n (x ++ (y ++ (z ++ h))) pu pv pn (octets-four x y z h px py pz ph))
 
 -- Equal fields give equal bytes.
-pub front-same : {idempotent idempotent' last last' : ℕ} (state count resends operation : ℕ) (o : Outgoing)
+pub front-same : {idempotent idempotent' last last' : ℕ} (state count extra operation : ℕ) (outgoing : Outgoing)
     → idempotent ≡ idempotent' → last ≡ last'
-    → frontBytes state idempotent count resends o last operation ≡ frontBytes state idempotent' count resends o last' operation
-front-same state count resends operation o p q = λ i. frontBytes state (p i) count resends o (q i) operation
+    → frontBytes state idempotent count extra outgoing last operation
+    ≡ frontBytes state idempotent' count extra outgoing last' operation
+front-same state count extra operation outgoing p q = λ i. frontBytes state (p i) count extra outgoing (q i) operation
 
 pub parts-same : {a a' b b' t t' u u' v v' n n' h h' : List ℕ} (x y z : List ℕ)
     → a ≡ a' → b ≡ b' → t ≡ t' → u ≡ u' → v ≡ v' → n ≡ n' → h ≡ h'

@@ -10,3 +10,4 @@ pub mod FieldsBack
 pub mod Reading
 pub mod SlotReading
 pub mod FieldsAgain
+pub mod Alike

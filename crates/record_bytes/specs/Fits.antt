@@ -69,7 +69,7 @@ FitsTimer (Armed ticket) = ticket < 18446744073709551616
 pub record FitsFields (f : Fields) : Type 0 where
   pub state : f .state < 256
   pub count : f .count < 256
-  pub resends : f .resends < 256
+  pub extra : f .extra < 256
   pub activity : Uuid (f .activity)
   pub number : f .number < 4294967296
   pub boot : f .boot < 4294967296
@@ -78,4 +78,4 @@ pub record FitsFields (f : Fields) : Type 0 where
   pub incoming : FitsIncoming (f .incoming)
   pub tickets : f .tickets < 18446744073709551616
   pub timer : FitsTimer (f .timer)
-  pub ticket : f .ticket < 18446744073709551616
+  pub word : f .word < 18446744073709551616

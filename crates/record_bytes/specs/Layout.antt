@@ -67,7 +67,7 @@ unfoldable pub fieldsIn : List ℕ → Fields
 fieldsIn s = record {
   state = getD s 0 0;
   count = getD s 2 0;
-  resends = getD s 3 0;
+  extra = getD s 3 0;
   activity = uuidIn s 96;
   number = number 4 true s 16;
   boot = number 4 true s 28;
@@ -77,23 +77,23 @@ fieldsIn s = record {
   tickets = number 8 true s 32;
   timer = timerWhere (eqb (getD s 64 0) 1) (number 8 true s 40);
   armed = eqb (getD s 65 0) 1;
-  ticket = number 8 true s 48;
+  word = number 8 true s 48;
 }
 
 -- Bytes 0 to 15: state, idempotent, two counts; fragment count, sent, acknowledged; known last, serial, operation.
 abbrev pub frontBytes : ℕ → ℕ → ℕ → ℕ → Outgoing → ℕ → ℕ → List ℕ
-frontBytes state idempotent count resends o last operation =
+frontBytes state idempotent count extra outgoing last operation =
     state
     ∷ (idempotent
     ∷ (count
-    ∷ (resends
-    ∷ (o .count
+    ∷ (extra
+    ∷ (outgoing .count
     ∷ (0
-    ∷ (o .sent
+    ∷ (outgoing .sent
     ∷ (0
-    ∷ (o .acknowledged
+    ∷ (outgoing .acknowledged
     ∷ (0
-    ∷ (digits 2 last ++ (digits 2 (o .serial) ++ digits 2 operation)))))))))))
+    ∷ (digits 2 last ++ (digits 2 (outgoing .serial) ++ digits 2 operation)))))))))))
 
 -- Bytes 16 to 31: number, interface version, message length, boot.
 abbrev pub numberBytes : ℕ → ℕ → ℕ → ℕ → List ℕ
@@ -103,8 +103,10 @@ numberBytes number version length boot = digits 4 number ++ (digits 4 version ++
 abbrev pub backBytes : ℕ → ℕ → List ℕ
 backBytes first second = replicate 8 0 ++ (first ∷ (second ∷ replicate 30 0))
 
--- Ten parts, one behind the other: tickets are bytes 32 to 55, the UUIDs 96 to 143, the slots the rest.
-abbrev pub laidBytes : List ℕ → List ℕ → List ℕ → List ℕ → List ℕ → List ℕ → List ℕ → List ℕ → List ℕ → List ℕ → List ℕ
+-- Ten parts, one behind the other: the ticket counter is bytes 32 to 39, the first timer's ticket 40 to 47, the
+-- second's, at a server the status, 48 to 55, the UUIDs are 96 to 143, the slots the rest.
+abbrev pub laidBytes
+    : List ℕ → List ℕ → List ℕ → List ℕ → List ℕ → List ℕ → List ℕ → List ℕ → List ℕ → List ℕ → List ℕ
 laidBytes front numbers tickets first second back activity object interface held =
     front ++ (numbers ++ (tickets ++ (first ++ (second ++ (back ++ (activity ++ (object ++ (interface ++ held))))))))
 
@@ -112,11 +114,12 @@ laidBytes front numbers tickets first second back activity object interface held
 unfoldable pub fieldBytes : Fields → List ℕ
 fieldBytes f =
     laidBytes
-    (frontBytes (f .state) (markOf (f .call .idempotent)) (f .count) (f .resends) (f .outgoing) (lastNumber (f .incoming .last)) (f .call .operation))
+    (frontBytes (f .state) (markOf (f .call .idempotent)) (f .count) (f .extra) (f .outgoing)
+    (lastNumber (f .incoming .last)) (f .call .operation))
     (numberBytes (f .number) (f .call .version) (f .outgoing .length) (f .boot))
     (digits 8 (f .tickets))
     (digits 8 (timerTicket (f .timer)))
-    (digits 8 (f .ticket))
+    (digits 8 (f .word))
     (backBytes (markOf (isArmed (f .timer))) (markOf (f .armed)))
     (f .activity)
     (f .call .object)

@@ -23,11 +23,11 @@ pub struct Fields {
     pub state: u8,
     // The WAIT count of a client, the RESEND count of a server.
     pub count: u8,
-    // The resends of a client.
-    pub resends: u8,
+    // A count that only a client has, its resends; 0 at a server.
+    pub extra: u8,
     pub activity: [u8; 16],
     pub number: u32,
-    // The boot of a server.
+    // The boot of a server; 0 at a client.
     pub boot: u32,
     pub call: Call,
     pub outgoing: Outgoing,
@@ -35,9 +35,10 @@ pub struct Fields {
     pub tickets: u64,
     // The WAIT timer of a client, the RESEND timer of a server.
     pub timer: Timer,
-    // Whether the ACK timer of a client is armed, and its ticket; at a server its fault's status.
+    // Whether the ACK timer of a client is armed; false at a server.
     pub armed: bool,
-    pub ticket: u64,
+    // The ticket of a client's ACK timer, the status of a server's fault.
+    pub word: u64,
 }
 
 // 1 where the test holds, else 0.
@@ -198,7 +199,7 @@ fn slots(s: &[u8]) -> [Slot; 32]
 }
 
 // Whether fragment f's held byte is 0 or 1 and its spare byte 0.
-fn is_slot(s: &[u8], f: u8) -> bool
+fn is_slot_readable(s: &[u8], f: u8) -> bool
     ensures { λ r. ⌜ r ≡ slotReadable (now (s .entry)) f ⌝ }
 {
     let at = 4 * (f as usize);
@@ -208,13 +209,13 @@ fn is_slot(s: &[u8], f: u8) -> bool
 }
 
 // Whether all 32 slots are readable.
-fn are_slots(s: &[u8]) -> bool
+fn are_slots_readable(s: &[u8]) -> bool
     ensures { λ r. ⌜ r ≡ slotsReadable (now (s .entry)) ⌝ }
 {
     let mut all = true;
     let mut f: u8 = 0;
     while f < 32 {
-        let one = is_slot(s, f);
+        let one = is_slot_readable(s, f);
         all = words::both(all, one);
         f += 1;
     }
@@ -256,28 +257,28 @@ pub fn count_where(readable: bool, count: u8) -> u8
 }
 
 // Whether the known last is unknown, or fits a byte.
-fn is_last(number: u16) -> bool
+fn is_last_readable(number: u16) -> bool
     ensures { λ r. ⌜ r ≡ lastReadable number ⌝ }
 {
     words::either(number < 256, number == 65535)
 }
 
 // Whether the marks idempotent, first and second armed are 0 or 1.
-fn are_marks(idempotent: u8, first: u8, second: u8) -> bool
+fn are_marks_readable(idempotent: u8, first: u8, second: u8) -> bool
     ensures { λ r. ⌜ r ≡ marksReadable idempotent first second ⌝ }
 {
     words::both(idempotent <= 1, words::both(first <= 1, second <= 1))
 }
 
 // Whether the three counts of two bytes fit a byte each: their high bytes are 0.
-fn are_counts(count: u8, sent: u8, acknowledged: u8) -> bool
+fn are_counts_readable(count: u8, sent: u8, acknowledged: u8) -> bool
     ensures { λ r. ⌜ r ≡ countsReadable count sent acknowledged ⌝ }
 {
     words::both(count == 0, words::both(sent == 0, acknowledged == 0))
 }
 
 // Whether the places that are spare on both sides are 0.
-fn are_spares(s: &[u8]) -> bool
+fn are_spares_readable(s: &[u8]) -> bool
     ensures { λ r. ⌜ r ≡ sparesReadable (now (s .entry)) ⌝ }
 {
     let ticket = is_clear(words::behind(s, 56), 8);
@@ -289,19 +290,19 @@ fn are_spares(s: &[u8]) -> bool
 pub fn is_readable(s: &[u8]) -> bool
     ensures { λ r. ⌜ r ≡ readable (now (s .entry)) ⌝ }
 {
-    let marks = are_marks(
+    let marks = are_marks_readable(
         words::byte_at(s, 1),
         words::byte_at(s, 64),
         words::byte_at(s, 65),
     );
-    let counts = are_counts(
+    let counts = are_counts_readable(
         words::byte_at(s, 5),
         words::byte_at(s, 7),
         words::byte_at(s, 9),
     );
-    let last = is_last(words::number16(s, 10, true));
-    let spares = are_spares(s);
-    let slots = are_slots(words::behind(s, 144));
+    let last = is_last_readable(words::number16(s, 10, true));
+    let spares = are_spares_readable(s);
+    let slots = are_slots_readable(words::behind(s, 144));
     words::both(
         marks,
         words::both(counts, words::both(last, words::both(spares, slots))),
@@ -359,7 +360,7 @@ pub fn decode(s: &[u8]) -> Fields
     Fields {
         state: words::byte_at(s, 0),
         count: words::byte_at(s, 2),
-        resends: words::byte_at(s, 3),
+        extra: words::byte_at(s, 3),
         activity,
         number: words::number32(s, 16, true),
         boot: words::number32(s, 28, true),
@@ -369,7 +370,7 @@ pub fn decode(s: &[u8]) -> Fields
         tickets: number64(s, 32),
         timer,
         armed,
-        ticket: number64(s, 48),
+        word: number64(s, 48),
     }
 }
 
@@ -378,33 +379,33 @@ fn front(
     state: u8,
     idempotent: u8,
     count: u8,
-    resends: u8,
-    o: Outgoing,
+    extra: u8,
+    outgoing: Outgoing,
     last: u16,
     operation: u16,
 ) -> [u8; 16]
-    ensures { λ r. ⌜ r ≡ frontBytes state idempotent count resends o last operation ⌝ }
+    ensures { λ r. ⌜ r ≡ frontBytes state idempotent count extra outgoing last operation ⌝ }
 {
-    let a = words::split16(last);
-    let b = words::split16(o.serial);
-    let c = words::split16(operation);
+    let known = words::split16(last);
+    let serial = words::split16(outgoing.serial);
+    let called = words::split16(operation);
     [
         state,
         idempotent,
         count,
-        resends,
-        o.count,
+        extra,
+        outgoing.count,
         0,
-        o.sent,
+        outgoing.sent,
         0,
-        o.acknowledged,
+        outgoing.acknowledged,
         0,
-        a[0],
-        a[1],
-        b[0],
-        b[1],
-        c[0],
-        c[1],
+        known[0],
+        known[1],
+        serial[0],
+        serial[1],
+        called[0],
+        called[1],
     ]
 }
 
@@ -412,27 +413,27 @@ fn front(
 fn numbers(number: u32, version: u32, length: u32, boot: u32) -> [u8; 16]
     ensures { λ r. ⌜ r ≡ numberBytes number version length boot ⌝ }
 {
-    let a = words::split32(number);
-    let b = words::split32(version);
-    let c = words::split32(length);
-    let d = words::split32(boot);
+    let first = words::split32(number);
+    let second = words::split32(version);
+    let third = words::split32(length);
+    let fourth = words::split32(boot);
     [
-        a[0],
-        a[1],
-        a[2],
-        a[3],
-        b[0],
-        b[1],
-        b[2],
-        b[3],
-        c[0],
-        c[1],
-        c[2],
-        c[3],
-        d[0],
-        d[1],
-        d[2],
-        d[3],
+        first[0],
+        first[1],
+        first[2],
+        first[3],
+        second[0],
+        second[1],
+        second[2],
+        second[3],
+        third[0],
+        third[1],
+        third[2],
+        third[3],
+        fourth[0],
+        fourth[1],
+        fourth[2],
+        fourth[3],
     ]
 }
 
@@ -455,7 +456,10 @@ fn lay_front(
     second: [u8; 8],
     out: &mut [u8],
 )
-    ensures { λ _. ⌜ now (out .exit) ≡ placed 48 second (placed 40 first (placed 32 tickets (placed 16 numbers (placed 0 front (now (out .entry)))))) ⌝ }
+    ensures { λ _. ⌜
+        now (out .exit)
+        ≡ placed 48 second (placed 40 first (placed 32 tickets (placed 16 numbers (placed 0 front (now (out .entry))))))
+        ⌝ }
 {
     words::put(out, 0, &front);
     words::put(out, 16, &numbers);
@@ -473,7 +477,11 @@ fn lay_back(
     held: [u8; 128],
     out: &mut [u8],
 )
-    ensures { λ _. ⌜ now (out .exit) ≡ placed 144 held (placed 128 interface (placed 112 object (placed 96 activity (placed 56 back (now (out .entry)))))) ⌝ }
+    ensures { λ _. ⌜
+        now (out .exit)
+        ≡ placed 144 held
+        (placed 128 interface (placed 112 object (placed 96 activity (placed 56 back (now (out .entry))))))
+        ⌝ }
 {
     words::put(out, 56, &back);
     words::put(out, 96, &activity);
@@ -496,7 +504,11 @@ fn lay(
     held: [u8; 128],
     out: &mut [u8],
 )
-    ensures { λ _. ⌜ now (out .exit) ≡ placed 0 (laidBytes front numbers tickets first second back activity object interface held) (now (out .entry)) ⌝ }
+    ensures { λ _. ⌜
+        now (out .exit)
+        ≡ placed 0 (laidBytes front numbers tickets first second back activity object interface held)
+        (now (out .entry))
+        ⌝ }
 {
     if out.len() < SIZE {
         return;
@@ -506,32 +518,44 @@ fn lay(
 }
 
 // Lays the 272 bytes of a record down; where they do not fit, the buffer stays as it was.
-pub fn encode(f: Fields, out: &mut [u8])
-    ensures { λ _. ⌜ now (out .exit) ≡ placed 0 (fieldBytes f) (now (out .entry)) ⌝ }
+pub fn encode(fields: Fields, out: &mut [u8])
+    ensures { λ _. ⌜ now (out .exit) ≡ placed 0 (fieldBytes fields) (now (out .entry)) ⌝ }
 {
-    let call = f.call;
-    let o = f.outgoing;
-    let m = f.incoming;
-    let last = m.last;
-    let slots = m.slots;
-    let timer = f.timer;
-    let activity = f.activity;
+    let call = fields.call;
+    let outgoing = fields.outgoing;
+    let incoming = fields.incoming;
+    let last = incoming.last;
+    let slots = incoming.slots;
+    let timer = fields.timer;
+    let activity = fields.activity;
     let object = call.object;
     let interface = call.interface;
-    let a = front(
-        f.state,
+    let front = front(
+        fields.state,
         mark(call.idempotent),
-        f.count,
-        f.resends,
-        o,
+        fields.count,
+        fields.extra,
+        outgoing,
         last_number(last),
         call.operation,
     );
-    let b = numbers(f.number, call.version, o.length, f.boot);
-    let t = split64(f.tickets);
-    let u = split64(timer_ticket(timer));
-    let v = split64(f.ticket);
-    let z = back(mark(is_armed(timer)), mark(f.armed));
+    let numbers = numbers(fields.number, call.version, outgoing.length, fields.boot);
+    let tickets = split64(fields.tickets);
+    let first = split64(timer_ticket(timer));
+    let second = split64(fields.word);
+    let back = back(mark(is_armed(timer)), mark(fields.armed));
     let held = slots_bytes(slots);
-    lay(a, b, t, u, v, z, activity, object, interface, held, out);
+    lay(
+        front,
+        numbers,
+        tickets,
+        first,
+        second,
+        back,
+        activity,
+        object,
+        interface,
+        held,
+        out,
+    );
 }

@@ -1,2 +1,2 @@
--- Two lists of events that keep every premise of the theorem.
+-- Three lists of events that keep every premise of the theorem.
 pub mod Runs

@@ -42,7 +42,7 @@ module _ (s : Server) (fits : FitsServer s) where
   fields-fit = record {
     state = omega (arith, state-small (s .state));
     count = fits .resends;
-    resends = omega arith;
+    extra = omega arith;
     activity = fits .activity;
     number = fits .number;
     boot = fits .boot;
@@ -51,7 +51,7 @@ module _ (s : Server) (fits : FitsServer s) where
     incoming = fits .incoming;
     tickets = fits .tickets;
     timer = fits .resend;
-    ticket = omega (arith, status-small (s .state) (fits .state));
+    word = omega (arith, status-small (s .state) (fits .state));
   }
 
   pub server-readable : readable (serverBytes s) ≡ true
@@ -105,7 +105,7 @@ module _ (s : Server) (fits : FitsServer s) where
 -- Readable bytes, by their parts.
 record Known (b : List ℕ) : Type 0 where
   state : getD b 0 0 ≤ 7
-  resends : getD b 3 0 ≡ 0
+  extra : getD b 3 0 ≡ 0
   second : getD b 65 0 ≡ 0
   high : part 4 b 52 ≡ replicate 4 0
   shared : sharedReadable b ≡ true
@@ -119,7 +119,7 @@ known b e =
     let second = both-true _ _ (own .1) in
     record {
       state = leb-true (getD b 0 0) 7 (state .0);
-      resends = eqb-true (getD b 3 0) 0 (own .0);
+      extra = eqb-true (getD b 3 0) 0 (own .0);
       second = eqb-true (getD b 65 0) 0 (second .0);
       high = clear-part 4 b 52 (second .1);
       shared = rest .1;
@@ -149,7 +149,7 @@ unfolding serverIn serverOf sound both choose
 unreadable-broken b e = rw (count-broken (readable b) (fieldsIn b .count) e)
 
 module _ (b : List ℕ) (canonical : Canonical b) where
-  -- The ticket at 48 is the status, as its high bytes are 0.
+  -- The word at 48 is the status, as its high bytes are 0.
   status-whole : number 4 true b 48 ≡ number 8 true b 48
   unfolding number
   status-whole =
@@ -166,7 +166,7 @@ module _ (b : List ℕ) (canonical : Canonical b) where
       λ i. record {
         state = state-again (getD b 0 0) (number 4 true b 48) (k .state) i;
         count = count-again (readable b) (getD b 2 0) (canonical .readable) i;
-        resends = sym (k .resends) i;
+        extra = sym (k .extra) i;
         activity = uuidIn b 96;
         number = number 4 true b 16;
         boot = number 4 true b 28;
@@ -176,7 +176,7 @@ module _ (b : List ℕ) (canonical : Canonical b) where
         tickets = number 8 true b 32;
         timer = timerWhere (eqb (getD b 64 0) 1) (number 8 true b 40);
         armed = armed i;
-        ticket = status i;
+        word = status i;
       }
 
   -- Canonical bytes as a record and back are the bytes again.

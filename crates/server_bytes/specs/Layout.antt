@@ -89,7 +89,7 @@ unfoldable pub fieldsOf : Server → Fields
 fieldsOf s = record {
   state = stateNumber (s .state);
   count = s .resends;
-  resends = 0;
+  extra = 0;
   activity = s .activity;
   number = s .number;
   boot = s .boot;
@@ -99,7 +99,7 @@ fieldsOf s = record {
   tickets = s .tickets;
   timer = s .resend;
   armed = false;
-  ticket = statusOf (s .state);
+  word = statusOf (s .state);
 }
 
 -- The bytes of a record.

@@ -149,7 +149,7 @@ fn fields_of(s: Server) -> Fields
     Fields {
         state: state_number(state),
         count: s.resends,
-        resends: 0,
+        extra: 0,
         activity,
         number: s.number,
         boot: s.boot,
@@ -159,7 +159,7 @@ fn fields_of(s: Server) -> Fields
         tickets: s.tickets,
         timer,
         armed: false,
-        ticket: status_of(state) as u64,
+        word: status_of(state) as u64,
     }
 }
 

@@ -15,12 +15,12 @@ returns : tie.Need-returns
 unfolding fieldBytes
 returns c =
     let start = c .before .before .before .before .before .before .before .before .before .before .before .before .before .before .before .before .before .before .before .before .before .before .before .before .before in
-    let r = start .args .f in
+    let r = start .args .fields in
     c .before .before .lay .ensures
     ∙ ap (λ (l : List ℕ). placed 0 l (start .args .out .now))
     (parts-same (r .activity) (r .call .object) (r .call .interface)
     (c .before .before .before .before .before .before .before .before .before .before .before .before .before .before .front .ensures
-    ∙ front-same (r .state) (r .count) (r .resends) (r .call .operation) (r .outgoing)
+    ∙ front-same (r .state) (r .count) (r .extra) (r .call .operation) (r .outgoing)
     (c .before .before .before .before .before .before .before .before .before .before .before .before .before .before .before .before .mark .ensures)
     (c .before .before .before .before .before .before .before .before .before .before .before .before .before .before .before .last-number .ensures))
     (c .before .before .before .before .before .before .before .before .before .before .before .before .before .numbers .ensures)

@@ -1,8 +1,8 @@
--- `record_bytes::are_spares` meets its contract.
+-- `record_bytes::are_spares_readable` meets its contract.
 use borrow.Author.Needs.{needs}
 use Rattle.record_bytes.specs.Layout.{sparesReadable}
-use Rattle.record_bytes.proofs.are_spares.Statement.{statement}
-use Rattle.record_bytes.proofs.are_spares.Tie as tie
+use Rattle.record_bytes.proofs.are_spares_readable.Statement.{statement}
+use Rattle.record_bytes.proofs.are_spares_readable.Tie as tie
 
 returns : tie.Need-returns
 unfolding sparesReadable
@@ -15,8 +15,8 @@ returns c =
       c .before .before .before .before .behind .ensures,
     )
 
-pub are-spares-spec : {M : Type 1} → statement M
-are-spares-spec =
+pub are-spares-readable-spec : {M : Type 1} → statement M
+are-spares-readable-spec =
     tie.close
     (tie.spec
     (λ c κs. search needs)

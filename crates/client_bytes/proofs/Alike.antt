@@ -1,0 +1,102 @@
+-- Bytes that are the same but at places that are not judged are both readable as a client's record or both not, and
+-- stand for the same record.
+use Prim.Native.Nat.{ℕ, _+_, _*_, _≤_, _<_}
+use mathlib.Core.Bool.{true}
+use mathlib.Core.List.{List}
+use mathlib.Core.Logic.{_⊎_, inl, inr}
+use mathlib.Core.Path.{_≡_, _∙_}
+use native.Mathlib.Omega.{arith}
+use lib.Dec.{eqb}
+use lib.ListN.{length, getD}
+use Rattle.words.specs.Number.{number}
+use Rattle.words.specs.Place.{placed}
+use Rattle.record_bytes.specs.Canonical.{SharedUnjudged, SameButAt}
+use Rattle.record_bytes.specs.Parts.{timerWhere}
+use Rattle.record_bytes.specs.Layout.{fieldsIn}
+use Rattle.record_bytes.proofs.Alike.{timer-alike, mark-not-zero, number-alike, clear-alike, front-alike, shared-readable, fields-alike, put-alike}
+use Rattle.client_bytes.specs.Canonical.{Unjudged}
+use Rattle.client_bytes.specs.Layout.{readable, clientOf, clientIn}
+
+module _ (b c : List ℕ) (alike : SameButAt (Unjudged b) b c) where
+  own : (i : ℕ) → Unjudged b i → SharedUnjudged b i ⊎ ((48 ≤ i) × (i < 56))
+  own i (inl u) = inl u
+  own i (inr u) = inr (u .1, u .2)
+
+  front : (i : ℕ) → i < 40 → getD c i 0 ≡ getD b i 0
+  front = front-alike (Unjudged b) b c alike own
+
+  -- The ticket of ACK is judged where it is armed.
+  ack-ticket : (getD b 65 0 ≡ 0 → ⊥) → number 8 true c 48 ≡ number 8 true b 48
+  ack-ticket armed =
+      number-alike 8 b c 48 (λ (i : ℕ) (low : 48 ≤ i) (high : i < 56). alike .same i (judged i low high))
+    where
+      judged : (i : ℕ) → 48 ≤ i → i < 56 → Unjudged b i → ⊥
+      judged i low high (inl (inl u)) = omega (arith, u .2)
+      judged i low high (inl (inr u)) = omega (arith, u .from)
+      judged i low high (inr u) = armed (u .0)
+
+  ack-alike : timerWhere (eqb (getD b 65 0) 1) (number 8 true c 48)
+      ≡ timerWhere (eqb (getD b 65 0) 1) (number 8 true b 48)
+  ack-alike =
+      timer-alike (eqb (getD b 65 0) 1) _ _
+      (λ (e : eqb (getD b 65 0) 1 ≡ true). ack-ticket (mark-not-zero (getD b 65 0) e))
+
+  pub client-readable-alike : readable c ≡ readable b
+  unfolding readable
+  client-readable-alike =
+      rw (
+        front 0 (omega arith),
+        clear-alike 4 b c 28 (λ (k : ℕ) (low : 28 ≤ k) (high : k < 32). front k (omega arith)),
+        shared-readable (Unjudged b) b c alike own,
+      )
+
+  pub client-alike : clientIn c ≡ clientIn b
+  unfolding clientIn clientOf fieldsIn
+  client-alike =
+      (λ i. clientOf (client-readable-alike i) (fields-alike (Unjudged b) b c alike own i))
+      ∙ (λ i. record {
+        state = clientIn b .state;
+        activity = clientIn b .activity;
+        number = clientIn b .number;
+        call = clientIn b .call;
+        outgoing = clientIn b .outgoing;
+        incoming = clientIn b .incoming;
+        waits = clientIn b .waits;
+        resends = clientIn b .resends;
+        tickets = clientIn b .tickets;
+        wait = clientIn b .wait;
+        ack = ack-alike i;
+      })
+
+-- So whatever is put into places that are not judged, nothing changes.
+put-any : (at : ℕ) (s b : List ℕ) → length b ≡ 272 → at + length s ≤ 272
+    → ((i : ℕ) → at ≤ i → i < at + length s → Unjudged b i)
+    → (readable (placed at s b) ≡ readable b) × (clientIn (placed at s b) ≡ clientIn b)
+put-any at s b size room there =
+    let alike : SameButAt (Unjudged b) b (placed at s b) = put-alike (Unjudged b) at s b size room there in
+    (client-readable-alike b _ alike, client-alike b _ alike)
+
+module _ (b : List ℕ) (size : length b ≡ 272) where
+  -- Any 8 bytes as the ticket of WAIT where it is not armed.
+  pub wait-ticket-any : (ticket : List ℕ) → length ticket ≡ 8 → getD b 64 0 ≡ 0
+      → (readable (placed 40 ticket b) ≡ readable b) × (clientIn (placed 40 ticket b) ≡ clientIn b)
+  wait-ticket-any ticket width unarmed =
+      put-any 40 ticket b size (omega (arith, width))
+      (λ (i : ℕ) (low : 40 ≤ i) (high : i < 40 + length ticket).
+      inl (inl (unarmed, low, omega (arith, high, width))))
+
+  -- Any 8 bytes as the ticket of ACK where it is not armed.
+  pub ack-ticket-any : (ticket : List ℕ) → length ticket ≡ 8 → getD b 65 0 ≡ 0
+      → (readable (placed 48 ticket b) ≡ readable b) × (clientIn (placed 48 ticket b) ≡ clientIn b)
+  ack-ticket-any ticket width unarmed =
+      put-any 48 ticket b size (omega (arith, width))
+      (λ (i : ℕ) (low : 48 ≤ i) (high : i < 48 + length ticket).
+      inr (unarmed, low, omega (arith, high, width)))
+
+  -- Any 2 bytes as the length of a slot that is not held.
+  pub length-any : (f : ℕ) (two : List ℕ) → f < 32 → length two ≡ 2 → getD b (4 * f + 146) 0 ≡ 0
+      → (readable (placed (4 * f + 144) two b) ≡ readable b) × (clientIn (placed (4 * f + 144) two b) ≡ clientIn b)
+  length-any f two below width missing =
+      put-any (4 * f + 144) two b size (omega (arith, below, width))
+      (λ (i : ℕ) (low : 4 * f + 144 ≤ i) (high : i < 4 * f + 144 + length two).
+      inl (inr (record { fragment = f; missing = missing; from = low; below = omega (arith, high, width) })))

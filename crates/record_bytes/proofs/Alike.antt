@@ -1,0 +1,276 @@
+-- Bytes that are the same but at places that are not judged are both readable or both not, and the same stands in them.
+use Prim.Native.Nat.{ℕ, zero, suc, _+_, _-_, _*_, _≤_, _<_}
+use mathlib.Core.Bool.{Bool, true, false}
+use mathlib.Core.List.{List, _∷_, _++_}
+use mathlib.Core.Logic.{_⊎_, inl, inr}
+use mathlib.Core.Path.{_≡_, refl, sym, ap, _∙_}
+use native.Mathlib.Omega.{arith}
+use lib.Dec.{eqb, ltb}
+use lib.ListN.{length, getD, take, drop, set, List·getD-append}
+use lib.Seq.{getD-append-add, getD-take, getD-drop, length-take-le}
+use borrow.Author.Tests.{eqb-true, ltb-true, ltb-false}
+use Rattle.words.specs.Choice.{choose, both}
+use Rattle.words.specs.Number.{le, part, number}
+use Rattle.words.specs.Place.{putAt, placed}
+use Rattle.words.proofs.Place.{placed-fits, length-putAt}
+use Rattle.record_bytes.specs.declared.Fields.{Fields}
+use Rattle.record_bytes.specs.Canonical.{SharedUnjudged, SameButAt}
+use Rattle.record_bytes.specs.Parts.{timerWhere, lastOf, uuidIn, clear}
+use Rattle.record_bytes.specs.Held.{lengthWhere, slotIn, slotsBelow, slotsIn, slotReadable, readableBelow, slotsReadable}
+use Rattle.record_bytes.specs.Layout.{sparesReadable, readable}
+use Rattle.record_bytes.specs.Layout.{callIn, outgoingIn, incomingIn, fieldsIn}
+use Rattle.record_bytes.proofs.PartLaws.{uuid-part}
+
+-- The ticket of a timer that is not armed, and the length of a slot that is not held, may be any.
+pub timer-alike : (armed : Bool) (t u : ℕ) → (armed ≡ true → t ≡ u) → timerWhere armed t ≡ timerWhere armed u
+unfolding timerWhere choose
+timer-alike true t u h = ap (timerWhere true) (h refl)
+timer-alike false t u h = refl
+
+length-alike : (held : Bool) (m n : ℕ) → (held ≡ true → m ≡ n) → lengthWhere held m ≡ lengthWhere held n
+unfolding lengthWhere choose
+length-alike true m n h = h refl
+length-alike false m n h = refl
+
+-- A mark of 1 is not 0.
+pub mark-not-zero : (m : ℕ) → eqb m 1 ≡ true → m ≡ 0 → ⊥
+mark-not-zero m e z = omega (arith, eqb-true m 1 e, z)
+
+-- Slots by their bytes.
+module _ (s t : List ℕ) (mark : (f : ℕ) → getD t (4 * f + 2) 0 ≡ getD s (4 * f + 2) 0) where
+  slots-alike : ((f : ℕ) → (getD s (4 * f + 2) 0 ≡ 0 → ⊥) → number 2 true t (4 * f) ≡ number 2 true s (4 * f))
+      → (n : ℕ) → slotsBelow t n ≡ slotsBelow s n
+  unfolding slotsBelow slotIn
+  slots-alike lengths zero = refl
+  slots-alike lengths (suc n) =
+      let length : lengthWhere (eqb (getD t (4 * n + 2) 0) 1) (number 2 true t (4 * n))
+      ≡ lengthWhere (eqb (getD s (4 * n + 2) 0) 1) (number 2 true s (4 * n)) =
+      ap (λ (m : ℕ). lengthWhere (eqb m 1) (number 2 true t (4 * n))) (mark n)
+      ∙ length-alike (eqb (getD s (4 * n + 2) 0) 1) _ _
+      (λ (e : eqb (getD s (4 * n + 2) 0) 1 ≡ true). lengths n (mark-not-zero (getD s (4 * n + 2) 0) e)) in
+      λ i. set (slots-alike lengths n i) n (record { held = eqb (mark n i) 1; length = length i })
+
+  readable-alike : ((f : ℕ) → getD t (4 * f + 3) 0 ≡ getD s (4 * f + 3) 0)
+      → (n : ℕ) → readableBelow t n ≡ readableBelow s n
+  unfolding readableBelow slotReadable
+  readable-alike spare zero = refl
+  readable-alike spare (suc n) = rw (readable-alike spare n, mark n, spare n)
+
+-- Numbers and places that are clear.
+part-alike : (n : ℕ) (b c : List ℕ) (at : ℕ) → ((i : ℕ) → at ≤ i → i < at + n → getD c i 0 ≡ getD b i 0)
+    → part n c at ≡ part n b at
+part-alike zero b c at h = refl
+part-alike (suc n) b c at h =
+    let rest : part n c (at + 1) ≡ part n b (at + 1) =
+    part-alike n b c (at + 1) (λ (k : ℕ) (low : at + 1 ≤ k) (high : k < at + 1 + n). h k (omega arith) (omega arith)) in
+    λ i. h at (omega arith) (omega arith) i ∷ rest i
+
+pub number-alike : (n : ℕ) (b c : List ℕ) (at : ℕ) → ((i : ℕ) → at ≤ i → i < at + n → getD c i 0 ≡ getD b i 0)
+    → number n true c at ≡ number n true b at
+unfolding number
+number-alike n b c at h = ap le (part-alike n b c at h)
+
+pub clear-alike : (n : ℕ) (b c : List ℕ) (at : ℕ) → ((i : ℕ) → at ≤ i → i < at + n → getD c i 0 ≡ getD b i 0)
+    → clear n (drop at c) ≡ clear n (drop at b)
+unfolding clear
+clear-alike zero b c at h = refl
+clear-alike (suc n) b c at h =
+    let here : getD (drop at c) n 0 ≡ getD (drop at b) n 0 =
+    getD-drop at c n 0 ∙ h (at + n) (omega arith) (omega arith) ∙ sym (getD-drop at b n 0) in
+    λ i.
+    both (clear-alike n b c at (λ (k : ℕ) (low : at ≤ k) (high : k < at + n). h k low (omega arith)) i) (eqb (here i) 0)
+
+-- What stands in bytes, with another word at 48.
+abbrev pub withWord : ℕ → Fields → Fields
+withWord word f = record {
+  state = f .state;
+  count = f .count;
+  extra = f .extra;
+  activity = f .activity;
+  number = f .number;
+  boot = f .boot;
+  call = f .call;
+  outgoing = f .outgoing;
+  incoming = f .incoming;
+  tickets = f .tickets;
+  timer = f .timer;
+  armed = f .armed;
+  word = word;
+}
+
+-- Each side has its own places that are not judged beside those of both, and they are among bytes 48 to 55.
+module _ (Unjudged : ℕ → Type 0) (b c : List ℕ) (alike : SameButAt Unjudged b c)
+    (own : (i : ℕ) → Unjudged i → SharedUnjudged b i ⊎ ((48 ≤ i) × (i < 56))) where
+  judged : (i : ℕ) → (SharedUnjudged b i → ⊥) → ((48 ≤ i) × (i < 56) → ⊥) → getD c i 0 ≡ getD b i 0
+  judged i p q = alike .same i (λ (u : Unjudged i). by-side (own i u))
+    where
+      by-side : SharedUnjudged b i ⊎ ((48 ≤ i) × (i < 56)) → ⊥
+      by-side (inl u) = p u
+      by-side (inr u) = q u
+
+  -- The places that are always judged: those before 40,
+  pub front-alike : (i : ℕ) → i < 40 → getD c i 0 ≡ getD b i 0
+  front-alike i h = judged i shared (λ u. omega (arith, u .0))
+    where
+      shared : SharedUnjudged b i → ⊥
+      shared (inl u) = omega (arith, u .1)
+      shared (inr u) = omega (arith, u .from)
+
+  -- those from 56 to 143,
+  pub back-alike : (i : ℕ) → 56 ≤ i → i < 144 → getD c i 0 ≡ getD b i 0
+  back-alike i low high = judged i shared (λ u. omega (arith, u .1))
+    where
+      shared : SharedUnjudged b i → ⊥
+      shared (inl u) = omega (arith, u .2)
+      shared (inr u) = omega (arith, u .from)
+
+  -- the third and fourth byte of a slot;
+  slot-alike : (f k : ℕ) → 2 ≤ k → k < 4 → getD (drop 144 c) (4 * f + k) 0 ≡ getD (drop 144 b) (4 * f + k) 0
+  slot-alike f k low high =
+      getD-drop 144 c (4 * f + k) 0 ∙ judged (144 + (4 * f + k)) shared (λ u. omega (arith, u .1))
+      ∙ sym (getD-drop 144 b (4 * f + k) 0)
+    where
+      shared : SharedUnjudged b (144 + (4 * f + k)) → ⊥
+      shared (inl u) = omega (arith, u .2)
+      shared (inr u) = omega (arith, u .from, u .below)
+
+  -- and, by their marks, the ticket at 40 and lengths.
+  ticket-alike : (getD b 64 0 ≡ 0 → ⊥) → number 8 true c 40 ≡ number 8 true b 40
+  ticket-alike armed =
+      number-alike 8 b c 40 (λ (i : ℕ) (low : 40 ≤ i) (high : i < 48).
+      judged i (shared i high) (λ u. omega (arith, u .0)))
+    where
+      shared : (i : ℕ) → i < 48 → SharedUnjudged b i → ⊥
+      shared i high (inl u) = armed (u .0)
+      shared i high (inr u) = omega (arith, u .from)
+
+  lengths-alike : (f : ℕ) → (getD (drop 144 b) (4 * f + 2) 0 ≡ 0 → ⊥)
+      → number 2 true (drop 144 c) (4 * f) ≡ number 2 true (drop 144 b) (4 * f)
+  lengths-alike f held =
+      number-alike 2 (drop 144 b) (drop 144 c) (4 * f) (λ (i : ℕ) (low : 4 * f ≤ i) (high : i < 4 * f + 2).
+      getD-drop 144 c i 0 ∙ judged (144 + i) (shared i low high) (λ u. omega (arith, u .1)) ∙ sym (getD-drop 144 b i 0))
+    where
+      shared : (i : ℕ) → 4 * f ≤ i → i < 4 * f + 2 → SharedUnjudged b (144 + i) → ⊥
+      shared i low high (inl u) = omega (arith, u .2)
+      shared i low high (inr u) =
+          let place : 144 + (4 * f + 2) ≡ 4 * u .fragment + 146 = omega (arith, u .from, u .below) in
+          held (getD-drop 144 b (4 * f + 2) 0 ∙ ap (λ (k : ℕ). getD b k 0) place ∙ u .missing)
+
+  mark-alike : (f : ℕ) → getD (drop 144 c) (4 * f + 2) 0 ≡ getD (drop 144 b) (4 * f + 2) 0
+  mark-alike f = slot-alike f 2 (omega arith) (omega arith)
+
+  spare-alike : (f : ℕ) → getD (drop 144 c) (4 * f + 3) 0 ≡ getD (drop 144 b) (4 * f + 3) 0
+  spare-alike f = slot-alike f 3 (omega arith) (omega arith)
+
+  low-number : (n at : ℕ) → at + n ≤ 40 → number n true c at ≡ number n true b at
+  low-number n at h =
+      number-alike n b c at (λ (i : ℕ) (low : at ≤ i) (high : i < at + n). front-alike i (omega arith))
+
+  -- So they are both readable or both not,
+  pub shared-readable : readable c ≡ readable b
+  unfolding readable sparesReadable slotsReadable
+  shared-readable =
+      let front : (i : ℕ) → i < 40 → getD c i 0 ≡ getD b i 0 = front-alike in
+      let back : (i : ℕ) → 56 ≤ i → i < 144 → getD c i 0 ≡ getD b i 0 = back-alike in
+      rw (
+        front 1 (omega arith),
+        back 64 (omega arith) (omega arith),
+        back 65 (omega arith) (omega arith),
+        front 5 (omega arith),
+        front 7 (omega arith),
+        front 9 (omega arith),
+        low-number 2 10 (omega arith),
+        clear-alike 8 b c 56 (λ (k : ℕ) (low : 56 ≤ k) (high : k < 64). back k low (omega arith)),
+        clear-alike 30 b c 66 (λ (k : ℕ) (low : 66 ≤ k) (high : k < 96). back k (omega arith) (omega arith)),
+        readable-alike (drop 144 b) (drop 144 c) mark-alike spare-alike 32,
+      )
+
+  uuid-alike : (at : ℕ) → 56 ≤ at → at + 16 ≤ 144 → uuidIn c at ≡ uuidIn b at
+  uuid-alike at low high =
+      uuid-part c at (omega (arith, alike .other-size))
+      ∙ part-alike 16 b c at (λ (i : ℕ) (from : at ≤ i) (to : i < at + 16). back-alike i (omega arith) (omega arith))
+      ∙ sym (uuid-part b at (omega (arith, alike .size)))
+
+  -- and the same stands in them, but for the word at 48.
+  pub fields-alike : fieldsIn c ≡ withWord (number 8 true c 48) (fieldsIn b)
+  unfolding fieldsIn callIn outgoingIn incomingIn slotsIn
+  fields-alike =
+      let front : (i : ℕ) → i < 40 → getD c i 0 ≡ getD b i 0 = front-alike in
+      let armed : getD c 64 0 ≡ getD b 64 0 = back-alike 64 (omega arith) (omega arith) in
+      let timer : timerWhere (eqb (getD c 64 0) 1) (number 8 true c 40)
+      ≡ timerWhere (eqb (getD b 64 0) 1) (number 8 true b 40) =
+      ap (λ (m : ℕ). timerWhere (eqb m 1) (number 8 true c 40)) armed
+      ∙ timer-alike (eqb (getD b 64 0) 1) _ _
+      (λ (e : eqb (getD b 64 0) 1 ≡ true). ticket-alike (mark-not-zero (getD b 64 0) e)) in
+      λ i. record {
+        state = front 0 (omega arith) i;
+        count = front 2 (omega arith) i;
+        extra = front 3 (omega arith) i;
+        activity = uuid-alike 96 (omega arith) (omega arith) i;
+        number = low-number 4 16 (omega arith) i;
+        boot = low-number 4 28 (omega arith) i;
+        call = record {
+          idempotent = eqb (front 1 (omega arith) i) 1;
+          object = uuid-alike 112 (omega arith) (omega arith) i;
+          interface = uuid-alike 128 (omega arith) (omega arith) i;
+          version = low-number 4 20 (omega arith) i;
+          operation = low-number 2 14 (omega arith) i;
+        };
+        outgoing = record {
+          length = low-number 4 24 (omega arith) i;
+          count = front 4 (omega arith) i;
+          sent = front 6 (omega arith) i;
+          acknowledged = front 8 (omega arith) i;
+          serial = low-number 2 12 (omega arith) i;
+        };
+        incoming = record {
+          slots = slots-alike (drop 144 b) (drop 144 c) mark-alike lengths-alike 32 i;
+          last = lastOf (low-number 2 10 (omega arith) i);
+        };
+        tickets = low-number 8 32 (omega arith) i;
+        timer = timer i;
+        armed = eqb (back-alike 65 (omega arith) (omega arith) i) 1;
+        word = number 8 true c 48;
+      }
+
+-- Bytes put into places that are not judged: any ticket, length or status there.
+put-aside : (at : ℕ) (s d : List ℕ) (i : ℕ) → at + length s ≤ length d → ((at ≤ i) × (i < at + length s) → ⊥)
+    → getD (putAt at s d) i 0 ≡ getD d i 0
+unfolding putAt
+put-aside at s d i room outside = by-place (ltb i at) refl
+  where
+    front : length (take at d) ≡ at
+    front = length-take-le at d (omega (arith, room))
+
+    past-end : at ≤ i → (test : Bool) → ltb i (at + length s) ≡ test → at + length s ≤ i
+    past-end low true e = absurd (outside (low, ltb-true i (at + length s) e))
+    past-end low false e = ltb-false i (at + length s) e
+
+    behind : at ≤ i → getD (take at d ++ (s ++ drop (at + length s) d)) i 0 ≡ getD d i 0
+    behind low =
+        let past : at + length s ≤ i = past-end low (ltb i (at + length s)) refl in
+        let first : i ≡ length (take at d) + (length s + (i - (at + length s))) = omega (arith, front, past) in
+        let last : at + length s + (i - (at + length s)) ≡ i = omega (arith, past) in
+        ap (λ (k : ℕ). getD (take at d ++ (s ++ drop (at + length s) d)) k 0) first
+        ∙ getD-append-add (take at d) (s ++ drop (at + length s) d) (length s + (i - (at + length s))) 0
+        ∙ getD-append-add s (drop (at + length s) d) (i - (at + length s)) 0
+        ∙ getD-drop (at + length s) d (i - (at + length s)) 0
+        ∙ ap (λ (k : ℕ). getD d k 0) last
+
+    by-place : (test : Bool) → ltb i at ≡ test → getD (take at d ++ (s ++ drop (at + length s) d)) i 0 ≡ getD d i 0
+    by-place true e =
+        List·getD-append (take at d) (s ++ drop (at + length s) d) 0 i (omega (arith, front, ltb-true i at e))
+        ∙ getD-take at d i 0 (ltb-true i at e)
+    by-place false e = behind (ltb-false i at e)
+
+pub put-alike : (Unjudged : ℕ → Type 0) (at : ℕ) (s b : List ℕ) → length b ≡ 272 → at + length s ≤ 272
+    → ((i : ℕ) → at ≤ i → i < at + length s → Unjudged i) → SameButAt Unjudged b (placed at s b)
+put-alike Unjudged at s b size room there =
+    let fits : at + length s ≤ length b = omega (arith, size, room) in
+    record {
+      size = size;
+      other-size = ap length (placed-fits at s b fits) ∙ length-putAt at s b fits ∙ size;
+      same = λ (i : ℕ) (judged : Unjudged i → ⊥).
+          ap (λ (l : List ℕ). getD l i 0) (placed-fits at s b fits)
+          ∙ put-aside at s b i fits (λ (place : (at ≤ i) × (i < at + length s)). judged (there i (place .0) (place .1)));
+    }
