@@ -110,7 +110,7 @@ fn compare(events: u64, seed: u64, with_table: bool) -> Result<Verdict, Failure>
 fn number(name: &str, word: &str) -> Result<u64, Failure> {
     word.parse().map_err(|_| {
         Failure::Words(format!(
-            "second: {name} must be a number from 0 to {}, not '{word}'",
+            "{USAGE}; {name} is a number from 0 to {}, not {word:?}",
             u64::MAX
         ))
     })

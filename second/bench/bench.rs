@@ -79,9 +79,7 @@ impl Bench {
         let what = || told(invocation, lengths);
         let difference = post.difference(what, &before, outcomes(own, other));
         self.findings.add(difference);
-        if result.is_ok() {
-            post.follow_bytes();
-        }
+        post.follow_bytes();
         result
     }
 

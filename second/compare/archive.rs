@@ -1,128 +1,21 @@
-//! The proved library: the exports of `libmorphelai`. Each slice is a pointer and a length.
+//! The proved library, called as a host calls it: each slice becomes its address and, beside it, its
+//! length.
 
+use super::exports::{
+    morphelai_client_arrive, morphelai_client_fresh, morphelai_client_part, morphelai_client_start,
+    morphelai_client_timer, morphelai_client_transmit, morphelai_read, morphelai_record_size,
+    morphelai_server_arrive, morphelai_server_fault, morphelai_server_fresh, morphelai_server_part,
+    morphelai_server_reply, morphelai_server_timer, morphelai_server_transmit, morphelai_write,
+};
 use crate::bench::library::Library;
 use crate::door::invocation::{Invocation, Lent, StartArguments};
 use crate::records::client::ClientSide;
 use crate::records::server::{Answer, ServerSide};
 
-extern "C" {
-    fn morphelai_record_size() -> usize;
-    fn morphelai_client_fresh(
-        record: *mut u8,
-        record_length: usize,
-        activity: *const u8,
-        activity_length: usize,
-        tickets: u64,
-    ) -> u64;
-    fn morphelai_client_start(
-        record: *mut u8,
-        record_length: usize,
-        idempotent: u8,
-        object: *const u8,
-        object_length: usize,
-        interface: *const u8,
-        interface_length: usize,
-        version: u32,
-        operation: u16,
-        length: u32,
-    ) -> u64;
-    fn morphelai_client_transmit(
-        record: *mut u8,
-        record_length: usize,
-        message: *const u8,
-        message_length: usize,
-        pdu: *mut u8,
-        pdu_length: usize,
-    ) -> u64;
-    fn morphelai_client_arrive(
-        record: *mut u8,
-        record_length: usize,
-        datagram: *const u8,
-        datagram_length: usize,
-        slots: *mut u8,
-        slots_length: usize,
-        pdu: *mut u8,
-        pdu_length: usize,
-    ) -> u64;
-    fn morphelai_client_timer(
-        record: *mut u8,
-        record_length: usize,
-        kind: u8,
-        ticket: u64,
-        pdu: *mut u8,
-        pdu_length: usize,
-    ) -> u64;
-    fn morphelai_client_part(
-        record: *const u8,
-        record_length: usize,
-        number: u16,
-        slots: *const u8,
-        slots_length: usize,
-    ) -> u64;
-    fn morphelai_server_fresh(
-        record: *mut u8,
-        record_length: usize,
-        activity: *const u8,
-        activity_length: usize,
-        boot: u32,
-        tickets: u64,
-    ) -> u64;
-    fn morphelai_server_transmit(
-        record: *mut u8,
-        record_length: usize,
-        message: *const u8,
-        message_length: usize,
-        pdu: *mut u8,
-        pdu_length: usize,
-    ) -> u64;
-    fn morphelai_server_arrive(
-        record: *mut u8,
-        record_length: usize,
-        datagram: *const u8,
-        datagram_length: usize,
-        slots: *mut u8,
-        slots_length: usize,
-        pdu: *mut u8,
-        pdu_length: usize,
-    ) -> u64;
-    fn morphelai_server_timer(
-        record: *mut u8,
-        record_length: usize,
-        kind: u8,
-        ticket: u64,
-        pdu: *mut u8,
-        pdu_length: usize,
-    ) -> u64;
-    fn morphelai_server_part(
-        record: *const u8,
-        record_length: usize,
-        number: u16,
-        slots: *const u8,
-        slots_length: usize,
-    ) -> u64;
-    fn morphelai_server_reply(record: *mut u8, record_length: usize, length: u32) -> u64;
-    fn morphelai_server_fault(
-        record: *mut u8,
-        record_length: usize,
-        status: u32,
-        pdu: *mut u8,
-        pdu_length: usize,
-    ) -> u64;
-    fn morphelai_read(
-        datagram: *const u8,
-        datagram_length: usize,
-        header: *mut u8,
-        header_length: usize,
-    ) -> u64;
-    fn morphelai_write(
-        header: *const u8,
-        header_length: usize,
-        body: *const u8,
-        body_length: usize,
-        pdu: *mut u8,
-        pdu_length: usize,
-    ) -> u64;
-}
+type Transmit = unsafe extern "C" fn(*mut u8, usize, *const u8, usize, *mut u8, usize) -> u64;
+type Arrive =
+    unsafe extern "C" fn(*mut u8, usize, *const u8, usize, *mut u8, usize, *mut u8, usize) -> u64;
+type Timer = unsafe extern "C" fn(*mut u8, usize, u8, u64, *mut u8, usize) -> u64;
 
 /// The library that this program is linked with.
 pub struct Archive;
@@ -151,54 +44,42 @@ fn lent_at(bytes: &mut [u8]) -> *mut u8 {
 impl Library for Archive {
     fn client(&mut self, invocation: &Invocation<ClientSide>, lent: Lent) -> u64 {
         let Lent { record, slots, pdu } = lent;
-        let (r, rn, p, pn) = (lent_at(record), record.len(), lent_at(pdu), pdu.len());
-        let (s, sn) = (lent_at(slots), slots.len());
-        // Every pointer stands beside the length of the slice that it comes from.
-        unsafe {
-            match invocation {
-                Invocation::Fresh {
-                    activity, tickets, ..
-                } => morphelai_client_fresh(r, rn, at(activity), activity.len(), *tickets),
-                Invocation::Transmit { message: m } => {
-                    morphelai_client_transmit(r, rn, at(m), m.len(), p, pn)
-                }
-                Invocation::Arrive { datagram: d } => {
-                    morphelai_client_arrive(r, rn, at(d), d.len(), s, sn, p, pn)
-                }
-                Invocation::Timer { kind, ticket } => {
-                    morphelai_client_timer(r, rn, *kind, *ticket, p, pn)
-                }
-                Invocation::Own(start) => client_start(record, start),
+        match invocation {
+            Invocation::Fresh {
+                activity, tickets, ..
+            } => client_fresh(record, activity, *tickets),
+            Invocation::Transmit { message } => {
+                transmit(morphelai_client_transmit, record, message, pdu)
             }
+            Invocation::Arrive { datagram } => {
+                arrive(morphelai_client_arrive, record, datagram, slots, pdu)
+            }
+            Invocation::Timer { kind, ticket } => {
+                timer(morphelai_client_timer, record, (*kind, *ticket), pdu)
+            }
+            Invocation::Own(start) => client_start(record, start),
         }
     }
 
     fn server(&mut self, invocation: &Invocation<ServerSide>, lent: Lent) -> u64 {
         let Lent { record, slots, pdu } = lent;
-        let (r, rn, p, pn) = (lent_at(record), record.len(), lent_at(pdu), pdu.len());
-        let (s, sn) = (lent_at(slots), slots.len());
-        // Every pointer stands beside the length of the slice that it comes from.
-        unsafe {
-            match invocation {
-                Invocation::Fresh {
-                    activity: a,
-                    argument: boot,
-                    tickets,
-                } => morphelai_server_fresh(r, rn, at(a), a.len(), *boot, *tickets),
-                Invocation::Transmit { message: m } => {
-                    morphelai_server_transmit(r, rn, at(m), m.len(), p, pn)
-                }
-                Invocation::Arrive { datagram: d } => {
-                    morphelai_server_arrive(r, rn, at(d), d.len(), s, sn, p, pn)
-                }
-                Invocation::Timer { kind, ticket } => {
-                    morphelai_server_timer(r, rn, *kind, *ticket, p, pn)
-                }
-                Invocation::Own(Answer::Reply { length }) => morphelai_server_reply(r, rn, *length),
-                Invocation::Own(Answer::Fault { status }) => {
-                    morphelai_server_fault(r, rn, *status, p, pn)
-                }
+        match invocation {
+            Invocation::Fresh {
+                activity,
+                argument: boot,
+                tickets,
+            } => server_fresh(record, activity, *boot, *tickets),
+            Invocation::Transmit { message } => {
+                transmit(morphelai_server_transmit, record, message, pdu)
             }
+            Invocation::Arrive { datagram } => {
+                arrive(morphelai_server_arrive, record, datagram, slots, pdu)
+            }
+            Invocation::Timer { kind, ticket } => {
+                timer(morphelai_server_timer, record, (*kind, *ticket), pdu)
+            }
+            Invocation::Own(Answer::Reply { length }) => server_reply(record, *length),
+            Invocation::Own(Answer::Fault { status }) => server_fault(record, *status, pdu),
         }
     }
 
@@ -215,8 +96,104 @@ impl Library for Archive {
     }
 
     fn write(&mut self, header: &[u8], body: &[u8], pdu: &mut [u8]) -> u64 {
-        let (h, hn) = (at(header), header.len());
-        unsafe { morphelai_write(h, hn, at(body), body.len(), lent_at(pdu), pdu.len()) }
+        unsafe {
+            morphelai_write(
+                at(header),
+                header.len(),
+                at(body),
+                body.len(),
+                lent_at(pdu),
+                pdu.len(),
+            )
+        }
+    }
+}
+
+fn transmit(function: Transmit, record: &mut [u8], message: &[u8], pdu: &mut [u8]) -> u64 {
+    unsafe {
+        function(
+            lent_at(record),
+            record.len(),
+            at(message),
+            message.len(),
+            lent_at(pdu),
+            pdu.len(),
+        )
+    }
+}
+
+fn arrive(
+    function: Arrive,
+    record: &mut [u8],
+    datagram: &[u8],
+    slots: &mut [u8],
+    pdu: &mut [u8],
+) -> u64 {
+    unsafe {
+        function(
+            lent_at(record),
+            record.len(),
+            at(datagram),
+            datagram.len(),
+            lent_at(slots),
+            slots.len(),
+            lent_at(pdu),
+            pdu.len(),
+        )
+    }
+}
+
+fn timer(function: Timer, record: &mut [u8], (kind, ticket): (u8, u64), pdu: &mut [u8]) -> u64 {
+    unsafe {
+        function(
+            lent_at(record),
+            record.len(),
+            kind,
+            ticket,
+            lent_at(pdu),
+            pdu.len(),
+        )
+    }
+}
+
+fn client_fresh(record: &mut [u8], activity: &[u8], tickets: u64) -> u64 {
+    unsafe {
+        morphelai_client_fresh(
+            lent_at(record),
+            record.len(),
+            at(activity),
+            activity.len(),
+            tickets,
+        )
+    }
+}
+
+fn server_fresh(record: &mut [u8], activity: &[u8], boot: u32, tickets: u64) -> u64 {
+    unsafe {
+        morphelai_server_fresh(
+            lent_at(record),
+            record.len(),
+            at(activity),
+            activity.len(),
+            boot,
+            tickets,
+        )
+    }
+}
+
+fn server_reply(record: &mut [u8], length: u32) -> u64 {
+    unsafe { morphelai_server_reply(lent_at(record), record.len(), length) }
+}
+
+fn server_fault(record: &mut [u8], status: u32, pdu: &mut [u8]) -> u64 {
+    unsafe {
+        morphelai_server_fault(
+            lent_at(record),
+            record.len(),
+            status,
+            lent_at(pdu),
+            pdu.len(),
+        )
     }
 }
 

@@ -30,7 +30,7 @@ impl Hasher for Fnv {
 
 /// How often one event gave grounds for both of two answers.
 struct Pairs {
-    command: String,
+    function: String,
     counts: [[u64; ANSWERS]; ANSWERS],
 }
 
@@ -50,16 +50,16 @@ pub struct Counts {
 }
 
 impl Counts {
-    /// All names must be reached. Each of the commands can give pairs of grounds.
-    pub fn new(groups: Vec<Group>, commands: &[&str]) -> Counts {
+    /// All names must be reached. Each of the functions can give pairs of grounds.
+    pub fn new(groups: Vec<Group>, functions: &[&str]) -> Counts {
         let sizes = groups
             .iter()
             .map(|(what, names)| (what.clone(), names.len()));
         let sizes = sizes.collect();
         let names: Vec<String> = groups.into_iter().flat_map(|(_, names)| names).collect();
         let places = names.iter().cloned().zip(0..).collect();
-        let pairs = commands.iter().map(|command| Pairs {
-            command: command.to_string(),
+        let pairs = functions.iter().map(|function| Pairs {
+            function: function.to_string(),
             counts: [[0; ANSWERS]; ANSWERS],
         });
         Counts {
@@ -72,7 +72,7 @@ impl Counts {
         }
     }
 
-    /// Counts a name. One that was not foreseen is printed behind the others.
+    /// Counts a name. One that was not foreseen stands behind the others.
     pub fn add(&mut self, name: fmt::Arguments) {
         self.add_times(name, 1);
     }
@@ -100,13 +100,13 @@ impl Counts {
         place
     }
 
-    /// Only a command that gives grounds for two answers shows which of them comes first.
+    /// Only an event that gives grounds for two answers shows which of them comes first.
     pub fn add_pairs(&mut self, side: &str, event: &str, grounds: &[u8]) {
         if grounds.len() < 2 {
             return;
         }
         let mut pairs = self.pairs.iter_mut();
-        let pairs = pairs.find(|pairs| is_command(&pairs.command, side, event));
+        let pairs = pairs.find(|pairs| is_function(&pairs.function, side, event));
         let Some(pairs) = pairs else {
             return;
         };
@@ -121,7 +121,7 @@ impl Counts {
     pub fn told(mut self) -> Told {
         for pairs in std::mem::take(&mut self.pairs) {
             for (low, high, times) in pairs_counted(&pairs) {
-                let name = format_args!("{}-both-{low}-{high}", pairs.command);
+                let name = format_args!("{}-both-{low}-{high}", pairs.function);
                 self.add_times(name, times);
             }
         }
@@ -151,6 +151,12 @@ impl Told {
         }
         groups
     }
+
+    /// The counts of names that no group has.
+    pub fn not_foreseen(&self) -> &[(String, u64)] {
+        let foreseen: usize = self.groups.iter().map(|(_, size)| size).sum();
+        &self.counts[foreseen..]
+    }
 }
 
 /// The pairs that were counted.
@@ -160,11 +166,11 @@ fn pairs_counted(pairs: &Pairs) -> Vec<(usize, usize, u64)> {
     counted.filter(|(_, _, times)| *times > 0).collect()
 }
 
-/// Whether a command is the event of the side; a side without a name has one command of its own.
-fn is_command(command: &str, side: &str, event: &str) -> bool {
+/// Whether a function is the event of the side; a side without a name has one function of its own.
+fn is_function(function: &str, side: &str, event: &str) -> bool {
     match side {
-        "" => command == event,
-        _ => command
+        "" => function == event,
+        _ => function
             .strip_prefix(side)
             .and_then(|rest| rest.strip_prefix('-'))
             .is_some_and(|rest| rest == event),
@@ -172,11 +178,11 @@ fn is_command(command: &str, side: &str, event: &str) -> bool {
 }
 
 /// The names of all pairs of the answers.
-pub fn pair_names(command: &str, answers: &[u8]) -> Vec<String> {
+pub fn pair_names(function: &str, answers: &[u8]) -> Vec<String> {
     let mut names = Vec::new();
     for (index, low) in answers.iter().enumerate() {
         let highs = answers[index + 1..].iter();
-        names.extend(highs.map(|high| format!("{command}-both-{low}-{high}")));
+        names.extend(highs.map(|high| format!("{function}-both-{low}-{high}")));
     }
     names
 }

@@ -9,8 +9,8 @@ use crate::records::client::ClientSide;
 use crate::records::record::Record;
 use crate::records::server::ServerSide;
 
-/// The commands that can give grounds for two answers.
-const COMMANDS: [&str; 11] = [
+/// The functions that can give grounds for two answers.
+const FUNCTIONS: [&str; 11] = [
     "read",
     "write",
     "client-start",
@@ -41,7 +41,7 @@ impl Coverage {
             system_names::groups(),
         ];
         Coverage {
-            counts: Counts::new(groups.concat(), &COMMANDS),
+            counts: Counts::new(groups.concat(), &FUNCTIONS),
             calls: None,
         }
     }

@@ -94,12 +94,12 @@ fn rule_names<S: Named>() -> Vec<String> {
 
 /// The pairs of grounds that an arrival can give.
 fn arrive_pair_names<S: Named>() -> Vec<String> {
-    let command = format!("{}-arrive", S::WORDS.side);
-    let mut names = pair_names(&command, &[1, 2, 3, 4, 5, 6, 7, 8]);
+    let function = format!("{}-arrive", S::WORDS.side);
+    let mut names = pair_names(&function, &[1, 2, 3, 4, 5, 6, 7, 8]);
     for (low, high) in S::ARRIVE_PAIRS {
         for low in *low {
             let pairs = high.iter();
-            names.extend(pairs.map(|high| format!("{command}-both-{low}-{high}")));
+            names.extend(pairs.map(|high| format!("{function}-both-{low}-{high}")));
         }
     }
     names

@@ -3,7 +3,9 @@
 use crate::bench::bench::Bench;
 use crate::generate::author::Author;
 use crate::generate::made::Made;
+use crate::generate::parts::{any_outgoing, no_outgoing};
 use crate::generate::random::Random;
+use crate::generate::turn::Choices;
 use crate::records::record::Record;
 use crate::records::rule::Rule;
 
@@ -38,6 +40,23 @@ pub fn any_record<S: Made>(turn: usize, author: &mut Author<S>) {
     for _ in 0..author.random.between(2, 5) {
         S::any_event(author);
     }
+}
+
+/// In each state by turns a message is out or none is, whether a record may be so or not. The rules
+/// are not asked: what they get wrong must show.
+pub fn any_message_out<S: Made>(turn: usize, author: &mut Author<S>) {
+    let mut choices = Choices::of(turn);
+    let state = choices.pick(S::STATES);
+    let random = &mut author.random;
+    let mut record = S::sound_record(state, random);
+    let serial = record.outgoing.serial;
+    record.outgoing = match choices.bool() {
+        true => any_outgoing(state == S::SENDING, serial, random),
+        false => no_outgoing(serial, random),
+    };
+    author.set_record(record);
+    S::any_event(author);
+    author.hand_up(0);
 }
 
 /// Some events, so many writes and what is handed up, with buffers of wrong lengths.

@@ -1,9 +1,9 @@
 //! A small check of this program against itself and against rows of the papers.
 
 use super::side::datagram_rows;
-use super::{client, layout, played, rows, server, server_calls};
+use super::{client, compared, demand, layout, played, rows, server, server_calls};
 use crate::bench::message::message;
-use crate::codec::fack::Held;
+use crate::codec::fack::{body, Held};
 use crate::codec::pdu::{read, write, ByteOrder, Header, BODY_LIMIT, HIGHEST_TYPE, PDU_LIMIT};
 use crate::generate::datagram::datagram;
 use crate::generate::random::Random;
@@ -30,10 +30,13 @@ pub fn self_test() -> Result<(), &'static str> {
     server_calls::self_test()?;
     rows::self_test()?;
     layout::self_test()?;
+    compared::self_test()?;
+    demand::self_test()?;
     played::self_test()
 }
 
-/// Document 01's bench rows of a fack.
+/// Document 01's bench rows of a fack, and its body. No fack that is sent shows a mask: what is
+/// facked is a whole message.
 fn fack_rows() -> Result<(), &'static str> {
     let gap = Held(0b11011);
     check(
@@ -44,6 +47,12 @@ fn fack_rows() -> Result<(), &'static str> {
     check(
         (none.contiguous(), none.number(), none.mask()) == (0, 65_535, 6),
         "a fack of 1 and 2",
+    )?;
+    let sizes = [0, 0, 43, 0, 0xc0, 5, 0, 0, 0xc0, 5, 0, 0];
+    let serial_count_and_mask = [2, 1, 1, 0, 4, 3, 2, 1];
+    check(
+        body(258, 0x0102_0304) == [&sizes[..], &serial_count_and_mask].concat(),
+        "the body of a fack",
     )
 }
 

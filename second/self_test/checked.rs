@@ -16,6 +16,7 @@ use std::rc::Rc;
 /// Where the first check that fails is told.
 pub type Broken = Rc<Cell<Option<&'static str>>>;
 
+#[derive(Default)]
 pub struct Checked {
     pub broken: Broken,
 }

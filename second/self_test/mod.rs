@@ -3,6 +3,8 @@
 pub mod all;
 pub mod checked;
 pub mod client;
+pub mod compared;
+pub mod demand;
 pub mod layout;
 pub mod played;
 pub mod rows;

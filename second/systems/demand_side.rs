@@ -86,7 +86,12 @@ impl<S: Demanded> SideBook<S> {
     /// not name the timer disarms it.
     fn follow_timers(&mut self, before: &Record<S>, after: &Record<S>) -> Result<(), Broken> {
         let is_armed_afresh = before.tickets != after.tickets;
+        let is_over = S::is_over(after.state);
         for (kind, timer) in &mut self.armed {
+            check(
+                !is_over || after.timer_of(*kind).is_none(),
+                "a call is over with a timer armed",
+            )?;
             if !S::names(after.state, *kind) {
                 *timer = None;
             } else if is_armed_afresh {
@@ -94,11 +99,6 @@ impl<S: Demanded> SideBook<S> {
             }
             let is_same = after.timer_of(*kind) == *timer;
             check(is_same, "a side has other tickets armed")?;
-            let is_over = S::is_over(after.state);
-            check(
-                !is_over || timer.is_none(),
-                "a call is over with a timer armed",
-            )?;
         }
         Ok(())
     }

@@ -40,7 +40,7 @@ pub struct System {
     pub weather: Weather,
     pub client: Half,
     pub server: Half,
-    demand: Demand,
+    pub demand: Demand,
 }
 
 /// A side that is joined with the other.

@@ -9,7 +9,7 @@ use crate::systems::step::{Joined, System};
 
 /// A step of a story. A datagram is named by its place among those sent to a side.
 #[derive(Clone, Copy)]
-enum Telling {
+pub enum Telling {
     /// A call that is idempotent or not, with a message of one byte.
     Start(bool),
     ClientTransmit,
@@ -148,7 +148,8 @@ pub fn tell(author: &mut Author) -> Result<(), Broken> {
     Ok(())
 }
 
-fn step(telling: Telling, system: &mut System, author: &mut Author) -> Result<(), Broken> {
+/// Takes a step of a story.
+pub fn step(telling: Telling, system: &mut System, author: &mut Author) -> Result<(), Broken> {
     match telling {
         Start(idempotent) => {
             let call = Call {

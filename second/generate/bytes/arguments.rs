@@ -73,9 +73,13 @@ const WRONG_STARTS: [&str; 4] = ["nothing", "the mark", "the object", "the inter
 
 /// The names of what is wrong, as they are counted.
 pub fn wrong_start_names() -> Vec<String> {
-    let wrong = WRONG_STARTS[1..].iter();
-    wrong
-        .map(|what| format!("client start with {what} wrong: 1"))
+    let wrong = WRONG_STARTS[1..].iter().map(|what| (what, 1));
+    // Without anything wrong there is the record, which may not be readable.
+    let right = [0, 2].map(|answer| (&WRONG_STARTS[0], answer));
+    right
+        .into_iter()
+        .chain(wrong)
+        .map(|(what, answer)| format!("client start with {what} wrong: {answer}"))
         .collect()
 }
 

@@ -18,13 +18,14 @@ use crate::generate::client::pdus::OTHER_TYPES;
 use crate::generate::defects::defects_at_transmit;
 use crate::generate::parts::message_length;
 use crate::generate::random::Random;
-use crate::generate::scenes::{self, any_record, play_scenes, Scene};
+use crate::generate::scenes::{self, any_message_out, any_record, play_scenes, Scene};
 use crate::records::client::{Client, ClientSide, State, TimerKind};
 
 /// The scenes of one round, each with how often it comes.
-const ROUND: [(Scene<ClientSide>, usize); 16] = [
+const ROUND: [(Scene<ClientSide>, usize); 17] = [
     (broken_record, 3),
-    (any_record, 6),
+    (any_record, 5),
+    (any_message_out, 2),
     (defects_at_arrival, 12),
     (refused_arrival, 2),
     (damaged_arrival, 4),

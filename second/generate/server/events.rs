@@ -8,7 +8,7 @@ use crate::generate::arriving::Arriving;
 use crate::generate::defects::defects_at_transmit;
 use crate::generate::parts::message_length;
 use crate::generate::random::Random;
-use crate::generate::scenes::{any_record, play_scenes, wrong_lend, Scene};
+use crate::generate::scenes::{any_message_out, any_record, play_scenes, wrong_lend, Scene};
 use crate::generate::server::author::Author;
 use crate::generate::server::calls::whole_call;
 use crate::generate::server::cases::{
@@ -26,9 +26,10 @@ use crate::generate::server::rows::{
 use crate::records::server::{Resend, Server, ServerSide, State};
 
 /// The scenes of one round, each with how often it comes.
-const ROUND: [(Scene<ServerSide>, usize); 25] = [
+const ROUND: [(Scene<ServerSide>, usize); 26] = [
     (broken_record, 3),
     (any_record, 3),
+    (any_message_out, 2),
     (defects_at_arrival, 10),
     (crossed_defects, 3),
     (forbidden_bits, 1),
