@@ -68,8 +68,8 @@ pub(crate) fn print_client(
 
 fn print_client_refused(event: ClientEvent, answer: Answer) {
     match event {
-        ClientEvent::Wait => print(b"late timer: nothing happens"),
-        ClientEvent::Ack => print(b"late timer: nothing happens"),
+        ClientEvent::Wait => print_timer_refused(answer),
+        ClientEvent::Ack => print_timer_refused(answer),
         _ => print_refused(answer),
     }
 }
@@ -89,8 +89,8 @@ fn print_request_taken(notice: Notice, state: ServerState) {
         Notice::Dispatch => print(b"whole: execute it, once"),
         _ => match state {
             ServerState::Running => print(b"runs: not executed again"),
-            ServerState::Replying => print(b"executed: only reply again"),
-            ServerState::Held(_) => print(b"executed: only fault again"),
+            ServerState::Replying => print(b"ran already: only reply again"),
+            ServerState::Held(_) => print(b"ran already: only fault again"),
             _ => print(b"put in its place"),
         },
     }
@@ -99,8 +99,8 @@ fn print_request_taken(notice: Notice, state: ServerState) {
 fn print_ping_taken(state: ServerState) {
     match state {
         ServerState::Running => print(b"the call runs: say so"),
-        ServerState::Replying => print(b"executed: only reply again"),
-        ServerState::Held(_) => print(b"executed: only fault again"),
+        ServerState::Replying => print(b"ran already: only reply again"),
+        ServerState::Held(_) => print(b"ran already: only fault again"),
         _ => print(b"request not whole: say so"),
     }
 }
@@ -108,7 +108,7 @@ fn print_ping_taken(state: ServerState) {
 fn print_server_transmitted(state: ServerState) {
     match state {
         ServerState::Replying => print(b"a fragment of the reply"),
-        ServerState::Held(_) => print(b"all sent: kept until the ack"),
+        ServerState::Held(_) => print(b"all sent: held for the ack"),
         _ => print(b"all sent"),
     }
 }
@@ -141,7 +141,7 @@ pub(crate) fn print_server(
 
 fn print_server_refused(event: ServerEvent, answer: Answer) {
     match event {
-        ServerEvent::Resend => print(b"late timer: nothing happens"),
+        ServerEvent::Resend => print_timer_refused(answer),
         _ => match answer {
             Answer::OldCall => print(b"spent: never executed again"),
             _ => print_refused(answer),
@@ -149,10 +149,18 @@ fn print_server_refused(event: ServerEvent, answer: Answer) {
     }
 }
 
-// What is refused changes nothing, at either side.
+// A timer that was not stopped in time, at either side: another ticket is armed, or none can be.
+fn print_timer_refused(answer: Answer) {
+    match answer {
+        Answer::LateTimer => print(b"late timer: nothing happens"),
+        _ => print(b"not waiting: nothing happens"),
+    }
+}
+
+// What else is refused, at either side.
 fn print_refused(answer: Answer) {
     match answer {
-        Answer::Repeated => print(b"held: not written over"),
+        Answer::Repeated => print(b"repeated: not written over"),
         Answer::NoRow => print(b"not waited for: dropped"),
         _ => print(b"refused: nothing changes"),
     }

@@ -26,8 +26,8 @@ fn print_number(number: u64, width: usize) {
 pub(crate) fn print_head() {
     print(
         b"A console calls a controller, not idempotent: a request of 3500 bytes in 3 fragments, a reply of 4500 in 4.
-The network loses every third PDU that a side sends and delivers every fifth twice. And it delivers the last request
-again: while the call runs, while its reply is held, and when the call is over.
+The network loses every third PDU that a side sends and delivers every fifth twice. And the request's last fragment
+comes again: while the call runs, while its reply is held, and when the call is over.
 Answer 0: done. Any other is a refusal: nothing changes, nothing is sent, nobody is told.
 
 no. side   event            answer sends               tells    state           armed     why
