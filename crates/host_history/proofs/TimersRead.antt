@@ -111,25 +111,22 @@ module _ (h : HostWorld) (keeps : Keeps h) where
       (sym (timer-answer timer ticket out small) ∙ done))
 
   -- so does one of a kind that the side does not have, which is no event;
+  no-event : (call : HostCall) → HostFits call → meant call ≡ [] → DoesNothing h call
+  no-event call small none =
+      undone-nothing h call (subst (Tells (worldOf h) (exported h call)) none (told h call keeps small))
+
   pub strange-nothing : StrangeDoesNothing h
-  strange-nothing = record { client = of-client; server = of-server }
-    where
-      no-event : (call : HostCall) → HostFits call → meant call ≡ [] → DoesNothing h call
-      no-event call small none =
-          undone-nothing h call (subst (Tells (worldOf h) (exported h call)) none (told h call keeps small))
-
-      of-client : (kind ticket : ℕ) (out : List ℕ) → HostFits (ToClient (ClientTimer kind ticket out))
-          → (kind ≡ 1 → ⊥) → (kind ≡ 2 → ⊥) → DoesNothing h (ToClient (ClientTimer kind ticket out))
-      of-client kind ticket out small not-1 not-2 =
-          no-event (ToClient (ClientTimer kind ticket out)) small
-          (unfold meant in choose-false (eqb kind 1) _ _ (ne-eqb kind 1 not-1)
-          ∙ choose-false (eqb kind 2) _ _ (ne-eqb kind 2 not-2))
-
-      of-server : (kind ticket : ℕ) (out : List ℕ) → HostFits (ToServer (ServerTimer kind ticket out))
-          → (kind ≡ 3 → ⊥) → DoesNothing h (ToServer (ServerTimer kind ticket out))
-      of-server kind ticket out small not-3 =
-          no-event (ToServer (ServerTimer kind ticket out)) small
-          (unfold meant in choose-false (eqb kind 3) _ _ (ne-eqb kind 3 not-3))
+  unfolding meant
+  strange-nothing = record {
+    client =
+        λ kind ticket out small not-1 not-2.
+        no-event (ToClient (ClientTimer kind ticket out)) small
+        (choose-false (eqb kind 1) _ _ (ne-eqb kind 1 not-1) ∙ choose-false (eqb kind 2) _ _ (ne-eqb kind 2 not-2));
+    server =
+        λ kind ticket out small not-3.
+        no-event (ToServer (ServerTimer kind ticket out)) small
+        (choose-false (eqb kind 3) _ _ (ne-eqb kind 3 not-3));
+  }
 
   -- and one that acts is no longer armed.
   pub acts-read : ActsOnce (worldOf h) → TicketsActOnce h
