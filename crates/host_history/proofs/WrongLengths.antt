@@ -1,4 +1,5 @@
--- 1 is answered exactly when a length is wrong, whatever bytes and arguments an exported event is given.
+-- 1 is answered exactly when a length is wrong, or a start's idempotent is above 1, whatever bytes and arguments an
+-- exported event is given.
 use Prim.Native.Nat.{ℕ}
 use mathlib.Core.Bool.{Bool, true, false, not, false≢true}
 use mathlib.Core.List.{List, []}
