@@ -1,30 +1,40 @@
 -- What goes on the books as a dispatch or as told complete is what a host is told and then reads.
-use Prim.Native.Nat.{_+_, _≤_}
+use Prim.Native.Nat.{ℕ, _+_, _≤_}
+use mathlib.Core.Bool.{true, false, false≢true}
 use mathlib.Core.List.{List, [], _∷_}
+use mathlib.Core.Logic.{_⊎_, inl, inr}
 use mathlib.Core.Path.{_≡_, refl, sym, ap, subst}
 use native.Mathlib.Omega.{arith}
+use lib.Dec.{eqb}
 use lib.ListN.{length}
+use borrow.Author.Tests.{eqb-true}
 use Rattle.calls.specs.declared.Notice.{Notice}
 use Rattle.calls.specs.declared.Notice.the-variants.{Nothing as Untold, Last, Count, Fault, Reject, Cause, Dispatch}
 use Rattle.record_bytes.specs.Layout.{callIn, fieldsIn}
 use Rattle.record_bytes.proofs.PartLaws.{uuid-part}
+use Rattle.record_bytes.proofs.Keeping.{choice-by, choice-keeps}
+use Rattle.client_record.specs.declared.Client.{Client}
+use Rattle.client_record.specs.declared.State.{State as ClientState}
+use Rattle.client_bytes.specs.Layout.{stateOf as clientState, clientOf, clientIn}
 use Rattle.server_record.specs.declared.Server.{Server}
-use Rattle.server_bytes.specs.Layout.{serverIn, serverOf}
+use Rattle.server_record.specs.declared.State.{State as ServerState}
+use Rattle.server_bytes.specs.Layout.{stateOf as serverState, serverOf, serverIn}
 use Rattle.history.specs.Lists.{andThen}
-use Rattle.history.specs.World.{Dispatched, Completed}
+use Rattle.history.specs.World.{Dispatched, Completed, Side}
 use Rattle.history.specs.Events.{Event, OfClient, OfServer}
 use Rattle.history.specs.Steps.{dispatchesAfter, completionsAfter, Turn, Subject, completionEntry, dispatchEntry, serverTurn}
+use Rattle.history.specs.Claim.{runs, hasReply}
 use Rattle.host_history.specs.Results.{noticeIn}
 use Rattle.host_history.specs.Hosts.{HostWorld, worldOf, ClientCall, ServerCall, HostCall, ToClient, ToServer, clientExport, serverExport, exported, clientSeen, serverSeen, startsSeen, subjectSeen, hostStep}
 use Rattle.host_history.specs.Meaning.{meantToClient, meantToServer, ClientCallFits, ServerCallFits, HostFits, Keeps}
-use Rattle.host_history.specs.HostReads.{ReadsDispatch}
+use Rattle.host_history.specs.HostReads.{InRunning, HasReply, ReadsDispatch}
 use Rattle.host_history.specs.HostBooks.{DispatchRead, DispatchesRead, CompletionRead, CompletionsRead}
 use Rattle.host_history.proofs.Refusals.{refused-leaves}
 use Rattle.host_history.proofs.ClientCalls.{ClientMeets, client-meets}
 use Rattle.host_history.proofs.ServerCalls.{ServerMeets, server-meets}
 use Rattle.host_history.proofs.SameRun.{keeps-step}
 use Rattle.host_history.proofs.Handing.{client-parts, server-parts}
-use Rattle.host_history.proofs.Notices.{ClientTells, client-tells, ServerTells, server-tells}
+use Rattle.host_history.proofs.Notices.{ClientTells, client-tells, Dispatches, ServerTells, server-tells}
 
 -- Where the notice is "dispatch" there is one more, else none; the same of "last".
 module _ (before : List Dispatched) (d : Dispatched) where
@@ -76,47 +86,100 @@ entry-read h keeps of same =
       idempotent = refl;
     }
 
--- A call of the server that tells "dispatch" is of a request with the number that the record then has; none tells
--- "last".
+-- The state byte of a record in RUNNING; of one that has its reply.
+running-byte : (n status : ℕ) → runs (serverState n status) ≡ true → n ≡ 4
+unfolding serverState
+running-byte n status =
+    choice-keeps Byte (eqb n 1) _ _ none
+    (choice-keeps Byte (eqb n 2) _ _ none
+    (choice-keeps Byte (eqb n 3) _ _ none
+    (choice-by Byte (eqb n 4) _ _ (λ (four : eqb n 4 ≡ true). λ known. eqb-true n 4 four)
+    (λ other.
+    choice-keeps Byte (eqb n 5) _ _ none
+    (choice-keeps Byte (eqb n 6) _ _ none
+    (choice-keeps Byte (eqb n 7) _ _ none none))))))
+  where
+    Byte : ServerState → Type 0
+    Byte state = runs state ≡ true → n ≡ 4
+
+    none : false ≡ true → n ≡ 4
+    none never = absurd (false≢true never)
+
+reply-byte : (n : ℕ) → hasReply (clientState n) ≡ true → (n ≡ 4) ⊎ (n ≡ 5)
+unfolding clientState
+reply-byte n =
+    choice-keeps Byte (eqb n 0) _ _ none
+    (choice-keeps Byte (eqb n 1) _ _ none
+    (choice-keeps Byte (eqb n 2) _ _ none
+    (choice-keeps Byte (eqb n 3) _ _ none
+    (choice-by Byte (eqb n 4) _ _ (λ (four : eqb n 4 ≡ true). λ known. inl (eqb-true n 4 four))
+    (λ other.
+    choice-by Byte (eqb n 5) _ _ (λ (five : eqb n 5 ≡ true). λ known. inr (eqb-true n 5 five)) (λ beyond. none))))))
+  where
+    Byte : ClientState → Type 0
+    Byte state = hasReply state ≡ true → (n ≡ 4) ⊎ (n ≡ 5)
+
+    none : false ≡ true → (n ≡ 4) ⊎ (n ≡ 5)
+    none never = absurd (false≢true never)
+
+runs-there : (server : Side (List ℕ)) → runs (serverIn (server .machine) .state) ≡ true → InRunning server
+unfolding serverIn serverOf fieldsIn
+runs-there server = running-byte _ _
+
+answered-there : (client : Side (List ℕ)) → hasReply (clientIn (client .machine) .state) ≡ true → HasReply client
+unfolding clientIn clientOf fieldsIn
+answered-there client = reply-byte _
+
+-- A call of the server that tells "dispatch" is of a request with the number that the record then has, in RUNNING;
+-- none tells "last".
 server-call-tells : (h : HostWorld) (call : ServerCall) (es : List Event)
     → ServerMeets (h .server) call (serverExport (h .server) call) es
     → ServerTells (subjectSeen (worldOf h) call (serverSeen (h .server) call .answer) .number)
-    (serverSeen (h .server) call .machine .number) (serverSeen (h .server) call .notice)
+    (serverSeen (h .server) call .machine .number) (serverSeen (h .server) call .machine .state)
+    (serverSeen (h .server) call .notice)
 server-call-tells h call [] undone =
-    subst (ServerTells _ _) (sym (refused-leaves h (ToServer call) undone .untold)) tt
+    subst (ServerTells _ _ _) (sym (refused-leaves h (ToServer call) undone .untold)) tt
 server-call-tells h call (OfServer e ∷ []) f =
     subst
     (λ (t : Turn Server).
-    ServerTells (subjectSeen (worldOf h) call (t .answer) .number) (t .machine .number) (t .notice))
+    ServerTells (subjectSeen (worldOf h) call (t .answer) .number) (t .machine .number) (t .machine .state)
+    (t .notice))
     (sym (f .shows .same))
     (subst
     (λ (of : Subject).
     ServerTells (of .number) (serverTurn (worldOf h .server) e .machine .number)
-    (serverTurn (worldOf h .server) e .notice))
+    (serverTurn (worldOf h .server) e .machine .state) (serverTurn (worldOf h .server) e .notice))
     (sym (f .subject (worldOf h) (serverTurn (worldOf h .server) e .answer)))
     (server-tells (worldOf h) e (serverTurn (worldOf h .server) e .answer)))
 server-call-tells h call (OfServer e ∷ (other ∷ es)) never = absurd never
 server-call-tells h call (OfClient e ∷ es) never = absurd never
 
--- None of the client tells "dispatch".
+-- None of the client tells "dispatch", and one that tells "last" has its reply then.
 client-call-tells : (h : HostWorld) (call : ClientCall) (es : List Event)
     → ClientMeets (h .client) call (clientExport (h .client) call) es
-    → ClientTells (noticeIn (clientExport (h .client) call .result))
-client-call-tells h call [] undone = subst ClientTells (sym (refused-leaves h (ToClient call) undone .untold)) tt
+    → ClientTells (clientSeen (h .client) call .machine .state) (clientSeen (h .client) call .notice)
+client-call-tells h call [] undone = subst (ClientTells _) (sym (refused-leaves h (ToClient call) undone .untold)) tt
 client-call-tells h call (OfClient e ∷ []) f =
-    subst ClientTells (sym (ap (λ t. t .notice) (f .shows .same))) (client-tells (worldOf h .client) e)
+    subst (λ (t : Turn Client). ClientTells (t .machine .state) (t .notice)) (sym (f .shows .same))
+    (client-tells (worldOf h .client) e)
 client-call-tells h call (OfClient e ∷ (other ∷ es)) never = absurd never
 client-call-tells h call (OfServer e ∷ es) never = absurd never
 
 module _ (h : HostWorld) (keeps : Keeps h) where
   server-told : (call : ServerCall) (small : ServerCallFits call)
       → ServerTells (subjectSeen (worldOf h) call (serverSeen (h .server) call .answer) .number)
-      (serverSeen (h .server) call .machine .number) (serverSeen (h .server) call .notice)
+      (serverSeen (h .server) call .machine .number) (serverSeen (h .server) call .machine .state)
+      (serverSeen (h .server) call .notice)
   server-told call small =
       server-call-tells h call (meantToServer call) (server-meets (h .server) (keeps .server) call small)
 
+  dispatch-told : (call : ServerCall) → ServerCallFits call → serverSeen (h .server) call .notice ≡ Dispatch
+      → Dispatches (subjectSeen (worldOf h) call (serverSeen (h .server) call .answer) .number)
+      (serverSeen (h .server) call .machine .number) (serverSeen (h .server) call .machine .state)
+  dispatch-told call small told = subst (ServerTells _ _ _) told (server-told call small)
+
   client-told : (call : ClientCall) → ClientCallFits call
-      → ClientTells (noticeIn (clientExport (h .client) call .result))
+      → ClientTells (clientSeen (h .client) call .machine .state) (clientSeen (h .client) call .notice)
   client-told call small =
       client-call-tells h call (meantToClient call) (client-meets (h .client) (keeps .client) call small)
 
@@ -126,7 +189,7 @@ module _ (h : HostWorld) (keeps : Keeps h) where
     where
       by-side : (call : HostCall) → HostFits call → noticeIn (exported h call .result) ≡ Dispatch
           → DispatchRead h (hostStep h call)
-      by-side (ToClient call) small told = absurd (subst ClientTells told (client-told call small))
+      by-side (ToClient call) small told = absurd (subst (ClientTells _) told (client-told call small))
       by-side (ToServer call) small told =
           let t = serverSeen (h .server) call in
           let of = subjectSeen (worldOf h) call (t .answer) in
@@ -136,7 +199,8 @@ module _ (h : HostWorld) (keeps : Keeps h) where
             added = dispatch-adds (h .books .dispatches) _ (t .notice) told;
             read =
                 entry-read (hostStep h (ToServer call)) (keeps-step h (ToServer call) keeps small) of
-                (subst (ServerTells (of .number) (t .machine .number)) told (server-told call small));
+                (dispatch-told call small told .number);
+            running = runs-there (hostStep h (ToServer call) .server) (dispatch-told call small told .running);
           }
 
       stays : (call : HostCall) → (noticeIn (exported h call .result) ≡ Dispatch → ⊥)
@@ -152,7 +216,7 @@ module _ (h : HostWorld) (keeps : Keeps h) where
     where
       by-side : (call : HostCall) → HostFits call → noticeIn (exported h call .result) ≡ Last
           → CompletionRead h (hostStep h call)
-      by-side (ToServer call) small told = absurd (subst (ServerTells _ _) told (server-told call small))
+      by-side (ToServer call) small told = absurd (subst (ServerTells _ _ _) told (server-told call small))
       by-side (ToClient call) small told =
           let t = clientSeen (h .client) call in
           unfold hostStep in
@@ -161,6 +225,9 @@ module _ (h : HostWorld) (keeps : Keeps h) where
             added = last-adds (h .books .completions) _ (t .notice) told;
             parts = client-parts (hostStep h (ToClient call)) (keeps-step h (ToClient call) keeps small);
             last = refl;
+            answered =
+                answered-there (hostStep h (ToClient call) .client)
+                (subst (ClientTells (t .machine .state)) told (client-told call small));
           }
 
       stays : (call : HostCall) → (noticeIn (exported h call .result) ≡ Last → ⊥)

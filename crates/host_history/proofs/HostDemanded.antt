@@ -25,7 +25,7 @@ use Rattle.host_history.proofs.HostTheorem.{host-theorem, at-host}
 use Rattle.host_history.proofs.Handing.{client-parts}
 use Rattle.host_history.proofs.BooksGiven.{starts-given, replies-given}
 use Rattle.host_history.proofs.BooksRead.{dispatches-read, completions-read}
-use Rattle.host_history.proofs.TimersRead.{named, armed-told, armed-read, late-nothing, acts-read, quiet-read}
+use Rattle.host_history.proofs.TimersRead.{named, armed-told, armed-read, late-nothing, strange-nothing, acts-read, quiet-read}
 use Rattle.host_history.proofs.WaitRead.{afresh-read}
 use Rattle.host_history.proofs.RunsRead.{running-read, running-alone}
 
@@ -161,6 +161,7 @@ host-demanded h keeps calls small holds =
       answered = answered-read now kept (at-host h calls holds WholeWhereAnswered (claim .answered));
       grows = grows-read h keeps calls small (claim .grows);
       late = late-nothing now kept (at-host h calls holds LateTimers (claim .late));
+      strange = strange-nothing now kept;
       gone = gone-read h keeps calls small (claim .gone);
       acts = acts-read now kept (at-host h calls holds ActsOnce (claim .acts));
       afresh = afresh-read now kept (at-host h calls holds ArmedAfresh (claim .afresh));

@@ -18,6 +18,7 @@ pub mod FreshHosts
 pub mod HostTheorem
 pub mod Handing
 pub mod Unreadable
+pub mod WrongLengths
 pub mod AnsweredBytes
 pub mod HeaderTold
 pub mod OthersRefused

@@ -1,7 +1,9 @@
 -- Which notices a side gives: the server alone tells "dispatch", by a request that has the number that its record then
--- has, and the client alone "last".
+-- has, and is in RUNNING then; the client alone tells "last", and has its reply then.
 use Prim.Native.Nat.{ℕ}
+use mathlib.Core.Bool.{Bool, true, false}
 use mathlib.Core.Path.{_≡_, refl, sym, subst}
+use Rattle.words.specs.Choice.{choose}
 use Rattle.answers.specs.declared.Answer.{Answer}
 use Rattle.answers.specs.declared.Ground.{Ground}
 use Rattle.answers.specs.declared.Ground.the-variants.{Pass, Refuse}
@@ -12,15 +14,17 @@ use Rattle.flags.specs.Flags.{idempotent, hasFlag}
 use Rattle.pdu.specs.declared.Header.{Header}
 use Rattle.record_bytes.proofs.Keeping.{choice-keeps}
 use Rattle.client_record.specs.declared.Client.{Client}
+use Rattle.client_record.specs.declared.State.{State as ClientState}
 use Rattle.client_record.specs.declared.TimerKind.{TimerKind}
 use Rattle.client_record.specs.declared.TimerKind.the-variants.{Wait, Ack}
+use Rattle.client_record.specs.Record.{ackPending, unarmed as clientUnarmed}
 use Rattle.client_table.specs.declared.Event.{Event}
 use Rattle.client_table.specs.declared.Event.the-variants.{Response, Fault as FaultRow, Reject, Working as WorkingRow, Nocall as NocallRow, Fack, Foreign}
 use Rattle.client_table.specs.Events.{eventOf as clientEventOf}
 use Rattle.client_steps.specs.declared.Plan.{Plan as ClientPlan}
 use Rattle.client_steps.specs.Plan.{refused as clientRefused, accepted as clientAccepted, failed}
 use Rattle.client_steps.specs.Rows.{startPlan, transmitPlan as clientTransmitPlan, waitPlan, ackPlan as clientAckPlan, timerRow as clientTimerRow, timerPlan as clientTimerPlan}
-use Rattle.client_arrivals.specs.Rows.{putNotice as clientPutNotice, putPlan as clientPutPlan, responsePlan, workingPlan as clientWorking, nocallPlan as clientNocall, fackPlan as clientFackPlan}
+use Rattle.client_arrivals.specs.Rows.{putRecord as clientPutRecord, withIncoming as clientWithIncoming, putNotice as clientPutNotice, putPlan as clientPutPlan, responsePlan, workingPlan as clientWorking, nocallPlan as clientNocall, fackPlan as clientFackPlan}
 use Rattle.client_arrivals.specs.Table.{arrivalRow as clientRow, arrivalPlan as clientArrivalPlan}
 use Rattle.client.specs.Machine.{outcomeOf as clientOutcome, starting, sending as clientSending, transmitting as clientTransmitting, timing as clientTiming, planOf as clientPlanOf, acted as clientActed, arriving as clientArriving}
 use Rattle.server_record.specs.declared.Reply.{Reply as HeldReply}
@@ -38,75 +42,91 @@ use Rattle.server_rows.proofs.TableLaws.{equal-told, put-told}
 use Rattle.server_steps.specs.declared.Plan.{Plan}
 use Rattle.server_steps.specs.Plan.{refused, accepted}
 use Rattle.server_steps.specs.Rows.{replyPlan, transmitPlan, faultPlan, replayHeld, replayPlan, resendHeld, resendRow, timerRow, timerPlan}
-use Rattle.server_arrivals.specs.Rows.{begun, withIncoming, putNotice, putPlan, requestPlan, beginPlan, workingPlan, nocallPlan, fackPlan, ackPlan}
+use Rattle.server_arrivals.specs.Rows.{begun, withIncoming, putState, putNotice, putPlan, requestPlan, beginPlan, workingPlan, nocallPlan, fackPlan, ackPlan}
 use Rattle.server_arrivals.specs.Table.{arrivalRow, arrivalPlan}
 use Rattle.server.specs.Machine.{outcomeOf, replying, sending, transmitting, timing, faulting, planOf, acted, arriving}
 use Rattle.history.specs.World.{Side, World}
 use Rattle.history.specs.Events.{ClientEvent, ServerEvent, Start, ClientTransmit, ClientArrive, ClientTimer, ServerArrive, ServerTransmit, ServerTimer, Reply, Fault}
 use Rattle.history.specs.Steps.{clientTurn, serverTurn, subjectOf}
+use Rattle.history.specs.Claim.{runs, hasReply}
 
--- The client never tells "dispatch".
-abbrev pub ClientTells : Notice → Type 0
-ClientTells Untold = Unit {0}
-ClientTells Last = Unit {0}
-ClientTells (Count n) = Unit {0}
-ClientTells (FaultNotice status) = Unit {0}
-ClientTells (RejectNotice status) = Unit {0}
-ClientTells (Cause cause) = Unit {0}
-ClientTells Dispatch = ⊥
+-- The client never tells "dispatch", and "last" only where it has its reply.
+abbrev pub ClientTells : ClientState → Notice → Type 0
+ClientTells state Untold = Unit {0}
+ClientTells state Last = hasReply state ≡ true
+ClientTells state (Count n) = Unit {0}
+ClientTells state (FaultNotice status) = Unit {0}
+ClientTells state (RejectNotice status) = Unit {0}
+ClientTells state (Cause cause) = Unit {0}
+ClientTells state Dispatch = ⊥
+
+abbrev ClientPlanTells : ClientPlan → Type 0
+ClientPlanTells plan = ClientTells (plan .client .state) (plan .notice)
 
 module _ (c : Client) where
-  start-tells : (g : Ground) (call : Call) (n : ℕ) → ClientTells (startPlan g c call n .notice)
+  start-tells : (g : Ground) (call : Call) (n : ℕ) → ClientPlanTells (startPlan g c call n)
   unfolding startPlan clientRefused clientAccepted
   start-tells Pass call n = tt
   start-tells (Refuse a) call n = tt
 
-  transmit-tells : (g : Ground) → ClientTells (clientTransmitPlan g c .notice)
+  transmit-tells : (g : Ground) → ClientPlanTells (clientTransmitPlan g c)
   unfolding clientTransmitPlan clientRefused clientAccepted
   transmit-tells Pass = tt
   transmit-tells (Refuse a) = tt
 
-  timer-tells : (g : Ground) (kind : TimerKind) → ClientTells (clientTimerPlan g kind c .notice)
+  timer-tells : (g : Ground) (kind : TimerKind) → ClientPlanTells (clientTimerPlan g kind c)
   unfolding clientTimerPlan clientTimerRow waitPlan clientAckPlan clientRefused clientAccepted failed
   timer-tells (Refuse a) kind = tt
-  timer-tells Pass Wait = choice-keeps (λ (plan : ClientPlan). ClientTells (plan .notice)) _ _ _ tt tt
+  timer-tells Pass Wait = choice-keeps ClientPlanTells _ _ _ tt tt
   timer-tells Pass Ack = tt
 
-  row-tells : (event : Event) (h : Header) (n status : ℕ) → ClientTells (clientRow event c h n status .notice)
-  unfolding clientRow responsePlan clientPutPlan clientPutNotice clientWorking clientNocall clientFackPlan
+  put-tells : (all idempotent : Bool) (count : ℕ)
+      → ClientTells (clientPutRecord all idempotent c .state) (clientPutNotice all count)
+  unfolding clientPutRecord clientPutNotice choose clientUnarmed ackPending
+  put-tells true true count = refl
+  put-tells true false count = refl
+  put-tells false idempotent count = tt
+
+  row-tells : (event : Event) (h : Header) (n status : ℕ) → ClientPlanTells (clientRow event c h n status)
+  unfolding clientRow responsePlan clientPutPlan clientWithIncoming clientWorking clientNocall clientFackPlan
       clientRefused clientAccepted failed
-  row-tells Response h n status = choice-keeps ClientTells _ Last (Count _) tt tt
+  row-tells Response h n status = put-tells _ (c .call .idempotent) _
   row-tells FaultRow h n status = tt
   row-tells Reject h n status = tt
   row-tells WorkingRow h n status = tt
-  row-tells NocallRow h n status = choice-keeps (λ (plan : ClientPlan). ClientTells (plan .notice)) _ _ _ tt tt
+  row-tells NocallRow h n status = choice-keeps ClientPlanTells _ _ _ tt tt
   row-tells Fack h n status = tt
   row-tells Foreign h n status = tt
 
-  arrival-tells : (g : Ground) (h : Header) (n status : ℕ) → ClientTells (clientArrivalPlan g c h n status .notice)
+  arrival-tells : (g : Ground) (h : Header) (n status : ℕ) → ClientPlanTells (clientArrivalPlan g c h n status)
   unfolding clientArrivalPlan clientRefused
   arrival-tells (Refuse a) h n status = tt
   arrival-tells Pass h n status = row-tells (clientEventOf (h .kind)) h n status
 
-pub client-tells : (c : Side Client) (e : ClientEvent) → ClientTells (clientTurn c e .notice)
+pub client-tells : (c : Side Client) (e : ClientEvent)
+    → ClientTells (clientTurn c e .machine .state) (clientTurn c e .notice)
 unfolding starting clientTransmitting clientTiming clientArriving clientActed clientPlanOf clientSending clientOutcome
 client-tells c (Start call n message) = start-tells (c .machine) _ call n
 client-tells c (ClientTransmit message out) = transmit-tells (c .machine) _
 client-tells c (ClientArrive p lent out) = arrival-tells (c .machine) _ _ _ _
 client-tells c (ClientTimer kind ticket out) = timer-tells (c .machine) _ kind
 
--- The server tells nothing or, with a record of that number, "dispatch".
-abbrev pub ServerTells : ℕ → ℕ → Notice → Type 0
-ServerTells asked kept Untold = Unit {0}
-ServerTells asked kept Last = ⊥
-ServerTells asked kept (Count n) = ⊥
-ServerTells asked kept (FaultNotice status) = ⊥
-ServerTells asked kept (RejectNotice status) = ⊥
-ServerTells asked kept (Cause cause) = ⊥
-ServerTells asked kept Dispatch = kept ≡ asked
+-- The server tells nothing or, with a record of that number and in RUNNING, "dispatch".
+pub record Dispatches (asked kept : ℕ) (state : State) : Type 0 where
+  pub number : kept ≡ asked
+  pub running : runs state ≡ true
+
+abbrev pub ServerTells : ℕ → ℕ → State → Notice → Type 0
+ServerTells asked kept state Untold = Unit {0}
+ServerTells asked kept state Last = ⊥
+ServerTells asked kept state (Count n) = ⊥
+ServerTells asked kept state (FaultNotice status) = ⊥
+ServerTells asked kept state (RejectNotice status) = ⊥
+ServerTells asked kept state (Cause cause) = ⊥
+ServerTells asked kept state Dispatch = Dispatches asked kept state
 
 abbrev PlanTells : ℕ → Plan → Type 0
-PlanTells asked plan = ServerTells asked (plan .server .number) (plan .notice)
+PlanTells asked plan = ServerTells asked (plan .server .number) (plan .server .state) (plan .notice)
 
 module _ (asked : ℕ) (s : Server) where
   reply-tells : (g : Ground) (n : ℕ) → PlanTells asked (replyPlan g s n)
@@ -158,14 +178,20 @@ module _ (s : Server) (h : Header) (n : ℕ) where
       put-told (eventOf (h .kind)) (orderFor s h) (s .state) (hasFlag idempotent (h .flags1)) (s .call .idempotent) e in
       equal-told (isFresh (s .state)) (s .number) (h .number) (told .1) .1
 
+  state-told : (all : Bool) (kept : ℕ) → kept ≡ h .number
+      → ServerTells (h .number) kept (putState all) (putNotice all)
+  unfolding putState putNotice choose
+  state-told true kept same = record { number = same; running = refl }
+  state-told false kept same = tt
+
   by-row : (row : Row) → rowFor s h ≡ row → PlanTells (h .number) (arrivalRow row s h n)
-  unfolding arrivalRow beginPlan requestPlan putPlan putNotice withIncoming unarmed begun workingPlan nocallPlan
+  unfolding arrivalRow beginPlan requestPlan putPlan withIncoming unarmed begun workingPlan nocallPlan
       fackPlan ackPlan refused accepted
   by-row Old e = tt
   by-row Missing e = tt
   by-row Repeat e = tt
-  by-row Begin e = choice-keeps (ServerTells (h .number) (h .number)) _ Dispatch Untold refl tt
-  by-row Put e = choice-keeps (ServerTells (h .number) (s .number)) _ Dispatch Untold (put-number e) tt
+  by-row Begin e = state-told _ (h .number) refl
+  by-row Put e = state-told _ (s .number) (put-number e)
   by-row Working e = tt
   by-row Nocall e = tt
   by-row Replay e = replay-tells (h .number) s (s .state)
@@ -179,7 +205,7 @@ module _ (s : Server) (h : Header) (n : ℕ) where
 
 pub server-tells : (w : World) (e : ServerEvent) (a : Answer)
     → ServerTells (subjectOf w e a .number) (serverTurn (w .server) e .machine .number)
-    (serverTurn (w .server) e .notice)
+    (serverTurn (w .server) e .machine .state) (serverTurn (w .server) e .notice)
 unfolding replying transmitting timing faulting arriving acted planOf sending outcomeOf
 server-tells w (ServerArrive p lent out) a = arrives-tells (w .server .machine) _ _ _
 server-tells w (ServerTransmit message out) a = sends-tells _ (w .server .machine) _

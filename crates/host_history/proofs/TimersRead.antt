@@ -7,9 +7,9 @@ use mathlib.Core.Path.{_≡_, refl, sym, ap, subst, _∙_}
 use native.Mathlib.Omega.{arith}
 use lib.Dec.{eqb, leb}
 use lib.ListN.{getD}
-use borrow.Author.Tests.{eqb-true}
+use borrow.Author.Tests.{eqb-true, ne-eqb}
 use Rattle.words.specs.Choice.{choose}
-use Rattle.words.proofs.Tests.{both-true}
+use Rattle.words.proofs.Tests.{choose-false, both-true}
 use Rattle.timers.specs.declared.Timer.the-variants.{Off, Armed}
 use Rattle.record_bytes.specs.Parts.{timerWhere, isArmed, timerTicket}
 use Rattle.record_bytes.specs.Layout.{readable as sharedReadable, fieldsIn}
@@ -28,11 +28,11 @@ use Rattle.history.specs.World.{World}
 use Rattle.history.specs.Steps.{answerTo, step, run}
 use Rattle.history.specs.Claim.{TimerOf, OnClient, OnServer, timerIn, timerEvent, LateTimers, ActsOnce, namesWait, namesAck, namesResend, Quiet}
 use Rattle.host_history.specs.Results.{answerIn}
-use Rattle.host_history.specs.Hosts.{HostWorld, worldOf, HostCall, exported, hostStep}
+use Rattle.host_history.specs.Hosts.{HostWorld, worldOf, HostCall, ClientTimer, ServerTimer, ToClient, ToServer, exported, hostStep}
 use Rattle.host_history.specs.Meaning.{meant, HostFits, Keeps, TellsOf, Tells}
 use Rattle.host_history.specs.Refusal.{Undone}
 use Rattle.host_history.specs.HostReads.{stateByte, NamesWait, NamesAck, NamesResend, HostTimer, WaitTimer, AckTimer, ResendTimer, markByte, ticketBytes, ArmedWith, timerCall}
-use Rattle.host_history.specs.HostDemand.{DoesNothing, LateDoesNothing, TicketsActOnce, QuietBytes}
+use Rattle.host_history.specs.HostDemand.{DoesNothing, LateDoesNothing, StrangeDoesNothing, TicketsActOnce, QuietBytes}
 use Rattle.host_history.proofs.Refusals.{refused-leaves}
 use Rattle.host_history.proofs.Unchanged.{refused-same}
 use Rattle.host_history.proofs.SameRun.{same-step, told}
@@ -109,6 +109,24 @@ module _ (h : HostWorld) (keeps : Keeps h) where
       (λ done.
       late (named timer) ticket out (λ is. other (armed-read h timer ticket is)) .refused
       (sym (timer-answer timer ticket out small) ∙ done))
+
+  -- so does one of a kind that the side does not have, which is no event;
+  no-event : (call : HostCall) → HostFits call → meant call ≡ [] → DoesNothing h call
+  no-event call small none =
+      undone-nothing h call (subst (Tells (worldOf h) (exported h call)) none (told h call keeps small))
+
+  pub strange-nothing : StrangeDoesNothing h
+  unfolding meant
+  strange-nothing = record {
+    client =
+        λ kind ticket out small not-1 not-2.
+        no-event (ToClient (ClientTimer kind ticket out)) small
+        (choose-false (eqb kind 1) _ _ (ne-eqb kind 1 not-1) ∙ choose-false (eqb kind 2) _ _ (ne-eqb kind 2 not-2));
+    server =
+        λ kind ticket out small not-3.
+        no-event (ToServer (ServerTimer kind ticket out)) small
+        (choose-false (eqb kind 3) _ _ (ne-eqb kind 3 not-3));
+  }
 
   -- and one that acts is no longer armed.
   pub acts-read : ActsOnce (worldOf h) → TicketsActOnce h

@@ -84,7 +84,7 @@ broken-ground true false rest broken = refl
 broken-ground false false rest broken = refl
 
 -- A length above 44,544 is one that is not up to it.
-above : (n : ℕ) → ltb 44544 n ≡ not (leb n 44544)
+pub above : (n : ℕ) → ltb 44544 n ≡ not (leb n 44544)
 above n = by-test (leb n 44544) refl
   where
     by-test : (test : Bool) → leb n 44544 ≡ test → ltb 44544 n ≡ not test
@@ -129,7 +129,7 @@ unfolding partOf
 no-part kept m f slots broken = ap length (choose-false kept _ [] broken)
 
 -- A transmit's lengths are right: of the PDU buffer, and of the message, judged more closely where one is sent.
-abbrev transmitSized : Bool → ℕ → List ℕ → List ℕ → Bool
+abbrev pub transmitSized : Bool → ℕ → List ℕ → List ℕ → Bool
 transmitSized sending size message out =
     both (eqb (length out) 1472)
     (both (leb (length message) 44544) (either (not sending) (eqb (length message) size)))
@@ -180,14 +180,14 @@ server-unlisted n status above =
     replying-byte n status ∙ ne-eqb n 5 (λ (e : n ≡ 5). omega (arith, e, leb-false n 7 above))
 
 -- So a transmit's lengths are right by the bytes of its record.
-client-message : (bytes message out : List ℕ)
+pub client-message : (bytes message out : List ℕ)
     → transmitSized (isSending (clientIn bytes .state)) (clientIn bytes .outgoing .length) message out
     ≡ both (eqb (length out) 1472) (messageSized 1 bytes message)
 unfolding clientIn clientOf fieldsIn outgoingIn
 client-message bytes message out =
     ap (λ (sending : Bool). transmitSized sending (number 4 true bytes 24) message out) (sending-byte (getD bytes 0 0))
 
-server-message : (bytes message out : List ℕ)
+pub server-message : (bytes message out : List ℕ)
     → transmitSized (isReplying (serverIn bytes .state)) (serverIn bytes .outgoing .length) message out
     ≡ both (eqb (length out) 1472) (messageSized 5 bytes message)
 unfolding serverIn serverOf fieldsIn outgoingIn
@@ -195,7 +195,7 @@ server-message bytes message out =
     ap (λ (sending : Bool). transmitSized sending (number 4 true bytes 24) message out)
     (replying-byte (getD bytes 0 0) (number 4 true bytes 48))
 
-both-joined : (a b c : Bool) → both (both a b) c ≡ both a (both b c)
+pub both-joined : (a b c : Bool) → both (both a b) c ≡ both a (both b c)
 unfolding both choose
 both-joined true b c = refl
 both-joined false b c = refl

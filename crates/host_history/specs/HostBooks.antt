@@ -15,7 +15,7 @@ use Rattle.host_history.specs.Results.{answerIn, noticeIn}
 use Rattle.host_history.specs.Hosts.{HostWorld, HostCall, ClientStart, ClientTransmit, ClientArrive, ClientTimer, ServerArrive, ServerTransmit, ServerTimer, ServerReply, ServerFault, ToClient, ToServer, callGiven, exported, hostStep}
 use Rattle.host_history.specs.Meaning.{HostFits}
 use Rattle.host_history.specs.HandedUp.{clientParts}
-use Rattle.host_history.specs.HostReads.{ReadsDispatch}
+use Rattle.host_history.specs.HostReads.{InRunning, HasReply, ReadsDispatch}
 
 -- A start that is answered 0 is one more: with the call data handed in, the message that it is for, and the number at
 -- 16 in the client's bytes after it. Its ordinal is how many came before.
@@ -63,12 +63,13 @@ pub record RepliesGiven (h : HostWorld) : Type 0 where
       (call : HostCall) → (isReply call ≡ true → answerIn (exported h call .result) ≡ Done → ⊥)
       → hostStep h call .books .replies ≡ h .books .replies
 
--- Where the result of a call tells "dispatch", one more is on the books, and it is what the host then reads of the
--- server;
+-- Where the result of a call tells "dispatch", one more is on the books, it is what the host then reads of the
+-- server, and the server is in RUNNING;
 pub record DispatchRead (before after : HostWorld) : Type 0 where
   pub dispatch : Dispatched
   pub added : after .books .dispatches ≡ andThen (before .books .dispatches) dispatch
   pub read : ReadsDispatch (after .server) dispatch
+  pub running : InRunning (after .server)
 
 -- where it tells anything else, there is none.
 pub record DispatchesRead (h : HostWorld) : Type 0 where
@@ -79,12 +80,14 @@ pub record DispatchesRead (h : HostWorld) : Type 0 where
       (call : HostCall) → (noticeIn (exported h call .result) ≡ Dispatch → ⊥)
       → hostStep h call .books .dispatches ≡ h .books .dispatches
 
--- The same of "last": a call told complete is what the host then reads of the client, for its last start.
+-- The same of "last": a call told complete is what the host then reads of the client, for its last start, and the
+-- client is in ACK_PENDING or COMPLETE.
 pub record CompletionRead (before after : HostWorld) : Type 0 where
   pub completion : Completed
   pub added : after .books .completions ≡ andThen (before .books .completions) completion
   pub parts : clientParts (after .client) ≡ completion .bytes
   pub last : completion .ordinal ≡ lastStart (after .books .starts)
+  pub answered : HasReply (after .client)
 
 pub record CompletionsRead (h : HostWorld) : Type 0 where
   pub told :

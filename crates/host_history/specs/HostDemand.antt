@@ -17,7 +17,7 @@ use Rattle.history.specs.Events.{Lent}
 use Rattle.history.specs.Steps.{lastStart}
 use Rattle.history.specs.Claim.{times, DispatchOf, WholeMessage, WholeReply}
 use Rattle.host_history.specs.Results.{answerIn, noticeIn, sentIn}
-use Rattle.host_history.specs.Hosts.{HostWorld, HostCall, ClientArrive, ToClient, exported, hostStep, hostRun}
+use Rattle.host_history.specs.Hosts.{HostWorld, HostCall, ClientArrive, ClientTimer, ServerTimer, ToClient, ToServer, exported, hostStep, hostRun}
 use Rattle.host_history.specs.Meaning.{HostFits}
 use Rattle.host_history.specs.Refusal.{bufferLent}
 use Rattle.host_history.specs.HandedUp.{clientParts}
@@ -111,6 +111,17 @@ LateDoesNothing h =
     (timer : HostTimer) (ticket : ℕ) (out : List ℕ) → HostFits (timerCall timer ticket out)
     → (ArmedWith h timer ticket → ⊥) → DoesNothing h (timerCall timer ticket out)
 
+-- so does a timer's call of a kind that the side does not have: the client has 1 and 2, the server 3;
+pub record StrangeDoesNothing (h : HostWorld) : Type 0 where
+  pub client :
+      (kind ticket : ℕ) (out : List ℕ)
+      → let call = ToClient (ClientTimer kind ticket out) in
+      HostFits call → (kind ≡ 1 → ⊥) → (kind ≡ 2 → ⊥) → DoesNothing h call
+  pub server :
+      (kind ticket : ℕ) (out : List ℕ)
+      → let call = ToServer (ServerTimer kind ticket out) in
+      HostFits call → (kind ≡ 3 → ⊥) → DoesNothing h call
+
 -- a ticket that was armed and is no longer never is again;
 unfoldable pub TicketsGone : HostWorld → List HostCall → Type 0
 TicketsGone h calls =
@@ -184,6 +195,8 @@ pub record HostDemand (h : HostWorld) (calls : List HostCall) : Type 0 where
   pub grows : ReplyGrows h calls
   -- A late timer does nothing.
   pub late : LateDoesNothing (hostRun h calls)
+  -- So does one of a kind that the side does not have.
+  pub strange : StrangeDoesNothing (hostRun h calls)
   -- A ticket that is no longer armed is late for good,
   pub gone : TicketsGone h calls
   -- and a ticket that has acted is no longer armed,

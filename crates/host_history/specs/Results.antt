@@ -10,7 +10,7 @@ use Rattle.calls.specs.declared.Notice.the-variants.{Nothing as Untold, Last, C
 use Rattle.calls.specs.declared.Sent.{Sent}
 use Rattle.calls.specs.declared.Sent.the-variants.{Nothing, Pdu}
 
--- The answer of that number; one above 20 never comes.
+-- The answer of that number. One above 20 never comes (`answer-back`); it is read as 2, so not as 0.
 unfoldable pub answerAt : ℕ → Answer
 answerAt number =
     choose (eqb number 0) Done
@@ -33,9 +33,10 @@ answerAt number =
     (choose (eqb number 17) Contradiction
     (choose (eqb number 18) LateTimer
     (choose (eqb number 19) NumbersUsedUp
-    TicketsUsedUp)))))))))))))))))))
+    (choose (eqb number 20) TicketsUsedUp
+    BrokenRecord))))))))))))))))))))
 
--- The notice of that kind, with its value; a kind above 6 never comes.
+-- The notice of that kind, with its value. A kind above 6 never comes (`notice-back`); it is read as nothing told.
 unfoldable pub noticeAt : ℕ → ℕ → Notice
 noticeAt kind value =
     choose (eqb kind 0) Untold
@@ -44,7 +45,8 @@ noticeAt kind value =
     (choose (eqb kind 3) (Fault value)
     (choose (eqb kind 4) (Reject value)
     (choose (eqb kind 5) (Cause value)
-    Dispatch)))))
+    (choose (eqb kind 6) Dispatch
+    Untold))))))
 
 -- A PDU of that length; none where it is 0.
 unfoldable pub sentAt : ℕ → Sent
