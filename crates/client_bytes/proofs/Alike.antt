@@ -13,7 +13,7 @@ use Rattle.words.specs.Place.{placed}
 use Rattle.record_bytes.specs.Canonical.{SharedUnjudged, SameButAt}
 use Rattle.record_bytes.specs.Parts.{timerWhere}
 use Rattle.record_bytes.specs.Layout.{fieldsIn}
-use Rattle.record_bytes.proofs.Alike.{timer-alike, mark-not-zero, number-alike, clear-alike, front-alike, shared-readable, fields-alike, put-alike}
+use Rattle.record_bytes.proofs.Alike.{timer-alike, mark-not-zero, number-alike, clear-alike, front-alike, shared-readable, fields-alike, put-any, first-ticket-any, slot-length-any}
 use Rattle.client_bytes.specs.Canonical.{Unjudged}
 use Rattle.client_bytes.specs.Layout.{readable, clientOf, clientIn}
 
@@ -69,34 +69,27 @@ module _ (b c : List ℕ) (alike : SameButAt (Unjudged b) b c) where
       })
 
 -- So whatever is put into places that are not judged, nothing changes.
-put-any : (at : ℕ) (s b : List ℕ) → length b ≡ 272 → at + length s ≤ 272
-    → ((i : ℕ) → at ≤ i → i < at + length s → Unjudged b i)
-    → (readable (placed at s b) ≡ readable b) × (clientIn (placed at s b) ≡ clientIn b)
-put-any at s b size room there =
-    let alike : SameButAt (Unjudged b) b (placed at s b) = put-alike (Unjudged b) at s b size room there in
-    (client-readable-alike b _ alike, client-alike b _ alike)
+both-alike : (b c : List ℕ) → SameButAt (Unjudged b) b c → (readable c ≡ readable b) × (clientIn c ≡ clientIn b)
+both-alike b c alike = (client-readable-alike b c alike, client-alike b c alike)
+
+shared : (b : List ℕ) (i : ℕ) → SharedUnjudged b i → Unjudged b i
+shared b i u = inl u
 
 module _ (b : List ℕ) (size : length b ≡ 272) where
   -- Any 8 bytes as the ticket of WAIT where it is not armed.
   pub wait-ticket-any : (ticket : List ℕ) → length ticket ≡ 8 → getD b 64 0 ≡ 0
       → (readable (placed 40 ticket b) ≡ readable b) × (clientIn (placed 40 ticket b) ≡ clientIn b)
-  wait-ticket-any ticket width unarmed =
-      put-any 40 ticket b size (omega (arith, width))
-      (λ (i : ℕ) (low : 40 ≤ i) (high : i < 40 + length ticket).
-      inl (inl (unarmed, low, omega (arith, high, width))))
+  wait-ticket-any = first-ticket-any readable clientIn Unjudged both-alike shared b size
 
   -- Any 8 bytes as the ticket of ACK where it is not armed.
   pub ack-ticket-any : (ticket : List ℕ) → length ticket ≡ 8 → getD b 65 0 ≡ 0
       → (readable (placed 48 ticket b) ≡ readable b) × (clientIn (placed 48 ticket b) ≡ clientIn b)
   ack-ticket-any ticket width unarmed =
-      put-any 48 ticket b size (omega (arith, width))
+      put-any readable clientIn Unjudged both-alike 48 ticket b size (omega (arith, width))
       (λ (i : ℕ) (low : 48 ≤ i) (high : i < 48 + length ticket).
       inr (unarmed, low, omega (arith, high, width)))
 
   -- Any 2 bytes as the length of a slot that is not held.
   pub length-any : (f : ℕ) (two : List ℕ) → f < 32 → length two ≡ 2 → getD b (4 * f + 146) 0 ≡ 0
       → (readable (placed (4 * f + 144) two b) ≡ readable b) × (clientIn (placed (4 * f + 144) two b) ≡ clientIn b)
-  length-any f two below width missing =
-      put-any (4 * f + 144) two b size (omega (arith, below, width))
-      (λ (i : ℕ) (low : 4 * f + 144 ≤ i) (high : i < 4 * f + 144 + length two).
-      inl (inr (record { fragment = f; missing = missing; from = low; below = omega (arith, high, width) })))
+  length-any = slot-length-any readable clientIn Unjudged both-alike shared b size

@@ -18,6 +18,9 @@ pub mod FreshHosts
 pub mod HostTheorem
 pub mod Handing
 pub mod Unreadable
+pub mod WrongGrounds
+pub mod WrongOfClient
+pub mod WrongOfServer
 pub mod WrongLengths
 pub mod AnsweredBytes
 pub mod HeaderTold

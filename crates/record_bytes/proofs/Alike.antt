@@ -263,7 +263,7 @@ put-aside at s d i room outside = by-place (ltb i at) refl
         ∙ getD-take at d i 0 (ltb-true i at e)
     by-place false e = behind (ltb-false i at e)
 
-pub put-alike : (Unjudged : ℕ → Type 0) (at : ℕ) (s b : List ℕ) → length b ≡ 272 → at + length s ≤ 272
+put-alike : (Unjudged : ℕ → Type 0) (at : ℕ) (s b : List ℕ) → length b ≡ 272 → at + length s ≤ 272
     → ((i : ℕ) → at ≤ i → i < at + length s → Unjudged i) → SameButAt Unjudged b (placed at s b)
 put-alike Unjudged at s b size room there =
     let fits : at + length s ≤ length b = omega (arith, size, room) in
@@ -274,3 +274,33 @@ put-alike Unjudged at s b size room there =
           ap (λ (l : List ℕ). getD l i 0) (placed-fits at s b fits)
           ∙ put-aside at s b i fits (λ (place : (at ≤ i) × (i < at + length s)). judged (there i (place .0) (place .1)));
     }
+
+-- So whatever is put into places that are not judged, nothing changes: said once of either side, by what it calls
+-- readable, the record that it reads and the places that it does not judge.
+module _ {Machine : Type 0} (isReadable : List ℕ → Bool) (recordIn : List ℕ → Machine)
+    (Unjudged : List ℕ → ℕ → Type 0)
+    (alike : (b c : List ℕ) → SameButAt (Unjudged b) b c → (isReadable c ≡ isReadable b) × (recordIn c ≡ recordIn b))
+  where
+    pub put-any : (at : ℕ) (s b : List ℕ) → length b ≡ 272 → at + length s ≤ 272
+        → ((i : ℕ) → at ≤ i → i < at + length s → Unjudged b i)
+        → (isReadable (placed at s b) ≡ isReadable b) × (recordIn (placed at s b) ≡ recordIn b)
+    put-any at s b size room there = alike b (placed at s b) (put-alike (Unjudged b) at s b size room there)
+
+    module _ (shared : (b : List ℕ) (i : ℕ) → SharedUnjudged b i → Unjudged b i) (b : List ℕ)
+        (size : length b ≡ 272) where
+      -- Any 8 bytes as the ticket of the first timer where it is not armed.
+      pub first-ticket-any : (ticket : List ℕ) → length ticket ≡ 8 → getD b 64 0 ≡ 0
+          → (isReadable (placed 40 ticket b) ≡ isReadable b) × (recordIn (placed 40 ticket b) ≡ recordIn b)
+      first-ticket-any ticket width unarmed =
+          put-any 40 ticket b size (omega (arith, width))
+          (λ (i : ℕ) (low : 40 ≤ i) (high : i < 40 + length ticket).
+          shared b i (inl (unarmed, low, omega (arith, high, width))))
+
+      -- Any 2 bytes as the length of a slot that is not held.
+      pub slot-length-any : (f : ℕ) (two : List ℕ) → f < 32 → length two ≡ 2 → getD b (4 * f + 146) 0 ≡ 0
+          → (isReadable (placed (4 * f + 144) two b) ≡ isReadable b)
+          × (recordIn (placed (4 * f + 144) two b) ≡ recordIn b)
+      slot-length-any f two below width missing =
+          put-any (4 * f + 144) two b size (omega (arith, below, width))
+          (λ (i : ℕ) (low : 4 * f + 144 ≤ i) (high : i < 4 * f + 144 + length two).
+          shared b i (inr (record { fragment = f; missing = missing; from = low; below = omega (arith, high, width) })))

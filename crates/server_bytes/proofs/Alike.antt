@@ -14,7 +14,7 @@ use Rattle.words.specs.Place.{placed}
 use Rattle.record_bytes.specs.Canonical.{SharedUnjudged, SameButAt}
 use Rattle.record_bytes.specs.Parts.{clear}
 use Rattle.record_bytes.specs.Layout.{fieldsIn}
-use Rattle.record_bytes.proofs.Alike.{number-alike, clear-alike, front-alike, back-alike, shared-readable, fields-alike, put-alike}
+use Rattle.record_bytes.proofs.Alike.{number-alike, clear-alike, front-alike, back-alike, shared-readable, fields-alike, put-any, first-ticket-any, slot-length-any}
 use Rattle.server_record.specs.declared.State.{State}
 use Rattle.server_record.specs.declared.State.the-variants.{Idle as IdleState, Collect, Running, Replying, Held}
 use Rattle.server_record.specs.declared.Idle.the-variants.{Fresh, Spent, Repeatable}
@@ -101,34 +101,27 @@ module _ (b c : List ℕ) (alike : SameButAt (Unjudged b) b c) where
       })
 
 -- So whatever is put into places that are not judged, nothing changes.
-put-any : (at : ℕ) (s b : List ℕ) → length b ≡ 272 → at + length s ≤ 272
-    → ((i : ℕ) → at ≤ i → i < at + length s → Unjudged b i)
-    → (readable (placed at s b) ≡ readable b) × (serverIn (placed at s b) ≡ serverIn b)
-put-any at s b size room there =
-    let alike : SameButAt (Unjudged b) b (placed at s b) = put-alike (Unjudged b) at s b size room there in
-    (server-readable-alike b _ alike, server-alike b _ alike)
+both-alike : (b c : List ℕ) → SameButAt (Unjudged b) b c → (readable c ≡ readable b) × (serverIn c ≡ serverIn b)
+both-alike b c alike = (server-readable-alike b c alike, server-alike b c alike)
+
+shared : (b : List ℕ) (i : ℕ) → SharedUnjudged b i → Unjudged b i
+shared b i u = inl u
 
 module _ (b : List ℕ) (size : length b ≡ 272) where
   -- Any 8 bytes as the ticket of RESEND where it is not armed.
   pub resend-ticket-any : (ticket : List ℕ) → length ticket ≡ 8 → getD b 64 0 ≡ 0
       → (readable (placed 40 ticket b) ≡ readable b) × (serverIn (placed 40 ticket b) ≡ serverIn b)
-  resend-ticket-any ticket width unarmed =
-      put-any 40 ticket b size (omega (arith, width))
-      (λ (i : ℕ) (low : 40 ≤ i) (high : i < 40 + length ticket).
-      inl (inl (unarmed, low, omega (arith, high, width))))
+  resend-ticket-any = first-ticket-any readable serverIn Unjudged both-alike shared b size
 
   -- Any 4 bytes as the status outside HELD with fault.
   pub status-any : (status : List ℕ) → length status ≡ 4 → eqb (getD b 0 0) 7 ≡ false
       → (readable (placed 48 status b) ≡ readable b) × (serverIn (placed 48 status b) ≡ serverIn b)
   status-any status width other =
-      put-any 48 status b size (omega (arith, width))
+      put-any readable serverIn Unjudged both-alike 48 status b size (omega (arith, width))
       (λ (i : ℕ) (low : 48 ≤ i) (high : i < 48 + length status).
       inr (other, low, omega (arith, high, width)))
 
   -- Any 2 bytes as the length of a slot that is not held.
   pub length-any : (f : ℕ) (two : List ℕ) → f < 32 → length two ≡ 2 → getD b (4 * f + 146) 0 ≡ 0
       → (readable (placed (4 * f + 144) two b) ≡ readable b) × (serverIn (placed (4 * f + 144) two b) ≡ serverIn b)
-  length-any f two below width missing =
-      put-any (4 * f + 144) two b size (omega (arith, below, width))
-      (λ (i : ℕ) (low : 4 * f + 144 ≤ i) (high : i < 4 * f + 144 + length two).
-      inl (inr (record { fragment = f; missing = missing; from = low; below = omega (arith, high, width) })))
+  length-any = slot-length-any readable serverIn Unjudged both-alike shared b size
