@@ -9,6 +9,7 @@ use lib.Dec.{eqb}
 use lib.ListN.{length}
 use Rattle.words.specs.Choice.{choose}
 use Rattle.words.specs.Place.{putAt}
+use Rattle.words.specs.Sizes.{bodySize, windowSize, slotsSize}
 use Rattle.words.proofs.Place.{placed-fits}
 use Rattle.answers.specs.declared.Answer.the-variants.{Done}
 use Rattle.answers.specs.declared.Ground.{Ground}
@@ -35,15 +36,16 @@ use Rattle.grounds.proofs.GroundLaws.{lent-passes, fragment-passes, body-length
 use Rattle.client_record.specs.declared.Client.{Client}
 use Rattle.client_record.specs.States.{isQueued}
 use Rattle.client_record.specs.Rules.{sound}
+use Rattle.client_record.specs.Record.{withOutgoing, withIncoming, withWaits}
 use Rattle.client_record.proofs.StateLaws.{active-state}
 use Rattle.client_record.proofs.RecordLaws.{untimed-told}
 use Rattle.client_table.specs.declared.Event.{Event}
 use Rattle.client_table.specs.declared.Event.the-variants.{Response, Fack}
 use Rattle.client_table.specs.Events.{serverEvent, eventOf, byEvent, hasRow}
-use Rattle.client_steps.specs.Plan.{accepted, withOutgoing}
+use Rattle.client_steps.specs.Plan.{accepted}
 use Rattle.client_steps.specs.Rows.{started, startPlan, transmitPlan}
 use Rattle.client_steps.proofs.StepLaws.{next-number, transmitted-one-more}
-use Rattle.client_arrivals.specs.Rows.{acknowledged, fackPlan, withIncoming, putPlan, responsePlan}
+use Rattle.client_arrivals.specs.Rows.{acknowledged, fackPlan, putPlan, responsePlan}
 use Rattle.client_arrivals.specs.Table.{arrivalRow, arrivalPlan}
 use Rattle.client.specs.Machine.{outcomeOf, sending, planOf, acted, starting, transmitting, arriving}
 use Rattle.client.proofs.Judging.{CanArrive, start-passes, transmit-passes, arrival-passes}
@@ -90,8 +92,8 @@ module _ (c : Client) (datagram slots out : List ℕ) (done : arriving c datagra
   -- It has entered and passed its row's judgement, and leaves what its row leaves.
   record Accepted (event : Event) : Type 0 where
     kept : sound c ≡ true
-    room : length slots ≡ 44544
-    short : length (bodyOf datagram) ≤ 1392
+    room : length slots ≡ slotsSize
+    short : length (bodyOf datagram) ≤ bodySize
     can : CanArrive event c h n
     leaves : arriving c datagram slots out .outcome .client ≡ arrivalRow event c h n status .client
     stores : arriving c datagram slots out .slots ≡ storing (arrivalRow event c h n status .put) (h .fragment) (bodyOf datagram) slots
@@ -130,14 +132,14 @@ module _ (c : Client) (datagram slots out : List ℕ) (done : arriving c datagra
   pub response-length : h .kind ≡ 2
       → arriving c datagram slots out .outcome .client .incoming
       ≡ stored (c .incoming) (h .fragment) (length (bodyOf datagram)) (isLast (h .flags1))
-  unfolding arrivalRow responsePlan putPlan withIncoming eventOf serverEvent choose
+  unfolding arrivalRow responsePlan putPlan withIncoming withWaits eventOf serverEvent choose
   response-length typed =
       let a = accepted-as Response (ap eventOf typed) in
       ap (λ (d : Client). d .incoming) (a .leaves)
       ∙ ap (λ (k : ℕ). stored (c .incoming) (h .fragment) k (isLast (h .flags1))) (body-length (bodyOf datagram) (a .short))
 
   -- and is held,
-  pub response-held : h .kind ≡ 2 → length (c .incoming .slots) ≡ 32
+  pub response-held : h .kind ≡ 2 → length (c .incoming .slots) ≡ windowSize
       → held (arriving c datagram slots out .outcome .client .incoming) (h .fragment) ≡ true
   unfolding eventOf serverEvent byEvent choose
   response-held typed long =
@@ -147,7 +149,7 @@ module _ (c : Client) (datagram slots out : List ℕ) (done : arriving c datagra
       ∙ stored-held-same (c .incoming) (h .fragment) (length (bodyOf datagram)) (isLast (h .flags1)) (omega arith)
 
   -- and its body lies in its place of the slot buffer.
-  pub response-bytes : h .kind ≡ 2 → arriving c datagram slots out .slots ≡ putAt (1392 * h .fragment) (bodyOf datagram) slots
+  pub response-bytes : h .kind ≡ 2 → arriving c datagram slots out .slots ≡ putAt (bodySize * h .fragment) (bodyOf datagram) slots
   unfolding arrivalRow responsePlan putPlan storing eventOf serverEvent byEvent choose
   response-bytes typed =
       let a = accepted-as Response (ap eventOf typed) in
@@ -156,4 +158,4 @@ module _ (c : Client) (datagram slots out : List ℕ) (done : arriving c datagra
       let short = a .short in
       a .stores
       ∙ filled-placed (h .fragment) (bodyOf datagram) slots room short (omega arith)
-      ∙ placed-fits (1392 * h .fragment) (bodyOf datagram) slots (omega arith)
+      ∙ placed-fits (bodySize * h .fragment) (bodyOf datagram) slots (omega arith)

@@ -9,9 +9,12 @@ use client_steps::Send;
 use client_table::Event;
 use incoming::Incoming;
 use pdu::Header;
+use words::RETRY_LIMIT;
 ghost use mathlib.Core.Path.{_≡_};
 ghost use Prim.Native.Nat.{_<_};
-ghost use Rattle.client_arrivals.specs.Rows.{acknowledged as acknowledgedRecord, fackPlan, putRecord, withIncoming, withResends, putNotice, fackFor, putPlan, responsePlan, workingPlan, resent as resentRecord, nocallPlan};
+ghost use Rattle.client_record.specs.Record.{withIncoming, withResends};
+ghost use Rattle.words.specs.Sizes.{retryLimit};
+ghost use Rattle.client_arrivals.specs.Rows.{acknowledged as acknowledgedRecord, fackPlan, putRecord, received as receivedRecord, putNotice, fackFor, putPlan, responsePlan, workingPlan, resent as resentRecord, nocallPlan};
 ghost use Rattle.client_arrivals.specs.Table.{arrivalRow, arrivalPlan};
 
 // The record after a fack of number g.
@@ -20,7 +23,7 @@ fn acknowledged(c: Client, g: u16) -> Client
 {
     let o = c.outgoing;
     let count = grounds::acknowledged_by(g);
-    client_steps::with_outgoing(c, outgoing::acknowledge(o, count))
+    client_record::with_outgoing(c, outgoing::acknowledge(o, count))
 }
 
 // A fack.
@@ -43,14 +46,11 @@ fn put_record(complete: bool, idempotent: bool, c: Client) -> Client
     client_record::to_waiting(c, State::ReceiveFrags)
 }
 
-// The record with another message received, and the WAIT count 0.
-fn with_incoming(c: Client, m: Incoming) -> Client
-    ensures { λ r. ⌜ r ≡ withIncoming c m ⌝ }
+// The record with what is held after a put, and the WAIT count 0.
+fn received(c: Client, m: Incoming) -> Client
+    ensures { λ r. ⌜ r ≡ receivedRecord c m ⌝ }
 {
-    let mut next = c;
-    next.incoming = m;
-    next.waits = 0;
-    next
+    client_record::with_waits(client_record::with_incoming(c, m), 0)
 }
 
 // What is told of a response.
@@ -84,7 +84,7 @@ fn put(c: Client, m: Incoming, flags1: u8, serial: u16) -> Plan
     let send = fack_for(grounds::wants_fack(flags1), serial);
     Plan {
         answer: Answer::Done,
-        client: with_incoming(next, m),
+        client: received(next, m),
         send,
         notice,
         put: true,
@@ -104,7 +104,7 @@ fn response(c: Client, flags1: u8, serial: u16, f: u16, length: u16) -> Plan
 fn working(c: Client) -> Plan
     ensures { λ r. ⌜ r ≡ workingPlan c ⌝ }
 {
-    let next = client_steps::with_waits(c, 0);
+    let next = client_record::with_waits(c, 0);
     client_steps::accepted(
         client_record::to_waiting(next, State::Dispatched),
         Send::Nothing,
@@ -112,31 +112,22 @@ fn working(c: Client) -> Plan
     )
 }
 
-// The record with another count of resends.
-fn with_resends(c: Client, resends: u8) -> Client
-    ensures { λ r. ⌜ r ≡ withResends c resends ⌝ }
-{
-    let mut next = c;
-    next.resends = resends;
-    next
-}
-
 // The record when the request goes out again.
 fn resent(c: Client) -> Client
-    requires { ⌜ c .resends < 5 ⌝ }
+    requires { ⌜ c .resends < retryLimit ⌝ }
     ensures { λ r. ⌜ r ≡ resentRecord c ⌝ }
 {
     let o = c.outgoing;
     let resends = c.resends + 1;
-    let next = client_steps::with_outgoing(c, outgoing::rewind(o));
-    with_resends(client_record::to_unarmed(next, State::SendFrags), resends)
+    let next = client_record::with_outgoing(c, outgoing::rewind(o));
+    client_record::with_resends(client_record::to_unarmed(next, State::SendFrags), resends)
 }
 
 // Nocall.
 fn nocall(c: Client) -> Plan
     ensures { λ r. ⌜ r ≡ nocallPlan c ⌝ }
 {
-    if c.resends < 5 {
+    if c.resends < RETRY_LIMIT {
         return client_steps::accepted(resent(c), Send::Nothing, Notice::Nothing);
     }
     client_steps::failed(c, Notice::Cause(2))

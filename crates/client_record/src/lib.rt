@@ -1,13 +1,15 @@
-// The client's record: what a console keeps of its activity, the rules that a record keeps, and the
-// three ways in which a row leaves its timers.
+// The client's record: what a console keeps of its activity, the rules that a record keeps, the three
+// ways in which a row leaves its timers, the record with another part, and which timer a row arms.
 use calls::Call;
 use incoming::Incoming;
 use outgoing::Outgoing;
 use timers::Timer;
+use words::RETRY_LIMIT;
 ghost use mathlib.Core.Path.{_≡_};
 ghost use Rattle.client_record.specs.States.{mayStart, isQueued, isSending, isActive, isDispatched, isWaiting, isAckPending};
 ghost use Rattle.client_record.specs.Rules.{countsSound, messageRule, outgoingSound, timersSound, sound};
-ghost use Rattle.client_record.specs.Record.{fresh as freshRecord, timed, waiting, ackPending, unarmed};
+ghost use Rattle.client_record.specs.Record.{fresh as freshRecord, timed, waiting, ackPending, unarmed, withOutgoing, withIncoming, withWaits, withResends, withCall};
+ghost use Rattle.client_record.specs.Arming.{namedTimer, namedBy, pings};
 
 pub enum State {
     Queued,
@@ -145,11 +147,11 @@ pub fn is_ack_pending(state: State) -> bool
     }
 }
 
-// Whether the counts are at most 5.
+// Whether the counts are within the retry limit.
 fn counts_are_sound(waits: u8, resends: u8) -> bool
     ensures { λ r. ⌜ r ≡ countsSound waits resends ⌝ }
 {
-    words::both(waits <= 5, resends <= 5)
+    words::both(waits <= RETRY_LIMIT, resends <= RETRY_LIMIT)
 }
 
 // Which rule of the fragment count a state asks for: none out, one that is not all sent, or one.
@@ -271,4 +273,90 @@ pub fn to_unarmed(c: Client, state: State) -> Client
     ensures { λ r. ⌜ r ≡ unarmed c state ⌝ }
 {
     with_timers(c, state, c.tickets, Timer::Off, Timer::Off)
+}
+
+// The record with another message sent.
+pub fn with_outgoing(c: Client, o: Outgoing) -> Client
+    ensures { λ r. ⌜ r ≡ withOutgoing c o ⌝ }
+{
+    let mut next = c;
+    next.outgoing = o;
+    next
+}
+
+// The record with other fragments held.
+pub fn with_incoming(c: Client, m: Incoming) -> Client
+    ensures { λ r. ⌜ r ≡ withIncoming c m ⌝ }
+{
+    let mut next = c;
+    next.incoming = m;
+    next
+}
+
+// The record with another WAIT count.
+pub fn with_waits(c: Client, waits: u8) -> Client
+    ensures { λ r. ⌜ r ≡ withWaits c waits ⌝ }
+{
+    let mut next = c;
+    next.waits = waits;
+    next
+}
+
+// The record with another count of resends.
+pub fn with_resends(c: Client, resends: u8) -> Client
+    ensures { λ r. ⌜ r ≡ withResends c resends ⌝ }
+{
+    let mut next = c;
+    next.resends = resends;
+    next
+}
+
+// Another call in place of the last one, of which nothing stays.
+pub fn with_call(c: Client, state: State, number: u32, call: Call, outgoing: Outgoing) -> Client
+    ensures { λ r. ⌜ r ≡ withCall c state number call outgoing ⌝ }
+{
+    let activity = c.activity;
+    Client {
+        state,
+        activity,
+        number,
+        call,
+        outgoing,
+        incoming: incoming::empty(),
+        waits: 0,
+        resends: 0,
+        tickets: c.tickets,
+        wait: Timer::Off,
+        ack: Timer::Off,
+    }
+}
+
+// The timer of a kind.
+pub fn timer_of(kind: TimerKind, wait: Timer, ack: Timer) -> Timer
+    ensures { λ r. ⌜ r ≡ namedTimer kind wait ack ⌝ }
+{
+    match kind {
+        TimerKind::Wait => wait,
+        TimerKind::Ack => ack,
+    }
+}
+
+// Whether the state has the row of a timer.
+pub fn is_named(kind: TimerKind, state: State) -> bool
+    ensures { λ r. ⌜ r ≡ namedBy kind state ⌝ }
+{
+    match kind {
+        TimerKind::Wait => is_waiting(state),
+        TimerKind::Ack => is_ack_pending(state),
+    }
+}
+
+// Whether the timer's row arms it afresh.
+pub fn arms_afresh(kind: TimerKind, waits: u8) -> bool
+    ensures { λ r. ⌜ r ≡ pings kind waits ⌝ }
+{
+    match kind {
+        TimerKind::Wait => waits < RETRY_LIMIT,
+        TimerKind::Ack => false,
+    }
 }

@@ -7,11 +7,12 @@ use calls::Notice;
 use client_record::Client;
 use client_record::State;
 use client_record::TimerKind;
-use outgoing::Outgoing;
-use timers::Timer;
+use words::RETRY_LIMIT;
 ghost use mathlib.Core.Path.{_≡_};
 ghost use Prim.Native.Nat.{_<_};
-ghost use Rattle.client_steps.specs.Plan.{refused as refusedPlan, accepted as acceptedPlan, withOutgoing, withWaits, failed as failedPlan};
+ghost use Rattle.client_record.specs.Record.{withOutgoing, withWaits};
+ghost use Rattle.words.specs.Sizes.{retryLimit};
+ghost use Rattle.client_steps.specs.Plan.{refused as refusedPlan, accepted as acceptedPlan, failed as failedPlan};
 ghost use Rattle.client_steps.specs.Rows.{nextNumber, started as startedRecord, startPlan, transmitted as transmittedRecord, transmitPlan, pinged as pingedRecord, waitPlan, ackPlan, timerRow, timerPlan};
 
 // What is to be sent: nothing, the request's fragment of that number, a ping, an ack, or a fack for
@@ -60,24 +61,6 @@ pub fn accepted(c: Client, send: Send, notice: Notice) -> Plan
     }
 }
 
-// The record with another message sent.
-pub fn with_outgoing(c: Client, o: Outgoing) -> Client
-    ensures { λ r. ⌜ r ≡ withOutgoing c o ⌝ }
-{
-    let mut next = c;
-    next.outgoing = o;
-    next
-}
-
-// The record with another WAIT count.
-pub fn with_waits(c: Client, waits: u8) -> Client
-    ensures { λ r. ⌜ r ≡ withWaits c waits ⌝ }
-{
-    let mut next = c;
-    next.waits = waits;
-    next
-}
-
 // The call fails: to FAULT, with nothing armed.
 pub fn failed(c: Client, notice: Notice) -> Plan
     ensures { λ r. ⌜ r ≡ failedPlan c notice ⌝ }
@@ -104,20 +87,8 @@ fn started(c: Client, call: Call, length: u32) -> Client
     ensures { λ r. ⌜ r ≡ startedRecord c call length ⌝ }
 {
     let state = c.state;
-    let activity = c.activity;
-    Client {
-        state: State::SendFrags,
-        activity,
-        number: next_number(client_record::is_queued(state), c.number),
-        call,
-        outgoing: outgoing::start(length),
-        incoming: incoming::empty(),
-        waits: 0,
-        resends: 0,
-        tickets: c.tickets,
-        wait: Timer::Off,
-        ack: Timer::Off,
-    }
+    let number = next_number(client_record::is_queued(state), c.number);
+    client_record::with_call(c, State::SendFrags, number, call, outgoing::start(length))
 }
 
 // Start, judged.
@@ -135,7 +106,7 @@ fn transmitted(last: bool, c: Client) -> Client
     ensures { λ r. ⌜ r ≡ transmittedRecord last c ⌝ }
 {
     let o = c.outgoing;
-    let next = with_outgoing(c, outgoing::after_send(o));
+    let next = client_record::with_outgoing(c, outgoing::after_send(o));
     if last {
         return client_record::to_waiting(next, State::Dispatched);
     }
@@ -156,14 +127,14 @@ pub fn transmit(ground: Ground, c: Client) -> Plan
 
 // The record after a ping: the serial and the count go up, WAIT is armed afresh.
 fn pinged(c: Client) -> Client
-    requires { ⌜ c .waits < 5 ⌝ }
+    requires { ⌜ c .waits < retryLimit ⌝ }
     ensures { λ r. ⌜ r ≡ pingedRecord c ⌝ }
 {
     let o = c.outgoing;
     let state = c.state;
     let waits = c.waits + 1;
-    with_waits(
-        client_record::to_waiting(with_outgoing(c, outgoing::after_ping(o)), state),
+    client_record::with_waits(
+        client_record::to_waiting(client_record::with_outgoing(c, outgoing::after_ping(o)), state),
         waits,
     )
 }
@@ -172,7 +143,7 @@ fn pinged(c: Client) -> Client
 fn wait(c: Client) -> Plan
     ensures { λ r. ⌜ r ≡ waitPlan c ⌝ }
 {
-    if c.waits < 5 {
+    if c.waits < RETRY_LIMIT {
         return accepted(pinged(c), Send::Ping, Notice::Nothing);
     }
     failed(c, Notice::Cause(1))

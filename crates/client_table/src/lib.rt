@@ -6,13 +6,14 @@ use client_record::Client;
 use client_record::State;
 use client_record::TimerKind;
 use incoming::Incoming;
-use outgoing::MESSAGE_SIZE;
 use reader::Reading;
 use timers::Timer;
+use words::MESSAGE_SIZE;
 ghost use mathlib.Core.Path.{_≡_};
+ghost use Rattle.client_record.specs.Arming.{namedTimer, namedBy, pings};
 ghost use Rattle.client_table.specs.Events.{serverEvent, eventOf, byEvent, sideGround, hasRow, arms as armsTimer};
 ghost use Rattle.client_table.specs.Arrival.{numberGround, pduGround, completes as completesMessage, rowGround, tableGround, arrivalGround};
-ghost use Rattle.client_table.specs.Local.{startGround, transmitGround, namedTimer, namedBy, pings, timerGround};
+ghost use Rattle.client_table.specs.Local.{startGround, transmitGround, timerGround};
 
 // What an arriving PDU is to the client.
 pub enum Event {
@@ -27,7 +28,7 @@ pub enum Event {
 }
 
 // The last call number.
-const LAST_NUMBER: u32 = 4294967295;
+const LAST_CALL: u32 = 4294967295;
 
 // What the server answers a call with: types 2 to 6.
 fn server_event(kind: u8) -> Event
@@ -210,7 +211,7 @@ pub fn start(c: Client, length: u32) -> Ground
     let may = client_record::may_start(state);
     let row = grounds::refuse_if(!may, Answer::NoRow);
     let queued = client_record::is_queued(state);
-    let up = words::both(!queued, c.number == LAST_NUMBER);
+    let up = words::both(!queued, c.number == LAST_CALL);
     let numbers = grounds::refuse_if(up, Answer::NumbersUsedUp);
     grounds::first_of(
         long,
@@ -236,36 +237,6 @@ pub fn transmit(c: Client, message: usize, out: usize) -> Ground
     )
 }
 
-// The timer of a kind.
-fn timer_of(kind: TimerKind, wait: Timer, ack: Timer) -> Timer
-    ensures { λ r. ⌜ r ≡ namedTimer kind wait ack ⌝ }
-{
-    match kind {
-        TimerKind::Wait => wait,
-        TimerKind::Ack => ack,
-    }
-}
-
-// Whether the state has the row of a timer.
-fn is_named(kind: TimerKind, state: State) -> bool
-    ensures { λ r. ⌜ r ≡ namedBy kind state ⌝ }
-{
-    match kind {
-        TimerKind::Wait => client_record::is_waiting(state),
-        TimerKind::Ack => client_record::is_ack_pending(state),
-    }
-}
-
-// Whether the timer's row arms it afresh.
-fn arms_afresh(kind: TimerKind, waits: u8) -> bool
-    ensures { λ r. ⌜ r ≡ pings kind waits ⌝ }
-{
-    match kind {
-        TimerKind::Wait => waits < 5,
-        TimerKind::Ack => false,
-    }
-}
-
 // The ground of a timer event.
 pub fn timer(c: Client, kind: TimerKind, ticket: u64, out: usize) -> Ground
     ensures { λ r. ⌜ r ≡ timerGround c kind ticket out ⌝ }
@@ -273,13 +244,13 @@ pub fn timer(c: Client, kind: TimerKind, ticket: u64, out: usize) -> Ground
     let state = c.state;
     let wait = c.wait;
     let ack = c.ack;
-    let lent = grounds::refuse_if(out != pdu::PDU_SIZE, Answer::WrongLength);
+    let lent = grounds::refuse_if(out != words::PDU_SIZE, Answer::WrongLength);
     let sound = client_record::is_sound(c);
     let rules = grounds::refuse_if(!sound, Answer::BrokenRecord);
-    let named = is_named(kind, state);
+    let named = client_record::is_named(kind, state);
     let row = grounds::refuse_if(!named, Answer::NoRow);
-    let late = grounds::late(timer_of(kind, wait, ack), ticket);
-    let fresh = grounds::tickets(arms_afresh(kind, c.waits), c.tickets);
+    let late = grounds::late(client_record::timer_of(kind, wait, ack), ticket);
+    let fresh = grounds::tickets(client_record::arms_afresh(kind, c.waits), c.tickets);
     let rest = grounds::first_of(row, grounds::first_of(late, fresh));
     grounds::first_of(lent, grounds::first_of(rules, rest))
 }

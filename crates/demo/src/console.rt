@@ -9,7 +9,7 @@ use calls::Notice;
 use client::Outcome;
 use client_record::Client;
 use client_record::TimerKind;
-use fragments::SLOTS_SIZE;
+use words::SLOTS_SIZE;
 
 pub(crate) const REQUEST_SIZE: usize = 3500;
 

@@ -6,9 +6,9 @@ use crate::network;
 use crate::network::Wire;
 use crate::transcript;
 use calls::Notice;
-use fragments::SLOTS_SIZE;
 use server::Outcome;
 use server_record::Server;
+use words::SLOTS_SIZE;
 
 pub(crate) const REPLY_SIZE: usize = 4500;
 

@@ -11,9 +11,9 @@ mod transcript;
 use console::Console;
 use controller::Controller;
 use controller::ServerEvent;
-use fragments::SLOTS_SIZE;
-use pdu::PDU_SIZE;
 use schedule::Next;
+use words::PDU_SIZE;
+use words::SLOTS_SIZE;
 
 // More events than the call takes.
 const EVENTS: u64 = 100;

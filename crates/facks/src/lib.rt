@@ -1,9 +1,11 @@
 // What a fack says of the fragments held: its fragment number and its mask.
 use incoming::Incoming;
 use incoming::Slot;
+use words::WINDOW_SIZE;
 ghost use mathlib.Core.Path.{_≡_};
 ghost use Prim.Native.Nat.{_≤_};
 ghost use lib.ListN.{drop};
+ghost use Rattle.words.specs.Sizes.{windowSize};
 ghost use Rattle.incoming.specs.Slots.{contiguous};
 ghost use Rattle.facks.specs.Mask.{lastContiguous, heldBit, heldWord, Describes};
 
@@ -34,12 +36,12 @@ fn bit_of(held: bool) -> u32
 }
 
 // The word of the slots from number `from` on, built from the last down.
-fn word_from(slots: [Slot; 32], from: u16) -> u32
-    requires { ⌜ from ≤ 32 ⌝ }
+fn word_from(slots: [Slot; WINDOW_SIZE as usize], from: u16) -> u32
+    requires { ⌜ from ≤ windowSize ⌝ }
     ensures { λ r. ⌜ r ≡ heldWord (drop from slots) ⌝ }
 {
     let mut word: u32 = 0;
-    let mut i: u16 = 32;
+    let mut i: u16 = WINDOW_SIZE;
     while from < i {
         i -= 1;
         let at = i as usize;

@@ -2,23 +2,24 @@
 use incoming::Incoming;
 use incoming::Last;
 use incoming::Slot;
+use words::BODY_SIZE;
+use words::SLOTS_SIZE;
+use words::WINDOW_SIZE;
 ghost use mathlib.Core.Path.{_≡_};
 ghost use lib.ListN.{getD, drop};
 ghost use lib.Dec.{eqb, leb};
 ghost use Rattle.words.specs.Choice.{both};
+ghost use Rattle.words.specs.Sizes.{bodySize, slotsSize};
 ghost use Rattle.incoming.specs.Slots.{missing};
 ghost use Rattle.fragments.specs.Judgement.{held, anyHeld, aboveLast, otherLast, contradicts};
 ghost use Rattle.fragments.specs.Slots.{filled, storing, isHandedUp, handedUp};
 ghost use Rattle.fragments.specs.Joined.{partOf};
 
-// A slot buffer has exactly as many bytes: 32 fragments of 1,392.
-pub const SLOTS_SIZE: usize = 44544;
-
-// The slot of number f; above 31 it is a missing one.
-fn slot_of(slots: [Slot; 32], f: u16) -> Slot
+// The slot of number f; beyond the window it is a missing one.
+fn slot_of(slots: [Slot; WINDOW_SIZE as usize], f: u16) -> Slot
     ensures { λ r. ⌜ r ≡ getD slots f missing ⌝ }
 {
-    if f < 32 {
+    if f < WINDOW_SIZE {
         let at = f as usize;
         return slots[at];
     }
@@ -38,11 +39,11 @@ pub fn is_held(m: Incoming, f: u16) -> bool
 }
 
 // Whether some slot from number `from` on is held.
-fn held_from(slots: [Slot; 32], from: u32) -> bool
+fn held_from(slots: [Slot; WINDOW_SIZE as usize], from: u32) -> bool
     ensures { λ r. ⌜ r ≡ anyHeld (drop from slots) ⌝ }
 {
     let mut i = from;
-    while i < 32 {
+    while i < WINDOW_SIZE as u32 {
         let at = i as usize;
         let slot = slots[at];
         if slot.held {
@@ -87,18 +88,18 @@ pub fn contradicts_held(m: Incoming, f: u16, is_last: bool) -> bool
 
 // Whether a body has its place in a slot buffer.
 fn has_place(size: usize, body: usize) -> bool
-    ensures { λ r. ⌜ r ≡ both (eqb size 44544) (leb body 1392) ⌝ }
+    ensures { λ r. ⌜ r ≡ both (eqb size slotsSize) (leb body bodySize) ⌝ }
 {
-    words::both(size == SLOTS_SIZE, body <= 1392)
+    words::both(size == SLOTS_SIZE, body <= BODY_SIZE)
 }
 
-// Puts a fragment's bytes into their place of the slot buffer. A body over 1,392 bytes, a number above 31 and a buffer of
-// another length leave it as it was.
+// Puts a fragment's bytes into their place of the slot buffer. A body that is too long, a number beyond the window and
+// a buffer of another length leave it as it was.
 pub fn fill(buffer: &mut [u8], f: u16, body: &[u8])
     ensures { λ _. ⌜ now (buffer .exit) ≡ filled f (now (body .entry)) (now (buffer .entry)) ⌝ }
 {
     if has_place(buffer.len(), body.len()) {
-        words::put(buffer, 1392 * (f as usize), body);
+        words::put(buffer, BODY_SIZE * (f as usize), body);
     }
 }
 
@@ -127,7 +128,7 @@ pub fn hand_up(m: Incoming, f: u16, buffer: &[u8]) -> &[u8]
 {
     let slots = m.slots;
     let slot = slot_of(slots, f);
-    let from = 1392 * (f as usize);
+    let from = BODY_SIZE * (f as usize);
     let to = from + slot.length as usize;
     if is_handed_up(m, f, buffer.len()) {
         return &buffer[from..to];

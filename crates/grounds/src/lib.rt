@@ -3,8 +3,9 @@
 use answers::Answer;
 use answers::Ground;
 use incoming::Incoming;
-use outgoing::MESSAGE_SIZE;
 use timers::Timer;
+use words::LAST_NUMBER;
+use words::MESSAGE_SIZE;
 ghost use mathlib.Core.Path.{_≡_};
 ghost use Prim.Native.Nat.{_%_};
 ghost use Rattle.grounds.specs.Order.{first, refuseIf, groundOf};
@@ -59,7 +60,7 @@ pub fn same_uuid(a: [u8; 16], b: [u8; 16]) -> bool
 pub fn lent(slots: usize, out: usize) -> Ground
     ensures { λ r. ⌜ r ≡ lentGround slots out ⌝ }
 {
-    let whole = words::both(slots == fragments::SLOTS_SIZE, out == pdu::PDU_SIZE);
+    let whole = words::both(slots == words::SLOTS_SIZE, out == words::PDU_SIZE);
     refuse_if(!whole, Answer::WrongLength)
 }
 
@@ -76,7 +77,7 @@ pub fn message_lent(sending: bool, message: usize, length: u32, out: usize) -> G
 {
     let same = is_same_message(sending, message, length);
     let fits = words::both(message <= MESSAGE_SIZE as usize, same);
-    let whole = words::both(out == pdu::PDU_SIZE, fits);
+    let whole = words::both(out == words::PDU_SIZE, fits);
     refuse_if(!whole, Answer::WrongLength)
 }
 
@@ -115,7 +116,7 @@ pub fn fragment(flags1: u8, number: u16) -> Ground
 {
     let part = flags::is_fragment(flags1);
     let alone = words::both(!part, number != 0);
-    refuse_if(words::either(31 < number, alone), Answer::WrongFragment)
+    refuse_if(words::either(LAST_NUMBER < number, alone), Answer::WrongFragment)
 }
 
 // 16 and 17, of a fragment that is to be put.

@@ -7,6 +7,7 @@ use native.Mathlib.Omega.{arith}
 use borrow.Author.Tests.{le-leb, eq-eqb}
 use lib.ListN.{length}
 use Rattle.words.specs.Choice.{choose, either}
+use Rattle.words.specs.Sizes.{retryLimit}
 use Rattle.words.proofs.Tests.{both-hold}
 use Rattle.incoming.specs.Slots.{cleared}
 use Rattle.outgoing.specs.declared.Outgoing.{Outgoing}
@@ -79,7 +80,7 @@ server-fresh s standing slots starts dispatches replies f none unanswered-yet = 
   kept =
       server-rules s
       (record {
-        count = le-leb (s .resends) 5 (omega (arith, f .resends));
+        count = le-leb (s .resends) retryLimit (omega (arith, f .resends));
         outgoing =
             subst (λ (x : ServerState). serverOutgoing x (s .outgoing) ≡ true) (sym (f .state))
             (both-hold (bounded (s .outgoing)) (hasNothing (s .outgoing)) (sent-bounded (s .outgoing) (f .outgoing)) (sent-none (s .outgoing) (f .outgoing)));

@@ -8,6 +8,7 @@ use native.Mathlib.Omega.{arith}
 use lib.Dec.{ltb}
 use lib.ListN.{length}
 use Rattle.words.specs.Choice.{choose}
+use Rattle.words.specs.Sizes.{retryLimit}
 use Rattle.answers.specs.declared.Answer.the-variants.{Done}
 use Rattle.answers.specs.declared.Ground.{Ground}
 use Rattle.bodies.specs.Status.{statusReading}
@@ -25,7 +26,7 @@ use Rattle.grounds.proofs.GroundLaws.{lent-passes, fragment-passes, put-passes,
 use Rattle.client_record.specs.declared.Client.{Client}
 use Rattle.client_record.specs.States.{isQueued, isActive, isDispatched}
 use Rattle.client_record.specs.Rules.{sound}
-use Rattle.client_record.specs.Record.{waiting, ackPending, unarmed}
+use Rattle.client_record.specs.Record.{waiting, ackPending, unarmed, withIncoming, withWaits}
 use Rattle.client_record.proofs.StateLaws.{dispatched-state, active-state}
 use Rattle.client_record.proofs.RuleLaws.{rules-told}
 use Rattle.client_table.specs.declared.Event.{Event}
@@ -34,7 +35,7 @@ use Rattle.client_table.specs.Events.{eventOf, byEvent, hasRow}
 use Rattle.client_steps.specs.declared.Send.{Send}
 use Rattle.client_steps.specs.declared.Send.the-variants.{Nothing, Request as SendRequest, Ping, Ack, Fack}
 use Rattle.client_steps.specs.Plan.{refused, accepted, failed}
-use Rattle.client_arrivals.specs.Rows.{putNotice, fackPlan, putRecord, withIncoming, fackFor, putPlan, responsePlan, workingPlan, resent, nocallPlan}
+use Rattle.client_arrivals.specs.Rows.{putNotice, fackPlan, putRecord, fackFor, putPlan, responsePlan, workingPlan, resent, nocallPlan, received}
 use Rattle.client_arrivals.specs.Table.{arrivalRow, arrivalPlan}
 use Rattle.client_arrivals.proofs.ArrivalLaws.{nocall-puts-none}
 use Rattle.client.specs.Machine.{sending, planOf, acted, arriving}
@@ -118,15 +119,15 @@ notice-told true count e = refl
 notice-told false count e = absurd (false≢true e)
 
 -- After a response the call was started.
-put-started : (all mark : Bool) (c : Client) (m : Incoming) → isQueued (withIncoming (putRecord all mark c) m .state) ≡ false
-unfolding withIncoming putRecord waiting ackPending unarmed choose isQueued
+put-started : (all mark : Bool) (c : Client) (m : Incoming) → isQueued (received (putRecord all mark c) m .state) ≡ false
+unfolding withIncoming withWaits putRecord waiting ackPending unarmed choose isQueued
 put-started true true c m = refl
 put-started true false c m = refl
 put-started false mark c m = refl
 
 -- Only one that completes its reply ends the call.
-put-ends : (all mark : Bool) (c : Client) (m : Incoming) → hasReply (withIncoming (putRecord all mark c) m .state) ≡ true → all ≡ true
-unfolding withIncoming putRecord waiting ackPending unarmed choose
+put-ends : (all mark : Bool) (c : Client) (m : Incoming) → hasReply (received (putRecord all mark c) m .state) ≡ true → all ≡ true
+unfolding withIncoming withWaits putRecord waiting ackPending unarmed choose
 put-ends true mark c m e = refl
 put-ends false mark c m e = absurd (false≢true e)
 
@@ -137,8 +138,8 @@ pub record SameCall (c d : Client) : Type 0 where
   pub call : d .call ≡ c .call
   pub size : d .outgoing .length ≡ c .outgoing .length
 
-put-same : (all mark : Bool) (c : Client) (m : Incoming) → SameCall c (withIncoming (putRecord all mark c) m)
-unfolding withIncoming putRecord waiting ackPending unarmed choose
+put-same : (all mark : Bool) (c : Client) (m : Incoming) → SameCall c (received (putRecord all mark c) m)
+unfolding withIncoming withWaits putRecord waiting ackPending unarmed choose
 put-same true true c m = record { activity = refl; number = refl; call = refl; size = refl }
 put-same true false c m = record { activity = refl; number = refl; call = refl; size = refl }
 put-same false mark c m = record { activity = refl; number = refl; call = refl; size = refl }
@@ -161,7 +162,7 @@ module _ (w : World) (inv : Inv w) (o : ℕ) (h : Header) (body : List ℕ) (sta
   response-inv : CanArrive ResponseEvent (w .client .machine) h (bodyLength body) → eventOf (h .kind) ≡ ResponseEvent
       → ClientInv (responsePlan (w .client .machine) (h .flags1) (h .serial) (h .fragment) (bodyLength body) .client) (filled (h .fragment) body (w .client .slots)) (w .books .starts)
       (w .books .replies)
-  unfolding responsePlan putPlan byEvent hasRow withIncoming arrivalRow
+  unfolding responsePlan putPlan byEvent hasRow withIncoming withWaits arrivalRow
   response-inv j e =
       let c = w .client .machine in
       let m = stored (c .incoming) (h .fragment) (bodyLength body) (isLast (h .flags1)) in
@@ -177,7 +178,7 @@ module _ (w : World) (inv : Inv w) (o : ℕ) (h : Header) (body : List ℕ) (sta
         unbegun = λ q. absurd (false≢true (sym (put-started (complete m) (c .call .idempotent) c m) ∙ q));
         current =
             λ q.
-            current-on c (withIncoming (putRecord (complete m) (c .call .idempotent) c) m) (w .books .starts) (same .number) (same .call) (same .size)
+            current-on c (received (putRecord (complete m) (c .call .idempotent) c) m) (w .books .starts) (same .number) (same .call) (same .size)
             (inv .client .current begun);
         whole = put-ends (complete m) (c .call .idempotent) c m;
         unasked = λ e. absurd (false≢true (sym (put-started (complete m) (c .call .idempotent) c m) ∙ e));
@@ -239,7 +240,7 @@ row-sends ResponseEvent c h n status = by-fack (wantsFack (h .flags1))
 row-sends Fault c h n status = refl
 row-sends Reject c h n status = refl
 row-sends Working c h n status = refl
-row-sends Nocall c h n status = by-count (ltb (c .resends) 5)
+row-sends Nocall c h n status = by-count (ltb (c .resends) retryLimit)
   where
     by-count : (t : Bool) → sendsFack (choose t (accepted (resent c) Nothing Untold) (failed c (Cause 2)) .send) ≡ true
     by-count true = refl
@@ -261,13 +262,13 @@ arrived-active Foreign c e = absurd (false≢true e)
 -- A row that tells "last" leaves all held.
 row-tells : (event : Event) (c : Client) (h : Header) (n status : ℕ) → tellsLast (arrivalRow event c h n status .notice) ≡ true
     → complete (arrivalRow event c h n status .client .incoming) ≡ true
-unfolding arrivalRow responsePlan putPlan withIncoming failed accepted workingPlan nocallPlan fackPlan refused choose
+unfolding arrivalRow responsePlan putPlan withIncoming withWaits failed accepted workingPlan nocallPlan fackPlan refused choose
 row-tells ResponseEvent c h n status e =
     let m = stored (c .incoming) (h .fragment) n (isLast (h .flags1)) in notice-told (complete m) (contiguous m) e
 row-tells Fault c h n status e = absurd (false≢true e)
 row-tells Reject c h n status e = absurd (false≢true e)
 row-tells Working c h n status e = absurd (false≢true e)
-row-tells Nocall c h n status e = absurd (false≢true (sym (by-count (ltb (c .resends) 5)) ∙ e))
+row-tells Nocall c h n status e = absurd (false≢true (sym (by-count (ltb (c .resends) retryLimit)) ∙ e))
   where
     by-count : (t : Bool) → tellsLast (choose t (accepted (resent c) Nothing Untold) (failed c (Cause 2)) .notice) ≡ false
     by-count true = refl

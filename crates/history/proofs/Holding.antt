@@ -11,6 +11,7 @@ use lib.ListN.{length, drop, take-append-drop, getD, List·getD-eq-default}
 use native.Mathlib.Decide.{decLt}
 use borrow.Author.Tests.{eqb-true, eqb-false, eq-eqb, ltb-true, lt-ltb, le-ltb}
 use Rattle.words.specs.Choice.{choose, both, either}
+use Rattle.words.specs.Sizes.{bodySize, windowSize, slotsSize, lastNumber}
 use Rattle.words.proofs.Tests.{both-hold, either-false}
 use Rattle.flags.specs.Flags.{lastFragment, fragment, idempotent, hasFlag, withFlag}
 use Rattle.incoming.specs.declared.Slot.{Slot}
@@ -30,13 +31,13 @@ use Rattle.grounds.specs.Fragment.{isLast}
 
 -- The sizes: a slot buffer, the slots of a record, the body of a PDU.
 abbrev pub Buffer : List ℕ → Type 0
-Buffer slots = length slots ≡ 44544
+Buffer slots = length slots ≡ slotsSize
 
 abbrev pub Slotted : Incoming → Type 0
-Slotted m = length (m .slots) ≡ 32
+Slotted m = length (m .slots) ≡ windowSize
 
 abbrev pub Short : List ℕ → Type 0
-Short body = length body ≤ 1392
+Short body = length body ≤ bodySize
 
 -- The slot of a fragment: that of its number.
 abbrev slotOf : ℕ → ℕ
@@ -51,7 +52,7 @@ Unheld m = (f : ℕ) → held m f ≡ false
 
 -- A fragment that may be put: it passed 12, 16 and 17.
 pub record CanPut (m : Incoming) (flags1 f : ℕ) : Type 0 where
-  pub number : f < 32
+  pub number : f < windowSize
   pub new : held m f ≡ false
   pub fits : contradicts m f (isLast flags1) ≡ false
 
@@ -93,10 +94,10 @@ unfolding cleared either choose
 cleared-empty = record { none = none-unheld cleared refl; last = refl }
 
 -- A fragment that the judgement let pass may be put, and so in a cleared record.
-pub can-put : (m : Incoming) (flags1 f : ℕ) → f ≤ 31 → held m f ≡ false → contradicts m f (isLast flags1) ≡ false → CanPut m flags1 f
+pub can-put : (m : Incoming) (flags1 f : ℕ) → f ≤ lastNumber → held m f ≡ false → contradicts m f (isLast flags1) ≡ false → CanPut m flags1 f
 can-put m flags1 f number new fits = record { number = omega arith; new = new; fits = fits }
 
-pub can-begin : (flags1 f : ℕ) → f ≤ 31 → contradicts cleared f (isLast flags1) ≡ false → CanPut cleared flags1 f
+pub can-begin : (flags1 f : ℕ) → f ≤ lastNumber → contradicts cleared f (isLast flags1) ≡ false → CanPut cleared flags1 f
 can-begin flags1 f number fits = can-put cleared flags1 f number (cleared-empty .none f) fits
 
 -- What it leaves keeps the rules of what is held.
@@ -154,11 +155,11 @@ empty-holding m slots message buffer e = record {
 }
 
 -- A held fragment of a sound record is at most 1,392 long.
-held-short : (m : Incoming) (g : ℕ) → sound m ≡ true → slotAt m g .held ≡ true → slotAt m g .length ≤ 1392
+held-short : (m : Incoming) (g : ℕ) → sound m ≡ true → slotAt m g .held ≡ true → slotAt m g .length ≤ bodySize
 unfolding held
 held-short m g kept h = by-place (decLt (slotOf g) (length (m .slots)))
   where
-    by-place : Dec (slotOf g < length (m .slots)) → slotAt m g .length ≤ 1392
+    by-place : Dec (slotOf g < length (m .slots)) → slotAt m g .length ≤ bodySize
     by-place (yes here) = held-told m g kept here h .0
     by-place (no past) =
         absurd (false≢true (sym (ap (λ (s : Slot). s .held) (List·getD-eq-default (m .slots) missing (omega arith))) ∙ h))
@@ -169,7 +170,7 @@ module _ (m : Incoming) (slots message : List ℕ) (flags1 f : ℕ) (body : List
   short : Short body
   short = rw (part .bytes) (fragment-most message f)
 
-  number : f < 32
+  number : f < windowSize
   number = can .number
 
   put-carries : Carries (stored m f (length body) (isLast flags1)) (filled f body slots) message
@@ -237,7 +238,7 @@ put-slotted m f n last long = stored-length m f n last ∙ long
 pub holding-leads : (m : Incoming) (slots message : List ℕ) → Holding m slots message → sound m ≡ true → Leads (joined m slots) message
 holding-leads m slots message holds kept =
     let front = joined-front m slots message kept (holds .buffer) (holds .carries) in
-    let end = 1392 * contiguous m in
+    let end = bodySize * contiguous m in
     record { rest = drop end message; whole = sym (take-append-drop end message) ∙ ap (λ (l : List ℕ). l ++ drop end message) (sym front) }
 
 -- and where all to the last is held, the whole of it.

@@ -19,12 +19,12 @@ use Rattle.timers.specs.Tickets.{armedWith}
 use Rattle.grounds.specs.Order.{refuseIf, groundOf}
 use Rattle.grounds.proofs.PassLaws.{answer-passes}
 use Rattle.client_record.specs.declared.TimerKind.the-variants.{Wait, Ack}
-use Rattle.client_table.specs.Local.{namedTimer}
 use Rattle.client.proofs.Judging.{timer-passes as client-timer-passes}
 use Rattle.client.proofs.Accepting.{timer-accepted as client-timer-accepted}
 use Rattle.client.proofs.Refusals.{StepUntouched as ClientStepUntouched, start-refused, transmit-refused as client-transmit-refused, timer-refused as client-timer-refused, arrive-refused as client-arrive-refused}
 use Rattle.calls.specs.Events.{Step}
 use Rattle.client_record.specs.declared.Client.{Client}
+use Rattle.client_record.specs.Arming.{namedTimer}
 use Rattle.client.specs.declared.Outcome.{Outcome as ClientOutcome}
 use Rattle.server_record.specs.declared.Server.{Server}
 use Rattle.server.specs.declared.Outcome.{Outcome as ServerOutcome}

@@ -9,6 +9,7 @@ use lib.Dec.{eqb}
 use lib.ListN.{length}
 use borrow.Author.Tests.{eqb-true}
 use Rattle.words.specs.Choice.{choose}
+use Rattle.words.specs.Sizes.{pduSize}
 use Rattle.answers.specs.declared.Answer.{Answer}
 use Rattle.answers.specs.declared.Answer.the-variants.{Done, OldCall, NoRow, Repeated}
 use Rattle.answers.specs.declared.Ground.{Ground}
@@ -34,6 +35,7 @@ use Rattle.server_record.specs.declared.State.the-variants.{Idle as IdleState, 
 use Rattle.server_record.specs.declared.Server.{Server}
 use Rattle.server_record.specs.States.{isFresh, isRunning, isHeld}
 use Rattle.server_record.specs.Rules.{sound}
+use Rattle.server_record.specs.Record.{withOutgoing}
 use Rattle.server_record.proofs.StateLaws.{held-state}
 use Rattle.server_rows.specs.declared.Order.the-variants.{Equal, Newer}
 use Rattle.server_rows.specs.declared.Row.{Row}
@@ -46,7 +48,7 @@ use Rattle.server_arrivals.specs.Rows.{begun, putPlan, requestPlan, beginPlan, 
 use Rattle.server_arrivals.specs.Table.{arrivalRow, arrivalPlan}
 use Rattle.server_arrivals.proofs.ArrivalLaws.{fack-sound, ack-sound}
 use Rattle.server_steps.specs.declared.Plan.{Plan}
-use Rattle.server_steps.specs.Plan.{accepted, withOutgoing}
+use Rattle.server_steps.specs.Plan.{accepted}
 use Rattle.server_steps.specs.Rows.{rewinding, replayHeld, replayPlan}
 use Rattle.server_steps.proofs.StepLaws.{replay-sound}
 use Rattle.server.specs.Machine.{sending, planOf, acted, arriving}
@@ -68,7 +70,7 @@ use Rattle.history.proofs.ServerPuts.{Begins, begun-inv, put-inv}
 -- The row of an arriving PDU that passed.
 module _ (w : World) (inv : Inv w) (o : ℕ) (h : Header) (body : List ℕ) (j : CanArrive (w .server .machine) h) (whole : Buffer (w .server .slots))
     (short : Short body) (sized : Sized h) (known : IsRequest (h .kind) → Request (w .books .starts) o h body)
-    (out : List ℕ) (room : length out ≡ 1472) where
+    (out : List ℕ) (room : length out ≡ pduSize) where
   abbrev s : Server
   s = w .server .machine
 

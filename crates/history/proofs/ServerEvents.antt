@@ -8,6 +8,7 @@ use native.Mathlib.Omega.{arith}
 use lib.Dec.{ltb}
 use lib.ListN.{length}
 use Rattle.words.specs.Choice.{choose}
+use Rattle.words.specs.Sizes.{retryLimit}
 use Rattle.answers.specs.declared.Answer.the-variants.{Done}
 use Rattle.answers.specs.declared.Ground.{Ground}
 use Rattle.answers.specs.declared.Ground.the-variants.{Pass}
@@ -23,10 +24,10 @@ use Rattle.server_record.specs.declared.State.the-variants.{Idle as IdleState, 
 use Rattle.server_record.specs.declared.Server.{Server}
 use Rattle.server_record.specs.States.{isFresh}
 use Rattle.server_record.specs.Rules.{sound}
-use Rattle.server_record.specs.Record.{unarmed}
+use Rattle.server_record.specs.Record.{unarmed, withOutgoing}
 use Rattle.server_record.proofs.StateLaws.{running-state, replying-state, held-state}
 use Rattle.server_steps.specs.declared.Send.the-variants.{Nothing, Response as SendResponse, Fault as SendFault}
-use Rattle.server_steps.specs.Plan.{accepted, withOutgoing}
+use Rattle.server_steps.specs.Plan.{accepted}
 use Rattle.server_steps.specs.Rows.{answered, replyPlan, settled, transmitted, transmitPlan, faultPlan, resendHeld, resendRow, timerRow, timerPlan}
 use Rattle.server_steps.proofs.StepLaws.{replied-sound, transmitted-sound, fault-sound, timer-sound}
 use Rattle.server.specs.Sending.{sentOut}
@@ -101,7 +102,7 @@ server-fault-inv w status out inv done =
 -- RESEND sends no response, and tells nothing.
 timer-quiet : (s : Server) (reply : Reply) → (answers (resendRow s reply .send) ≡ false) × (resendRow s reply .notice ≡ Untold)
 unfolding resendRow resendHeld accepted choose
-timer-quiet s reply = by-count (ltb (s .resends) 5) reply
+timer-quiet s reply = by-count (ltb (s .resends) retryLimit) reply
   where
     by-count : (t : Bool) (r : Reply)
         → (answers (choose t (resendHeld s r) (accepted (unarmed s (IdleState Spent)) Nothing) .send) ≡ false)

@@ -9,6 +9,7 @@ use lib.Dec.{eqb}
 use lib.ListN.{length}
 use borrow.Author.Tests.{eqb-true, eqb-false}
 use Rattle.words.specs.Choice.{choose, both}
+use Rattle.words.specs.Sizes.{pduSize}
 use Rattle.calls.specs.declared.Call.{Call}
 use Rattle.flags.specs.Flags.{idempotent, hasFlag}
 use Rattle.fragments.specs.Slots.{filled}
@@ -27,9 +28,9 @@ use Rattle.server_record.specs.declared.State.the-variants.{Idle as IdleState, 
 use Rattle.server_record.specs.declared.Server.{Server}
 use Rattle.server_record.specs.States.{isFresh, isRunning, isHeld}
 use Rattle.server_record.specs.Rules.{sound, outgoingSound, messageRule}
-use Rattle.server_record.specs.Record.{unarmed}
+use Rattle.server_record.specs.Record.{unarmed, withIncoming}
 use Rattle.server_record.proofs.RuleLaws.{rules-told, rules-hold}
-use Rattle.server_arrivals.specs.Rows.{callOf, begun, withIncoming, putState, putNotice, fackFor, putPlan, requestPlan}
+use Rattle.server_arrivals.specs.Rows.{callOf, begun, putState, putNotice, fackFor, putPlan, requestPlan}
 use Rattle.server_arrivals.proofs.ArrivalLaws.{put-sound as put-plan-sound}
 use Rattle.server.specs.HandUp.{handsUp}
 use Rattle.server.specs.Machine.{outcomeOf, sending}
@@ -308,7 +309,7 @@ ofRequest o h = record { ordinal = o; number = h .number; standing = o }
 -- A world whose server put a request.
 pub put-inv : (w : World) → Inv w → (s : Server) (o : ℕ) → ServerInv s o (w .server .slots) (w .books .starts) (w .books .dispatches) (w .books .replies) → s .state ≡ Collect
     → (h : Header) (body : List ℕ) → Request (w .books .starts) o h body → Short body → CanPut (s .incoming) (h .flags1) (h .fragment)
-    → (out : List ℕ) → length out ≡ 1472
+    → (out : List ℕ) → length out ≡ pduSize
     → Inv
     (serverStep w (sending (requestPlan s (h .flags1) (h .serial) (h .fragment) (bodyLength body)) h [] out .outcome)
     (sending (requestPlan s (h .flags1) (h .serial) (h .fragment) (bodyLength body)) h [] out .out)

@@ -9,6 +9,7 @@ use lib.Dec.{eqb}
 use lib.ListN.{length}
 use borrow.Author.Tests.{eqb-true, eqb-false}
 use Rattle.words.specs.Choice.{choose}
+use Rattle.words.specs.Sizes.{pduSize}
 use Rattle.words.proofs.Tests.{both-true}
 use Rattle.bodies.specs.Fack.{fackBytes, fackSent as fackFields}
 use Rattle.bodies.specs.Status.{statusBytes}
@@ -31,14 +32,13 @@ use Rattle.server_record.specs.declared.State.{State}
 use Rattle.server_record.specs.declared.Server.{Server}
 use Rattle.server_record.specs.States.{isReplying}
 use Rattle.server_record.specs.Rules.{sound, outgoingSound}
-use Rattle.server_record.specs.Record.{holding, unarmed}
+use Rattle.server_record.specs.Record.{holding, unarmed, withOutgoing}
+use Rattle.server_record.specs.Arming.{runsAgain}
 use Rattle.server_record.proofs.StateLaws.{replying-state}
 use Rattle.server_record.proofs.RuleLaws.{rules-told, replying-told}
-use Rattle.server_table.specs.Local.{runsAgain}
 use Rattle.server_steps.specs.declared.Send.{Send}
 use Rattle.server_steps.specs.declared.Send.the-variants.{Nothing, Response as SendResponse, Fault as SendFault, Working, Nocall, Fack}
 use Rattle.server_steps.specs.declared.Plan.{Plan}
-use Rattle.server_steps.specs.Plan.{withOutgoing}
 use Rattle.server_steps.specs.Rows.{settled, transmitted}
 use Rattle.server.specs.Sending.{replyHeader, echoed, echoHeader, responseSent, faultSent, emptySent, fackSent, sentOut}
 use Rattle.server.specs.Machine.{outcomeOf, sending}
@@ -98,7 +98,7 @@ pub record-uuids : (send : Send) (s : Server) → length (s .activity) ≡ 16 �
 unfolding blank
 record-uuids send s a typed = pdu-uuids send s blank a (record { object = refl; interface = refl; activity = refl }) (λ e. typed)
 
-pub server-sent : (send : Send) (s : Server) (h : Header) (message out : List ℕ) (before : List SentPdu) (o : ℕ) → SentUuids send s h → length out ≡ 1472
+pub server-sent : (send : Send) (s : Server) (h : Header) (message out : List ℕ) (before : List SentPdu) (o : ℕ) → SentUuids send s h → length out ≡ pduSize
     → sentAfter before (sentOut send s h message out .sent) (sentOut send s h message out .out) o ≡ before ++ serverPdus o send s h message
 unfolding sentOut responseSent faultSent emptySent fackSent replyHeader echoHeader sentAfter fackBytes
 server-sent Nothing s h message out before o z room = sym (append-nil before)
@@ -113,7 +113,7 @@ server-sent (Fack serial) s h message out before o z room =
 
 -- So what is known of all before and of that is known of all then.
 pub sends-known : (K : SentPdu → Type 0) (send : Send) (s : Server) (h : Header) (message out : List ℕ) (before : List SentPdu) (o : ℕ) → SentUuids send s h
-    → length out ≡ 1472 → ((d : SentPdu) → In d before → K d) → All K (serverPdus o send s h message) → (d : SentPdu)
+    → length out ≡ pduSize → ((d : SentPdu) → In d before → K d) → All K (serverPdus o send s h message) → (d : SentPdu)
     → In d (sentAfter before (sentOut send s h message out .sent) (sentOut send s h message out .out) o) → K d
 sends-known K send s h message out before o z room known own d m =
     all-appended K before (serverPdus o send s h message) known own d (subst (In d) (server-sent send s h message out before o z room) m)
@@ -210,7 +210,7 @@ transmitted-counts last s = rw (transmitted-sent last s) (refl, omega arith)
 -- A world whose server made a step by a plan that tells nothing.
 pub planned : (w : World) (plan : Plan) (h : Header) (message out slots : List ℕ) (of : Subject) → Inv w → plan .notice ≡ Untold
     → ServerInv (plan .server) (of .standing) slots (w .books .starts) (w .books .dispatches) (w .books .replies) → SentUuids (plan .send) (plan .server) h
-    → length out ≡ 1472 → All (Known IsResponse (Response (w .books .replies))) (serverPdus (of .ordinal) (plan .send) (plan .server) h message)
+    → length out ≡ pduSize → All (Known IsResponse (Response (w .books .replies))) (serverPdus (of .ordinal) (plan .send) (plan .server) h message)
     → Inv (serverStep w (sending plan h message out .outcome) (sending plan h message out .out) slots of)
 unfolding sending outcomeOf dispatchesAfter
 planned w plan h message out slots of inv quiet server uuids room responses =

@@ -6,6 +6,7 @@ use mathlib.Core.Path.{_≡_, refl, sym, ap, _∙_}
 use lib.Dec.{ltb}
 use lib.ListN.{length}
 use Rattle.words.specs.Choice.{choose}
+use Rattle.words.specs.Sizes.{retryLimit}
 use Rattle.flags.specs.Flags.{idempotent}
 use Rattle.outgoing.specs.Sending.{afterSend, rewound}
 use Rattle.server_record.specs.declared.Idle.the-variants.{Fresh, Spent, Repeatable}
@@ -16,10 +17,10 @@ use Rattle.server_record.specs.declared.State.the-variants.{Idle as IdleState, 
 use Rattle.server_record.specs.declared.Server.{Server}
 use Rattle.server_record.specs.States.{neverCalled, isFresh}
 use Rattle.server_record.specs.Rules.{sound}
-use Rattle.server_record.specs.Record.{holding, unarmed}
-use Rattle.server_table.specs.Local.{runsAgain}
+use Rattle.server_record.specs.Record.{holding, unarmed, withOutgoing, withResends}
+use Rattle.server_record.specs.Arming.{runsAgain}
 use Rattle.server_steps.specs.declared.Send.the-variants.{Nothing}
-use Rattle.server_steps.specs.Plan.{accepted, withOutgoing, withResends}
+use Rattle.server_steps.specs.Plan.{accepted}
 use Rattle.server_steps.specs.Rows.{settled, transmitted, rewinding, resendHeld, resendRow}
 use Rattle.history.specs.Lists.{In}
 use Rattle.history.specs.World.{Started, Dispatched, Replied}
@@ -175,7 +176,7 @@ spent-goes-on s standing replies = record {
 pub resend-goes-on : (s : Server) (reply : Reply) (standing : ℕ) (replies : List Replied) → (hasData (Held reply) ≡ true → CurrentReply s standing replies)
     → GoesOn s (resendRow s reply .server) standing replies
 unfolding resendRow resendHeld withResends holding accepted choose
-resend-goes-on s reply standing replies has = by-count (ltb (s .resends) 5)
+resend-goes-on s reply standing replies has = by-count (ltb (s .resends) retryLimit)
   where
     again : (reply : Reply) → (hasData (Held reply) ≡ true → CurrentReply s standing replies) → GoesOn s (resendHeld s reply .server) standing replies
     again Data now = unfold resendHeld accepted withResends in rewinding-goes-on s (withResends s (s .resends + 1)) standing replies refl refl refl refl refl refl (now refl)

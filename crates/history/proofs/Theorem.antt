@@ -16,7 +16,7 @@ use Rattle.client_record.specs.declared.State.the-variants.{Queued, SendFrags, 
 use Rattle.client_record.specs.States.{isQueued, isWaiting, isAckPending}
 use Rattle.client_record.proofs.RuleLaws.{rules-told, wait-off, ack-off}
 use Rattle.client_record.specs.declared.TimerKind.the-variants.{Wait, Ack}
-use Rattle.client_table.specs.Local.{namedTimer}
+use Rattle.client_record.specs.Arming.{namedTimer}
 use Rattle.client.proofs.Growing.{hands-joined}
 use Rattle.client.proofs.TicketLaws.{old-most as client-most}
 use Rattle.server_record.specs.declared.Idle.the-variants.{Fresh as NeverCalled, Spent, Repeatable}

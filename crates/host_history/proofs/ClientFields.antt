@@ -2,6 +2,7 @@
 use Prim.Native.Nat.{ℕ, _<_}
 use mathlib.Core.List.{List}
 use native.Mathlib.Omega.{arith}
+use Rattle.client_arrivals.specs.Rows.{received}
 use Rattle.incoming.specs.declared.Incoming.{Incoming}
 use Rattle.outgoing.specs.declared.Outgoing.{Outgoing}
 use Rattle.timers.specs.declared.Timer.{Timer}
@@ -10,9 +11,7 @@ use Rattle.timers.specs.Tickets.{nextTicket, armedAfresh}
 use Rattle.client_record.specs.declared.State.{State}
 use Rattle.client_record.specs.declared.State.the-variants.{AckPending}
 use Rattle.client_record.specs.declared.Client.{Client}
-use Rattle.client_record.specs.Record.{fresh, timed, waiting, ackPending, unarmed}
-use Rattle.client_steps.specs.Plan.{withOutgoing, withWaits}
-use Rattle.client_arrivals.specs.Rows.{withIncoming, withResends}
+use Rattle.client_record.specs.Record.{fresh, timed, waiting, ackPending, unarmed, withOutgoing, withWaits, withIncoming, withResends}
 use Rattle.record_bytes.specs.Fits.{Uuid, FitsOutgoing, FitsIncoming, FitsTimer}
 use Rattle.record_bytes.proofs.Keeping.{no-message-fits, cleared-fits, next-ticket-fits, armed-fits, blank-call-fits}
 use Rattle.client_bytes.specs.Fits.{FitsClient}
@@ -84,8 +83,8 @@ module _ (c : Client) (fits : FitsClient c) where
   }
 
   -- what is held,
-  pub incoming-fits : (m : Incoming) → FitsIncoming m → FitsClient (withIncoming c m)
-  unfolding withIncoming
+  pub incoming-fits : (m : Incoming) → FitsIncoming m → FitsClient (received c m)
+  unfolding withIncoming withWaits
   incoming-fits m small = record {
     activity = fits .activity;
     number = fits .number;

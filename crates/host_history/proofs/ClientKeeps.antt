@@ -7,6 +7,7 @@ use native.Mathlib.Omega.{arith}
 use lib.Dec.{ltb}
 use lib.ListN.{length}
 use borrow.Author.Tests.{ltb-true}
+use Rattle.words.specs.Sizes.{lastNumber, retryLimit}
 use Rattle.answers.specs.declared.Ground.{Ground}
 use Rattle.answers.specs.declared.Ground.the-variants.{Pass, Refuse}
 use Rattle.bodies.specs.Status.{statusReading}
@@ -27,13 +28,14 @@ use Rattle.client_record.specs.declared.TimerKind.{TimerKind}
 use Rattle.client_record.specs.declared.TimerKind.the-variants.{Wait, Ack}
 use Rattle.client_record.specs.declared.Client.{Client}
 use Rattle.client_record.specs.States.{isQueued}
+use Rattle.client_record.specs.Record.{withOutgoing, withWaits}
 use Rattle.client_table.specs.declared.Event.{Event}
 use Rattle.client_table.specs.declared.Event.the-variants.{Response, Fault, Reject, Working, Nocall, Fack, Foreign}
 use Rattle.client_table.specs.Events.{eventOf, byEvent}
 use Rattle.client_table.specs.Local.{startGround, transmitGround, timerGround}
 use Rattle.client_table.specs.Arrival.{arrivalGround}
 use Rattle.client_steps.specs.declared.Plan.{Plan}
-use Rattle.client_steps.specs.Plan.{refused, accepted, withOutgoing, withWaits, failed}
+use Rattle.client_steps.specs.Plan.{refused, accepted, failed}
 use Rattle.client_steps.specs.Rows.{nextNumber, started, startPlan, transmitted, transmitPlan, pinged, waitPlan, ackPlan, timerRow, timerPlan}
 use Rattle.client_arrivals.specs.Rows.{acknowledged, fackPlan, putRecord, putPlan, responsePlan, workingPlan, resent, nocallPlan}
 use Rattle.client_arrivals.specs.Table.{arrivalRow, arrivalPlan}
@@ -93,19 +95,19 @@ module _ (c : Client) (fits : FitsClient c) where
   unfolding failed accepted
   failed-fits notice = unarmed-fits c fits FaultState
 
-  pinged-fits : ltb (c .waits) 5 ≡ true → FitsClient (pinged c)
+  pinged-fits : ltb (c .waits) retryLimit ≡ true → FitsClient (pinged c)
   unfolding pinged
   pinged-fits below =
       waits-fits _
       (waiting-fits _ (outgoing-fits c fits (afterPing (c .outgoing)) (after-ping-fits (c .outgoing) (fits .outgoing)))
       (c .state))
-      (c .waits + 1) (omega (arith, ltb-true (c .waits) 5 below))
+      (c .waits + 1) (omega (arith, ltb-true (c .waits) retryLimit below))
 
   wait-fits : FitsClient (waitPlan c .client)
   unfolding waitPlan accepted
   wait-fits =
-      choice-by (λ (plan : Plan). FitsClient (plan .client)) (ltb (c .waits) 5) _ _ pinged-fits
-      (λ (e : ltb (c .waits) 5 ≡ false). failed-fits (Cause 1))
+      choice-by (λ (plan : Plan). FitsClient (plan .client)) (ltb (c .waits) retryLimit) _ _ pinged-fits
+      (λ (e : ltb (c .waits) retryLimit ≡ false). failed-fits (Cause 1))
 
   timer-row-fits : (kind : TimerKind) → FitsClient (timerRow kind c .client)
   unfolding timerRow ackPlan accepted
@@ -125,26 +127,26 @@ module _ (c : Client) (fits : FitsClient c) where
       (choice-keeps FitsClient idempotent _ _ (unarmed-fits c fits Complete) (ack-pending-fits c fits))
       (waiting-fits c fits ReceiveFrags)
 
-  response-fits : (flags1 serial f n : ℕ) → f ≤ 31 → n < 65536 → FitsClient (responsePlan c flags1 serial f n .client)
+  response-fits : (flags1 serial f n : ℕ) → f ≤ lastNumber → n < 65536 → FitsClient (responsePlan c flags1 serial f n .client)
   unfolding responsePlan putPlan
   response-fits flags1 serial f n low short =
       incoming-fits _ (put-record-fits (complete (stored (c .incoming) f n (isLast flags1))) (c .call .idempotent)) _
       (stored-fits (c .incoming) f n (isLast flags1) (fits .incoming) (omega arith) short)
 
   -- nocall,
-  resent-fits : ltb (c .resends) 5 ≡ true → FitsClient (resent c)
+  resent-fits : ltb (c .resends) retryLimit ≡ true → FitsClient (resent c)
   unfolding resent
   resent-fits below =
       resends-fits _
       (unarmed-fits _ (outgoing-fits c fits (rewound (c .outgoing)) (rewound-fits (c .outgoing) (fits .outgoing)))
       SendFrags)
-      (c .resends + 1) (omega (arith, ltb-true (c .resends) 5 below))
+      (c .resends + 1) (omega (arith, ltb-true (c .resends) retryLimit below))
 
   nocall-fits : FitsClient (nocallPlan c .client)
   unfolding nocallPlan accepted
   nocall-fits =
-      choice-by (λ (plan : Plan). FitsClient (plan .client)) (ltb (c .resends) 5) _ _ resent-fits
-      (λ (e : ltb (c .resends) 5 ≡ false). failed-fits (Cause 2))
+      choice-by (λ (plan : Plan). FitsClient (plan .client)) (ltb (c .resends) retryLimit) _ _ resent-fits
+      (λ (e : ltb (c .resends) retryLimit ≡ false). failed-fits (Cause 2))
 
   -- every one whose grounds passed,
   row-fits : (event : Event) (h : Header) (n status : ℕ) → CanArrive event c h n → n < 65536

@@ -8,6 +8,7 @@ use lib.Dec.{eqb, ltb, leb}
 use lib.ListN.{length, take, drop, getD}
 use borrow.Author.Tests.{eq-eqb, le-ltb, leb-true, leb-false}
 use Rattle.words.specs.Choice.{choose, both}
+use Rattle.words.specs.Sizes.{bodySize, windowSize, slotsSize}
 use Rattle.words.proofs.Tests.{choose-true, choose-false}
 use Rattle.incoming.specs.declared.Incoming.{Incoming}
 use Rattle.incoming.specs.Slots.{missing, sound, contiguous}
@@ -40,13 +41,13 @@ take-own (suc n) (b ∷ bs) = ap (λ (rest : List ℕ). b ∷ rest) (take-own n 
 
 -- The part told of is the part handed back.
 part-read : (kept : Bool) (m : Incoming) (f : ℕ) (slots : List ℕ)
-    → stretch (length (partOf kept m f slots)) (1392 * f) slots ≡ partOf kept m f slots
+    → stretch (length (partOf kept m f slots)) (bodySize * f) slots ≡ partOf kept m f slots
 unfolding partOf handedUp
 part-read kept m f slots =
-    choice-keeps (λ (part : List ℕ). stretch (length part) (1392 * f) slots ≡ part) kept _ []
-    (choice-keeps (λ (part : List ℕ). stretch (length part) (1392 * f) slots ≡ part) (isHandedUp m f (length slots)) _
+    choice-keeps (λ (part : List ℕ). stretch (length part) (bodySize * f) slots ≡ part) kept _ []
+    (choice-keeps (λ (part : List ℕ). stretch (length part) (bodySize * f) slots ≡ part) (isHandedUp m f (length slots)) _
     []
-    (take-own (getD (m .slots) f missing .length) (drop (1392 * f) slots)) refl)
+    (take-own (getD (m .slots) f missing .length) (drop (bodySize * f) slots)) refl)
     refl
 
 parts-read : (kept : Bool) (m : Incoming) (slots : List ℕ) (n : ℕ)
@@ -62,7 +63,7 @@ module _ (kept : Bool) (m : Incoming) (slots : List ℕ) where
   none-above f above =
       let low : ltb f (contiguous m) ≡ false = le-ltb f (contiguous m) above in
       let unheld : isHandedUp m f (length slots) ≡ false =
-      choice-keeps (λ (t : Bool). t ≡ false) (eqb (length slots) 44544) _ false
+      choice-keeps (λ (t : Bool). t ≡ false) (eqb (length slots) slotsSize) _ false
       (choice-keeps (λ (t : Bool). t ≡ false) (sound m) _ false low refl) refl in
       choice-keeps (λ (part : List ℕ). part ≡ []) kept _ []
       (choose-false (isHandedUp m f (length slots)) (bytesOf (m .slots) f slots) [] unheld) refl
@@ -89,11 +90,11 @@ module _ (kept : Bool) (m : Incoming) (slots : List ℕ) where
   all-below (suc n) most = one-more n (leb (contiguous m) n) refl most (all-below n)
 
 -- What is read of all 32 numbers is what is handed up.
-handed : (kept : Bool) (m : Incoming) (slots : List ℕ) → length (m .slots) ≡ 32
-    → readBelow (λ (f : ℕ). length (partOf kept m f slots)) slots 32 ≡ parts kept m slots
+handed : (kept : Bool) (m : Incoming) (slots : List ℕ) → length (m .slots) ≡ windowSize
+    → readBelow (λ (f : ℕ). length (partOf kept m f slots)) slots windowSize ≡ parts kept m slots
 unfolding contiguous
 handed kept m slots size =
-    parts-read kept m slots 32 ∙ all-below kept m slots 32 (omega (arith, count-most (m .slots)))
+    parts-read kept m slots windowSize ∙ all-below kept m slots windowSize (omega (arith, count-most (m .slots)))
 
 -- What a host reads of either side's parts is what that side hands up in the theorem's world.
 sized-told : (bytes : List ℕ) (n : ℕ) → length bytes ≡ 272 → choose (sized bytes) n 0 ≡ n
@@ -107,7 +108,7 @@ module _ (h : HostWorld) (keeps : Keeps h) where
       let bytes = h .client .machine in
       let slots = h .client .slots in
       let known = keeps .client in
-      ap (λ (told : ℕ → ℕ). readBelow told slots 32)
+      ap (λ (told : ℕ → ℕ). readBelow told slots windowSize)
       (λ i (f : ℕ). sized-told bytes (length (clientHandedUp (clientIn bytes) f slots)) (known .size) i)
       ∙ handed (clientSound (clientIn bytes)) (clientIn bytes .incoming) slots
       (client-fits bytes (known .size) (known .octets) (known .readable) .incoming .size)
@@ -118,7 +119,7 @@ module _ (h : HostWorld) (keeps : Keeps h) where
       let bytes = h .server .machine in
       let slots = h .server .slots in
       let known = keeps .server in
-      ap (λ (told : ℕ → ℕ). readBelow told slots 32)
+      ap (λ (told : ℕ → ℕ). readBelow told slots windowSize)
       (λ i (f : ℕ). sized-told bytes (length (serverHandedUp (serverIn bytes) f slots)) (known .size) i)
       ∙ handed (serverSound (serverIn bytes)) (serverIn bytes .incoming) slots
       (server-fits bytes (known .size) (known .octets) (known .readable) .incoming .size)

@@ -11,6 +11,7 @@ use borrow.Author.Tests.{eq-eqb}
 use Rattle.words.specs.Choice.{choose}
 use Rattle.words.specs.Number.{number}
 use Rattle.words.specs.Place.{putAt, placed}
+use Rattle.words.specs.Sizes.{headerSize}
 use Rattle.words.proofs.Number.{part-all}
 use Rattle.words.proofs.Tests.{choose-true}
 use Rattle.answers.specs.declared.Answer.the-variants.{Done}
@@ -28,34 +29,34 @@ use Rattle.record_bytes.proofs.HeldLaws.{placed-all}
 use Rattle.morphelai.specs.CodecDoor.{Codec, orderByte, headerOut, codecRead, codecWritten, codecWrite}
 
 -- No field of a header stands at byte 4, nor behind byte 79.
-order-aside : (s : List ℕ) (order : ℕ) → length s ≡ 80 → headerOf true (placed 4 (order ∷ []) s) ≡ headerOf true s
+order-aside : (s : List ℕ) (order : ℕ) → length s ≡ headerSize → headerOf true (placed 4 (order ∷ []) s) ≡ headerOf true s
 unfolding headerOf placed putAt choose number
 order-aside s order size =
-    subst (λ (t : List ℕ). headerOf true (placed 4 (order ∷ []) t) ≡ headerOf true t) (part-all 80 s size) refl
+    subst (λ (t : List ℕ). headerOf true (placed 4 (order ∷ []) t) ≡ headerOf true t) (part-all headerSize s size) refl
 
 -- What stands at byte 4 is put there; the bytes beside the fields, and their count, stay.
 record Beside (before after : List ℕ) (byte : ℕ) : Type 0 where
-  size : length after ≡ 80
+  size : length after ≡ headerSize
   version : getD after 0 0 ≡ getD before 0 0
   order : getD after 4 0 ≡ byte
   second : getD after 5 0 ≡ getD before 5 0
   third : getD after 6 0 ≡ getD before 6 0
   body : number 2 true after 74 ≡ number 2 true before 74
 
-order-there : (s : List ℕ) (order : ℕ) → length s ≡ 80 → Beside s (placed 4 (order ∷ []) s) order
+order-there : (s : List ℕ) (order : ℕ) → length s ≡ headerSize → Beside s (placed 4 (order ∷ []) s) order
 unfolding placed putAt choose number
 order-there s order size =
-    subst (λ (t : List ℕ). Beside t (placed 4 (order ∷ []) t) order) (part-all 80 s size)
+    subst (λ (t : List ℕ). Beside t (placed 4 (order ∷ []) t) order) (part-all headerSize s size)
     (record { size = refl; version = refl; order = refl; second = refl; third = refl; body = refl })
 
-body-aside : (s body : List ℕ) → length s ≡ 80
+body-aside : (s body : List ℕ) → length s ≡ headerSize
     → (headerOf true (s ++ body) ≡ headerOf true s) × (number 2 true (s ++ body) 74 ≡ number 2 true s 74)
 unfolding headerOf number
 body-aside s body size =
     subst
     (λ (t : List ℕ).
     (headerOf true (t ++ body) ≡ headerOf true t) × (number 2 true (t ++ body) 74 ≡ number 2 true t 74))
-    (part-all 80 s size) (refl, refl)
+    (part-all headerSize s size) (refl, refl)
 
 -- A header that stands in bytes fits its widths.
 header-fits : (little : Bool) (s : List ℕ) → Octets s → Fits (headerOf little s)
@@ -77,7 +78,7 @@ header-fits little s octets = record {
     sizes false = record { object = refl; interface = refl; activity = refl }
 
 -- A datagram that was read, and a header's buffer.
-module _ (s out : List ℕ) (octets : Octets s) (room : length out ≡ 80) (done : reading s .answer ≡ Done) where
+module _ (s out : List ℕ) (octets : Octets s) (room : length out ≡ headerSize) (done : reading s .answer ≡ Done) where
   fits : Fits (reading s .header)
   fits =
       subst Fits (sym (ap (λ (r : Reading). r .header) (accepted-reading s done)))
@@ -90,7 +91,7 @@ module _ (s out : List ℕ) (octets : Octets s) (room : length out ≡ 80) (done
   whole : List ℕ
   whole = datagram (reading s .header) (bodyOf s)
 
-  size : length told ≡ 80
+  size : length told ≡ headerSize
   unfolding told
   size = length-header (reading s .header) (length (bodyOf s)) (fits .sized)
 
@@ -122,7 +123,7 @@ module _ (s out : List ℕ) (octets : Octets s) (room : length out ≡ 80) (done
   same-length : number 2 true told 74 ≡ length (bodyOf s)
   unfolding told whole datagram
   same-length =
-      let sum : length whole ≡ 80 + number 2 (orderIs 16 whole) whole 74 =
+      let sum : length whole ≡ headerSize + number 2 (orderIs 16 whole) whole 74 =
       accepted-readable whole (ap (λ (x : Reading). x .answer) read) .whole in
       let here : number 2 (orderIs 16 whole) whole 74 ≡ number 2 true told 74 =
       ap (λ (b : Bool). number 2 b whole 74) little ∙ body-aside told (bodyOf s) size .1 in
@@ -133,7 +134,7 @@ module _ (s out : List ℕ) (octets : Octets s) (room : length out ≡ 80) (done
   unfolding codecRead headerOut told
   left =
       let zero : numberOf (reading s .answer) ≡ 0 = ap numberOf done in
-      ap (λ (c : Codec). c .out) (choose-true (eqb (length out) 80) _ _ (eq-eqb (length out) 80 room))
+      ap (λ (c : Codec). c .out) (choose-true (eqb (length out) headerSize) _ _ (eq-eqb (length out) headerSize room))
       ∙ choose-true (eqb (numberOf (reading s .answer)) 0) _ out (eq-eqb _ 0 zero)
       ∙ ap (placed 4 (orderByte (reading s .little) ∷ []))
       (placed-all told out (size ∙ sym room))
@@ -169,5 +170,5 @@ module _ (s out : List ℕ) (octets : Octets s) (room : length out ≡ 80) (done
       → codecWrite (codecRead s out .out) body pdu ≡ codecWritten (writing (reading s .header) body pdu)
   unfolding codecWrite
   told-written body pdu =
-      choose-true _ _ _ (eq-eqb _ 80 (beside .size))
+      choose-true _ _ _ (eq-eqb _ headerSize (beside .size))
       ∙ ap (λ (h : Header). codecWritten (writing h body pdu)) told-fields

@@ -9,6 +9,7 @@ use lib.ListN.{length}
 use borrow.Author.Tests.{ne-eqb}
 use Rattle.words.specs.Choice.{choose}
 use Rattle.words.specs.Place.{placed}
+use Rattle.words.specs.Sizes.{pduSize}
 use Rattle.words.proofs.Tests.{choose-false}
 use Rattle.answers.specs.declared.Answer.{Answer}
 use Rattle.answers.specs.declared.Answer.the-variants.{Done, WrongLength, BrokenRecord, NoRow}
@@ -60,7 +61,7 @@ module _ (bytes slots out : List ℕ) where
   pub kind-refused : (sound : Bool) → Refused (otherKind sound bytes slots out) bytes slots out
   unfolding otherKind otherTimer
   kind-refused sound =
-      choice-keeps (λ (n : ℕ). Refused (left n) bytes slots out) (not (eqb (length out) 1472)) 1 _
+      choice-keeps (λ (n : ℕ). Refused (left n) bytes slots out) (not (eqb (length out) pduSize)) 1 _
       (left-refused WrongLength)
       (choice-keeps (λ (n : ℕ). Refused (left n) bytes slots out) (not sound) 2 15 (left-refused BrokenRecord)
       (left-refused NoRow))
@@ -104,7 +105,7 @@ module _ (bytes slots out : List ℕ) where
   pub kind-undone : (sound : Bool) → Undone (otherKind sound bytes slots out)
   unfolding otherKind otherTimer
   kind-undone sound =
-      choice-keeps (λ (n : ℕ). Undone (left bytes slots out n)) (not (eqb (length out) 1472)) 1 _
+      choice-keeps (λ (n : ℕ). Undone (left bytes slots out n)) (not (eqb (length out) pduSize)) 1 _
       (left-undone WrongLength (λ (e : 1 ≡ 0). omega arith))
       (choice-keeps (λ (n : ℕ). Undone (left bytes slots out n)) (not sound) 2 15
       (left-undone BrokenRecord (λ (e : 2 ≡ 0). omega arith))

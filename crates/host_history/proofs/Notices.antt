@@ -17,14 +17,14 @@ use Rattle.client_record.specs.declared.Client.{Client}
 use Rattle.client_record.specs.declared.State.{State as ClientState}
 use Rattle.client_record.specs.declared.TimerKind.{TimerKind}
 use Rattle.client_record.specs.declared.TimerKind.the-variants.{Wait, Ack}
-use Rattle.client_record.specs.Record.{ackPending, unarmed as clientUnarmed}
+use Rattle.client_record.specs.Record.{ackPending, unarmed as clientUnarmed, withIncoming as clientWithIncoming, withWaits}
 use Rattle.client_table.specs.declared.Event.{Event}
 use Rattle.client_table.specs.declared.Event.the-variants.{Response, Fault as FaultRow, Reject, Working as WorkingRow, Nocall as NocallRow, Fack, Foreign}
 use Rattle.client_table.specs.Events.{eventOf as clientEventOf}
 use Rattle.client_steps.specs.declared.Plan.{Plan as ClientPlan}
 use Rattle.client_steps.specs.Plan.{refused as clientRefused, accepted as clientAccepted, failed}
 use Rattle.client_steps.specs.Rows.{startPlan, transmitPlan as clientTransmitPlan, waitPlan, ackPlan as clientAckPlan, timerRow as clientTimerRow, timerPlan as clientTimerPlan}
-use Rattle.client_arrivals.specs.Rows.{putRecord as clientPutRecord, withIncoming as clientWithIncoming, putNotice as clientPutNotice, putPlan as clientPutPlan, responsePlan, workingPlan as clientWorking, nocallPlan as clientNocall, fackPlan as clientFackPlan}
+use Rattle.client_arrivals.specs.Rows.{putRecord as clientPutRecord, putNotice as clientPutNotice, putPlan as clientPutPlan, responsePlan, workingPlan as clientWorking, nocallPlan as clientNocall, fackPlan as clientFackPlan}
 use Rattle.client_arrivals.specs.Table.{arrivalRow as clientRow, arrivalPlan as clientArrivalPlan}
 use Rattle.client.specs.Machine.{outcomeOf as clientOutcome, starting, sending as clientSending, transmitting as clientTransmitting, timing as clientTiming, planOf as clientPlanOf, acted as clientActed, arriving as clientArriving}
 use Rattle.server_record.specs.declared.Reply.{Reply as HeldReply}
@@ -32,7 +32,7 @@ use Rattle.server_record.specs.declared.Reply.the-variants.{Data, Fault as Faul
 use Rattle.server_record.specs.declared.State.{State}
 use Rattle.server_record.specs.declared.State.the-variants.{Idle as IdleState, Collect, Running, Replying, Held}
 use Rattle.server_record.specs.declared.Server.{Server}
-use Rattle.server_record.specs.Record.{unarmed}
+use Rattle.server_record.specs.Record.{unarmed, withIncoming}
 use Rattle.server_record.specs.States.{isFresh}
 use Rattle.server_rows.specs.declared.Row.{Row}
 use Rattle.server_rows.specs.declared.Row.the-variants.{Old, Missing, Repeat, Begin, Put, Working, Nocall, Replay, Acknowledge, Finish}
@@ -42,7 +42,7 @@ use Rattle.server_rows.proofs.TableLaws.{equal-told, put-told}
 use Rattle.server_steps.specs.declared.Plan.{Plan}
 use Rattle.server_steps.specs.Plan.{refused, accepted}
 use Rattle.server_steps.specs.Rows.{replyPlan, transmitPlan, faultPlan, replayHeld, replayPlan, resendHeld, resendRow, timerRow, timerPlan}
-use Rattle.server_arrivals.specs.Rows.{begun, withIncoming, putState, putNotice, putPlan, requestPlan, beginPlan, workingPlan, nocallPlan, fackPlan, ackPlan}
+use Rattle.server_arrivals.specs.Rows.{begun, putState, putNotice, putPlan, requestPlan, beginPlan, workingPlan, nocallPlan, fackPlan, ackPlan}
 use Rattle.server_arrivals.specs.Table.{arrivalRow, arrivalPlan}
 use Rattle.server.specs.Machine.{outcomeOf, replying, sending, transmitting, timing, faulting, planOf, acted, arriving}
 use Rattle.history.specs.World.{Side, World}
@@ -88,7 +88,7 @@ module _ (c : Client) where
   put-tells false idempotent count = tt
 
   row-tells : (event : Event) (h : Header) (n status : ℕ) → ClientPlanTells (clientRow event c h n status)
-  unfolding clientRow responsePlan clientPutPlan clientWithIncoming clientWorking clientNocall clientFackPlan
+  unfolding clientRow responsePlan clientPutPlan clientWithIncoming withWaits clientWorking clientNocall clientFackPlan
       clientRefused clientAccepted failed
   row-tells Response h n status = put-tells _ (c .call .idempotent) _
   row-tells FaultRow h n status = tt

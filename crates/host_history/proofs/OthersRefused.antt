@@ -7,6 +7,7 @@ use native.Mathlib.Omega.{arith}
 use lib.Dec.{eqb}
 use lib.ListN.{length}
 use borrow.Author.Tests.{eqb-true}
+use Rattle.words.specs.Sizes.{headerSize}
 use Rattle.answers.specs.declared.Ground.{Ground}
 use Rattle.answers.specs.declared.Ground.the-variants.{Pass, Refuse}
 use Rattle.answers.specs.Number.{numberOf}
@@ -40,7 +41,7 @@ pub read-leaves : (datagram out : List ℕ) → (codecRead datagram out .result 
     → codecRead datagram out .out ≡ out
 unfolding codecRead refusingCodec headerOut
 read-leaves datagram out =
-    choice-by (λ (c : Codec). (c .result ≡ 0 → ⊥) → c .out ≡ out) (eqb (length out) 80) _ (refusingCodec out)
+    choice-by (λ (c : Codec). (c .result ≡ 0 → ⊥) → c .out ≡ out) (eqb (length out) headerSize) _ (refusingCodec out)
     (λ whole other.
     choice-by (λ (l : List ℕ). l ≡ out) (eqb (numberOf (reading datagram .answer)) 0) _ out
     (λ (e : eqb (numberOf (reading datagram .answer)) 0 ≡ true). absurd (other (eqb-true _ 0 e))) (λ e. refl))
@@ -57,7 +58,7 @@ pub write-leaves : (header body out : List ℕ) → (codecWrite header body out 
     → codecWrite header body out .out ≡ out
 unfolding codecWrite refusingCodec writing
 write-leaves header body out =
-    choice-by (λ (c : Codec). (c .result % 256 ≡ 0 → ⊥) → c .out ≡ out) (eqb (length header) 80) _ (refusingCodec out)
+    choice-by (λ (c : Codec). (c .result % 256 ≡ 0 → ⊥) → c .out ≡ out) (eqb (length header) headerSize) _ (refusingCodec out)
     (λ whole.
     let h = headerOf true header in
     written-leaves (writeGround (length out) (h .kind) (h .authentication) (length body)) h body out)

@@ -11,9 +11,7 @@ use Rattle.server_record.specs.declared.Reply.{Reply}
 use Rattle.server_record.specs.declared.State.{State}
 use Rattle.server_record.specs.declared.State.the-variants.{Held}
 use Rattle.server_record.specs.declared.Server.{Server}
-use Rattle.server_record.specs.Record.{fresh, timed, holding, unarmed}
-use Rattle.server_steps.specs.Plan.{withOutgoing, withResends}
-use Rattle.server_arrivals.specs.Rows.{withIncoming}
+use Rattle.server_record.specs.Record.{fresh, timed, holding, unarmed, withOutgoing, withResends, withIncoming}
 use Rattle.record_bytes.specs.Fits.{Uuid, FitsOutgoing, FitsIncoming, FitsTimer}
 use Rattle.record_bytes.proofs.Keeping.{no-message-fits, cleared-fits, next-ticket-fits, armed-fits, blank-call-fits}
 use Rattle.server_bytes.specs.Fits.{FitsReply, FitsState, FitsServer}

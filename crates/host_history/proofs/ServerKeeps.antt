@@ -7,6 +7,7 @@ use native.Mathlib.Omega.{arith}
 use lib.Dec.{ltb}
 use lib.ListN.{length}
 use borrow.Author.Tests.{ltb-true}
+use Rattle.words.specs.Sizes.{lastNumber, retryLimit}
 use Rattle.answers.specs.declared.Ground.{Ground}
 use Rattle.answers.specs.declared.Ground.the-variants.{Pass, Refuse}
 use Rattle.incoming.specs.Slots.{complete, stored}
@@ -23,13 +24,15 @@ use Rattle.server_record.specs.declared.Reply.the-variants.{Data, Fault as Faul
 use Rattle.server_record.specs.declared.State.{State}
 use Rattle.server_record.specs.declared.State.the-variants.{Idle as IdleState, Collect, Running, Replying, Held}
 use Rattle.server_record.specs.declared.Server.{Server}
+use Rattle.server_record.specs.Arming.{runsAgain}
+use Rattle.server_record.specs.Record.{withOutgoing, withResends}
 use Rattle.server_rows.specs.declared.Row.{Row}
 use Rattle.server_rows.specs.declared.Row.the-variants.{Old, Missing, Repeat, Begin, Put, Working, Nocall, Replay, Acknowledge, Finish}
 use Rattle.server_rows.specs.Rows.{rowFor}
 use Rattle.server_table.specs.Arrival.{arrivalGround}
-use Rattle.server_table.specs.Local.{runsAgain, transmitGround, timerGround, replyGround, faultGround}
+use Rattle.server_table.specs.Local.{transmitGround, timerGround, replyGround, faultGround}
 use Rattle.server_steps.specs.declared.Plan.{Plan}
-use Rattle.server_steps.specs.Plan.{refused, accepted, withOutgoing, withResends}
+use Rattle.server_steps.specs.Plan.{refused, accepted}
 use Rattle.server_steps.specs.Rows.{answered, replyPlan, settled, transmitted, transmitPlan, faultPlan, rewinding, replayHeld, replayPlan, resendHeld, resendRow, timerRow, timerPlan}
 use Rattle.server_arrivals.specs.Rows.{callOf, begun, putState, putPlan, requestPlan, beginPlan, workingPlan, nocallPlan, fackPlan, ackPlan}
 use Rattle.server_arrivals.specs.Table.{arrivalRow, arrivalPlan}
@@ -103,10 +106,10 @@ module _ (s : Server) (fits : FitsServer s) where
 
 -- the RESEND timer,
 module _ (s : Server) (fits : FitsServer s) where
-  counted-fits : ltb (s .resends) 5 ≡ true → FitsServer (withResends s (s .resends + 1))
-  counted-fits below = resends-fits s fits (s .resends + 1) (omega (arith, ltb-true (s .resends) 5 below))
+  counted-fits : ltb (s .resends) retryLimit ≡ true → FitsServer (withResends s (s .resends + 1))
+  counted-fits below = resends-fits s fits (s .resends + 1) (omega (arith, ltb-true (s .resends) retryLimit below))
 
-  resend-held-fits : (reply : Reply) → FitsReply reply → ltb (s .resends) 5 ≡ true
+  resend-held-fits : (reply : Reply) → FitsReply reply → ltb (s .resends) retryLimit ≡ true
       → FitsServer (resendHeld s reply .server)
   unfolding resendHeld accepted
   resend-held-fits Data known below = rewinding-fits _ (counted-fits below)
@@ -115,8 +118,8 @@ module _ (s : Server) (fits : FitsServer s) where
   resend-fits : (reply : Reply) → FitsReply reply → FitsServer (resendRow s reply .server)
   unfolding resendRow accepted
   resend-fits reply known =
-      choice-by (λ (plan : Plan). FitsServer (plan .server)) (ltb (s .resends) 5) _ _ (resend-held-fits reply known)
-      (λ (e : ltb (s .resends) 5 ≡ false). unarmed-fits s fits (IdleState Spent) tt)
+      choice-by (λ (plan : Plan). FitsServer (plan .server)) (ltb (s .resends) retryLimit) _ _ (resend-held-fits reply known)
+      (λ (e : ltb (s .resends) retryLimit ≡ false). unarmed-fits s fits (IdleState Spent) tt)
 
   timer-row-fits : (state : State) → FitsState state → FitsServer (timerRow state s .server)
   unfolding timerRow refused
@@ -137,7 +140,7 @@ module _ (s : Server) (fits : FitsServer s) where
   unfolding putState
   put-state-fits all = choice-keeps FitsState all Running Collect tt tt
 
-  request-fits : (flags1 serial f n : ℕ) → f ≤ 31 → n < 65536 → FitsServer (requestPlan s flags1 serial f n .server)
+  request-fits : (flags1 serial f n : ℕ) → f ≤ lastNumber → n < 65536 → FitsServer (requestPlan s flags1 serial f n .server)
   unfolding requestPlan putPlan
   request-fits flags1 serial f n low short =
       incoming-fits _ (unarmed-fits s fits _ (put-state-fits (complete (stored (s .incoming) f n (isLast flags1))))) _

@@ -7,6 +7,7 @@ use native.Mathlib.Omega.{arith}
 use lib.Dec.{eqb}
 use lib.ListN.{length}
 use borrow.Author.Tests.{eqb-false}
+use Rattle.words.specs.Sizes.{pduSize}
 use Rattle.pdu.specs.declared.Header.{Header}
 use Rattle.writer.specs.Writing.{writing}
 use Rattle.calls.specs.declared.Sent.the-variants.{Nothing as Unsent, Pdu}
@@ -29,7 +30,7 @@ use Rattle.morphelai.proofs.Exact.{written-short}
 use Rattle.host_history.proofs.Unpacking.{FitsSent}
 
 -- What is sent of a PDU written fits: it has at most 1,472 bytes.
-sent-of-fits : (n : ℕ) → n ≤ 1472 → FitsSent (sentOf n)
+sent-of-fits : (n : ℕ) → n ≤ pduSize → FitsSent (sentOf n)
 unfolding sentOf
 sent-of-fits n short =
     choice-by FitsSent (eqb n 0) Unsent (Pdu n) (λ (e : eqb n 0 ≡ true). tt)

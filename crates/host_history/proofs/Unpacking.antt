@@ -5,6 +5,7 @@ use native.Mathlib.Omega.{arith}
 use lib.Dec.{eqb}
 use borrow.Author.Tests.{ne-eqb}
 use Rattle.words.specs.Choice.{choose}
+use Rattle.words.specs.Sizes.{pduSize}
 use Rattle.words.proofs.Tests.{choose-false}
 use Rattle.answers.specs.declared.Answer.{Answer}
 use Rattle.answers.specs.declared.Answer.the-variants.{Done, WrongLength, BrokenRecord, ShortDatagram, WrongVersion, UnknownType, UnknownRepresentation, Authenticated, WrongBodyLength, OtherActivity, WrongSide, MaybeOrBroadcast, WrongFragment, OldCall, MalformedBody, NoRow, Repeated, Contradiction, LateTimer, NumbersUsedUp, TicketsUsedUp}
@@ -109,7 +110,7 @@ notice-back Dispatch = refl
 -- What was sent is nothing, or a PDU of 1 to 1,472 bytes.
 abbrev pub FitsSent : Sent → Type 0
 FitsSent Nothing = Unit {0}
-FitsSent (Pdu n) = (0 < n) × (n ≤ 1472)
+FitsSent (Pdu n) = (0 < n) × (n ≤ pduSize)
 
 -- So 16 bits cut nothing off.
 pub length-whole : (n : ℕ) → FitsSent (Pdu n) → sentLength (Pdu n) ≡ n

@@ -11,6 +11,7 @@ use lib.ListN.{length, getD}
 use borrow.Author.Tests.{eqb-true, leb-true, leb-false, lt-ltb, le-ltb, ne-eqb}
 use Rattle.words.specs.Choice.{choose, both, either}
 use Rattle.words.specs.Number.{number}
+use Rattle.words.specs.Sizes.{pduSize, slotsSize, messageSize}
 use Rattle.words.proofs.Tests.{choose-true, choose-false}
 use Rattle.answers.specs.declared.Answer.{Answer}
 use Rattle.answers.specs.declared.Answer.the-variants.{WrongLength, BrokenRecord}
@@ -84,19 +85,19 @@ broken-ground true false rest broken = refl
 broken-ground false false rest broken = refl
 
 -- A length above 44,544 is one that is not up to it.
-pub above : (n : ℕ) → ltb 44544 n ≡ not (leb n 44544)
-above n = by-test (leb n 44544) refl
+pub above : (n : ℕ) → ltb messageSize n ≡ not (leb n messageSize)
+above n = by-test (leb n messageSize) refl
   where
-    by-test : (test : Bool) → leb n 44544 ≡ test → ltb 44544 n ≡ not test
-    by-test true e = le-ltb 44544 n (leb-true n 44544 e)
-    by-test false e = lt-ltb 44544 n (leb-false n 44544 e)
+    by-test : (test : Bool) → leb n messageSize ≡ test → ltb messageSize n ≡ not test
+    by-test true e = le-ltb messageSize n (leb-true n messageSize e)
+    by-test false e = lt-ltb messageSize n (leb-false n messageSize e)
 
 long-ground : (n : ℕ) (sound : Bool) (rest : Ground) → sound ≡ false
-    → first (refuseIf (ltb 44544 n) WrongLength) (first (refuseIf (not sound) BrokenRecord) rest)
-    ≡ Refuse (twoElseOne (leb n 44544))
+    → first (refuseIf (ltb messageSize n) WrongLength) (first (refuseIf (not sound) BrokenRecord) rest)
+    ≡ Refuse (twoElseOne (leb n messageSize))
 long-ground n sound rest broken =
     ap (λ (wrong : Bool). first (refuseIf wrong WrongLength) (first (refuseIf (not sound) BrokenRecord) rest)) (above n)
-    ∙ broken-ground (leb n 44544) sound rest broken
+    ∙ broken-ground (leb n messageSize) sound rest broken
 
 first-so : (g rest : Ground) (a : Answer) → g ≡ Refuse a → first g rest ≡ Refuse a
 unfolding first
@@ -114,10 +115,10 @@ or-one true right x bytes slots out so = so
 or-one false right x bytes slots out so = answer-alone WrongLength
 
 kind-so : (sound : Bool) (bytes slots out : List ℕ) → sound ≡ false
-    → ToldSo (eqb (length out) 1472) (otherKind sound bytes slots out)
+    → ToldSo (eqb (length out) pduSize) (otherKind sound bytes slots out)
 unfolding otherKind otherTimer choose
 kind-so true bytes slots out broken = absurd (true≢false broken)
-kind-so false bytes slots out broken = by-length (eqb (length out) 1472)
+kind-so false bytes slots out broken = by-length (eqb (length out) pduSize)
   where
     by-length : (right : Bool) → answerIn (choose (not right) 1 2) ≡ twoElseOne right
     by-length true = answer-alone BrokenRecord
@@ -131,8 +132,8 @@ no-part kept m f slots broken = ap length (choose-false kept _ [] broken)
 -- A transmit's lengths are right: of the PDU buffer, and of the message, judged more closely where one is sent.
 abbrev pub transmitSized : Bool → ℕ → List ℕ → List ℕ → Bool
 transmitSized sending size message out =
-    both (eqb (length out) 1472)
-    (both (leb (length message) 44544) (either (not sending) (eqb (length message) size)))
+    both (eqb (length out) pduSize)
+    (both (leb (length message) messageSize) (either (not sending) (eqb (length message) size)))
 
 other-byte : (n m k : ℕ) → eqb n m ≡ true → (m ≡ k → ⊥) → false ≡ eqb n k
 other-byte n m k e other = sym (ne-eqb n k (λ (p : n ≡ k). other (sym (eqb-true n m e) ∙ p)))
@@ -182,14 +183,14 @@ server-unlisted n status above =
 -- So a transmit's lengths are right by the bytes of its record.
 pub client-message : (bytes message out : List ℕ)
     → transmitSized (isSending (clientIn bytes .state)) (clientIn bytes .outgoing .length) message out
-    ≡ both (eqb (length out) 1472) (messageSized 1 bytes message)
+    ≡ both (eqb (length out) pduSize) (messageSized 1 bytes message)
 unfolding clientIn clientOf fieldsIn outgoingIn
 client-message bytes message out =
     ap (λ (sending : Bool). transmitSized sending (number 4 true bytes 24) message out) (sending-byte (getD bytes 0 0))
 
 pub server-message : (bytes message out : List ℕ)
     → transmitSized (isReplying (serverIn bytes .state)) (serverIn bytes .outgoing .length) message out
-    ≡ both (eqb (length out) 1472) (messageSized 5 bytes message)
+    ≡ both (eqb (length out) pduSize) (messageSized 5 bytes message)
 unfolding serverIn serverOf fieldsIn outgoingIn
 server-message bytes message out =
     ap (λ (sending : Bool). transmitSized sending (number 4 true bytes 24) message out)
@@ -202,7 +203,7 @@ both-joined false b c = refl
 
 -- The client's events.
 module _ (c : Client) (broken : clientSound c ≡ false) where
-  start-so : (call : Call) (n : ℕ) → starting c call n .answer ≡ twoElseOne (leb n 44544)
+  start-so : (call : Call) (n : ℕ) → starting c call n .answer ≡ twoElseOne (leb n messageSize)
   unfolding starting clientOutcome startGround startPlan refusedClient
   start-so call n = ap (λ (g : Ground). startPlan g c call n .answer) (long-ground n (clientSound c) _ broken)
 
@@ -213,14 +214,14 @@ module _ (c : Client) (broken : clientSound c ≡ false) where
   transmit-so message out = ap (λ (g : Ground). clientTransmits g c .answer) (broken-ground _ (clientSound c) _ broken)
 
   timer-so : (kind : TimerKind) (ticket : ℕ) (out : List ℕ)
-      → clientTiming c kind ticket out .outcome .answer ≡ twoElseOne (eqb (length out) 1472)
+      → clientTiming c kind ticket out .outcome .answer ≡ twoElseOne (eqb (length out) pduSize)
   unfolding clientTiming clientSending clientOutcome clientTimerGround clientTimerPlan refusedClient
   timer-so kind ticket out =
       ap (λ (g : Ground). clientTimerPlan g kind c .answer) (broken-ground _ (clientSound c) _ broken)
 
   arrive-so : (datagram slots out : List ℕ)
       → clientArriving c datagram slots out .outcome .answer
-      ≡ twoElseOne (both (eqb (length slots) 44544) (eqb (length out) 1472))
+      ≡ twoElseOne (both (eqb (length slots) slotsSize) (eqb (length out) pduSize))
   unfolding clientArriving clientActed clientSending clientOutcome clientPlan clientJudges entryGround lentGround clientTakes refusedClient
   arrive-so datagram slots out =
       let r = reading datagram in
@@ -234,9 +235,9 @@ client-so : (side : Side (List ℕ)) (call : ClientCall) → clientReadable (sid
     → ToldSo (both (sized (side .machine)) (clientSized side call)) (clientExport side call)
 unfolding clientStart startSized startable clientTransmit clientArrive clientTimer timedClient clientResult
 client-so side (ClientStart idempotent object interface version operation n message) e =
-    or-one _ (leb n 44544) _ (side .machine) [] []
+    or-one _ (leb n messageSize) _ (side .machine) [] []
     (read-so _ _ _ _ (start-so _ (client-broken (side .machine) e) _ n))
-    ∙ ap twoElseOne (both-joined (sized (side .machine)) _ (leb n 44544))
+    ∙ ap twoElseOne (both-joined (sized (side .machine)) _ (leb n messageSize))
 client-so side (ClientTransmit message out) e =
     or-one _ _ _ (side .machine) [] out
     (read-so _ _ _ _
@@ -247,7 +248,7 @@ client-so side (ClientArrive p lent out) e =
     (read-so _ _ _ _ (arrive-so _ (client-broken (side .machine) e) (p .bytes) _ out))
 client-so side (ClientTimer kind ticket out) e =
     let broken = client-broken (side .machine) e in
-    let right = eqb (length out) 1472 in
+    let right = eqb (length out) pduSize in
     or-one _ _ _ (side .machine) [] out
     (choice-keeps (ToldSo right) (eqb kind 1) _ _ (read-so _ _ _ _ (timer-so _ broken Wait ticket out))
     (choice-keeps (ToldSo right) (eqb kind 2) _ _ (read-so _ _ _ _ (timer-so _ broken Ack ticket out))
@@ -255,7 +256,7 @@ client-so side (ClientTimer kind ticket out) e =
 
 -- The server's.
 module _ (s : Server) (broken : serverSound s ≡ false) where
-  reply-so : (n : ℕ) → replying s n .answer ≡ twoElseOne (leb n 44544)
+  reply-so : (n : ℕ) → replying s n .answer ≡ twoElseOne (leb n messageSize)
   unfolding replying serverOutcome replyGround replyPlan refusedServer
   reply-so n = ap (λ (g : Ground). replyPlan g s n .answer) (long-ground n (serverSound s) _ broken)
 
@@ -266,18 +267,18 @@ module _ (s : Server) (broken : serverSound s ≡ false) where
   sent-so message out = ap (λ (g : Ground). serverTransmits g s .answer) (broken-ground _ (serverSound s) _ broken)
 
   resend-so : (ticket : ℕ) (out : List ℕ)
-      → serverTiming s ticket out .outcome .answer ≡ twoElseOne (eqb (length out) 1472)
+      → serverTiming s ticket out .outcome .answer ≡ twoElseOne (eqb (length out) pduSize)
   unfolding serverTiming serverSending serverOutcome serverTimerGround serverTimerPlan refusedServer
   resend-so ticket out = ap (λ (g : Ground). serverTimerPlan g s .answer) (broken-ground _ (serverSound s) _ broken)
 
   fault-so : (status : ℕ) (out : List ℕ)
-      → faulting s status out .outcome .answer ≡ twoElseOne (eqb (length out) 1472)
+      → faulting s status out .outcome .answer ≡ twoElseOne (eqb (length out) pduSize)
   unfolding faulting serverSending serverOutcome faultGround faultPlan refusedServer
   fault-so status out = ap (λ (g : Ground). faultPlan g s status .answer) (broken-ground _ (serverSound s) _ broken)
 
   taken-so : (datagram slots out : List ℕ)
       → serverArriving s datagram slots out .outcome .answer
-      ≡ twoElseOne (both (eqb (length slots) 44544) (eqb (length out) 1472))
+      ≡ twoElseOne (both (eqb (length slots) slotsSize) (eqb (length out) pduSize))
   unfolding serverArriving serverActed serverSending serverOutcome serverPlan serverJudges entryGround lentGround serverTakes refusedServer
   taken-so datagram slots out =
       let r = reading datagram in
@@ -299,7 +300,7 @@ server-so side (ServerTransmit message out) e =
 server-so side (ServerTimer kind ticket out) e =
     let broken = server-broken (side .machine) e in
     or-one _ _ _ (side .machine) [] out
-    (choice-keeps (ToldSo (eqb (length out) 1472)) (eqb kind 3) _ _ (read-so _ _ _ _ (resend-so _ broken ticket out))
+    (choice-keeps (ToldSo (eqb (length out) pduSize)) (eqb kind 3) _ _ (read-so _ _ _ _ (resend-so _ broken ticket out))
     (kind-so _ (side .machine) [] out broken))
 server-so side (ServerReply n message) e =
     or-one _ _ _ (side .machine) [] [] (read-so _ _ _ _ (reply-so _ (server-broken (side .machine) e) n))

@@ -15,7 +15,7 @@ use Rattle.reader.specs.Reading.{reading}
 use Rattle.writer.proofs.RoundTrip.{accepted-reading}
 use Rattle.grounds.specs.Entry.{lentGround}
 use Rattle.timers.specs.declared.Timer.the-variants.{Armed}
-use Rattle.record_bytes.specs.Parts.{lastNumber}
+use Rattle.record_bytes.specs.Parts.{lastField}
 use Rattle.record_bytes.specs.Held.{slotsBytes, slotsIn}
 use Rattle.record_bytes.specs.Layout.{fieldsIn, incomingIn}
 use Rattle.record_bytes.proofs.ByteLaws.{octets-drop}
@@ -60,7 +60,7 @@ held-same : (before after : List ℕ) → Canonical before → Canonical after
 unfolding clientIn clientOf fieldsIn incomingIn
 held-same before after known-before known-after same = record {
   last =
-      sym (last-again (number 2 true after 10)) ∙ ap (λ (m : Incoming). lastNumber (m .last)) same
+      sym (last-again (number 2 true after 10)) ∙ ap (λ (m : Incoming). lastField (m .last)) same
       ∙ last-again (number 2 true before 10);
   slots =
       sym (slots-there after known-after) ∙ ap (λ (m : Incoming). slotsBytes (m .slots)) same

@@ -6,6 +6,7 @@ use mathlib.Core.Path.{_≡_, refl, ap, _∙_}
 use lib.Dec.{eqb, leb, ltb}
 use lib.ListN.{length}
 use Rattle.words.specs.Choice.{choose, both}
+use Rattle.words.specs.Sizes.{pduSize, slotsSize, messageSize}
 use Rattle.answers.specs.declared.Answer.{Answer}
 use Rattle.answers.specs.declared.Answer.the-variants.{WrongLength, BrokenRecord, NoRow}
 use Rattle.answers.specs.declared.Ground.{Ground}
@@ -64,10 +65,10 @@ judged-first true rest other = other
 judged-first false rest other = refl
 
 pub long-first : (n : ℕ) (rest : Ground) → Other rest
-    → one (first (refuseIf (ltb 44544 n) WrongLength) rest) ≡ not (leb n 44544)
+    → one (first (refuseIf (ltb messageSize n) WrongLength) rest) ≡ not (leb n messageSize)
 long-first n rest other =
     ap (λ (wrong : Bool). one (first (refuseIf wrong WrongLength) rest)) (above n)
-    ∙ judged-first (leb n 44544) rest other
+    ∙ judged-first (leb n messageSize) rest other
 
 -- What both sides judge beside lengths.
 pub status-other : (little : Bool) (body : List ℕ) → Other (statusBodyGround little body)
@@ -109,10 +110,10 @@ read-other datagram =
 -- An arriving datagram: the lengths, and the rest of 1 to 9.
 pub entry-one : (slots out : ℕ) (sound : Bool) (datagram mine theirs : List ℕ) (rest : Ground) → Other rest
     → one (first (entryGround (lentGround slots out) sound (reading datagram .answer) mine theirs) rest)
-    ≡ not (both (eqb slots 44544) (eqb out 1472))
+    ≡ not (both (eqb slots slotsSize) (eqb out pduSize))
 unfolding entryGround lentGround
 entry-one slots out sound datagram mine theirs rest other =
-    by-length (both (eqb slots 44544) (eqb out 1472)) _
+    by-length (both (eqb slots slotsSize) (eqb out pduSize)) _
     (first-other _ _ (refuse-other _ _ refl)
     (first-other _ _ (of-other _ (read-other datagram)) (refuse-other _ _ refl)))
   where
@@ -135,9 +136,9 @@ unfolding refusing both choose
 or-wrong true right x bytes slots out so = so
 or-wrong false right x bytes slots out so = ap isOne (answer-alone WrongLength)
 
-pub kind-one : (sound : Bool) (bytes slots out : List ℕ) → OneSo (eqb (length out) 1472) (otherKind sound bytes slots out)
+pub kind-one : (sound : Bool) (bytes slots out : List ℕ) → OneSo (eqb (length out) pduSize) (otherKind sound bytes slots out)
 unfolding otherKind otherTimer choose
-kind-one sound bytes slots out = by-length (eqb (length out) 1472) sound
+kind-one sound bytes slots out = by-length (eqb (length out) pduSize) sound
   where
     by-length : (right sound : Bool) → isOne (answerIn (choose (not right) 1 (choose (not sound) 2 15))) ≡ not right
     by-length false sound = ap isOne (answer-alone WrongLength)

@@ -6,6 +6,7 @@ use mathlib.Core.Path.{_≡_, refl, ap, _∙_}
 use lib.Dec.{eqb, leb}
 use lib.ListN.{length}
 use Rattle.words.specs.Choice.{both}
+use Rattle.words.specs.Sizes.{pduSize, slotsSize, messageSize}
 use Rattle.answers.specs.declared.Ground.{Ground}
 use Rattle.answers.specs.declared.Ground.the-variants.{Pass, Refuse}
 use Rattle.calls.specs.declared.Call.{Call}
@@ -41,7 +42,7 @@ use Rattle.host_history.proofs.WrongGrounds.{isOne, one, Other, first-o
 
 -- The client's events.
 module _ (c : Client) where
-  start-one : (call : Call) (n : ℕ) → isOne (starting c call n .answer) ≡ not (leb n 44544)
+  start-one : (call : Call) (n : ℕ) → isOne (starting c call n .answer) ≡ not (leb n messageSize)
   unfolding starting clientOutcome startGround
   start-one call n =
       ap isOne (start-answers c (startGround c n) call n)
@@ -58,11 +59,11 @@ module _ (c : Client) where
       (first-other _ _ (refuse-other _ _ refl) (first-other _ _ (refuse-other _ _ refl) (refuse-other _ _ refl)))
 
   timer-one : (kind : TimerKind) (ticket : ℕ) (out : List ℕ)
-      → isOne (clientTiming c kind ticket out .outcome .answer) ≡ not (eqb (length out) 1472)
+      → isOne (clientTiming c kind ticket out .outcome .answer) ≡ not (eqb (length out) pduSize)
   unfolding clientTiming clientSending clientOutcome clientTimerGround lateGround ticketGround
   timer-one kind ticket out =
       ap isOne (client-timer-answers c (clientTimerGround c kind ticket (length out)) kind)
-      ∙ judged-first (eqb (length out) 1472) _
+      ∙ judged-first (eqb (length out) pduSize) _
       (first-other _ _ (refuse-other _ _ refl)
       (first-other _ _ (refuse-other _ _ refl) (first-other _ _ (refuse-other _ _ refl) (refuse-other _ _ refl))))
 
@@ -105,7 +106,7 @@ module _ (c : Client) where
 
   arrive-one : (datagram slots out : List ℕ)
       → isOne (clientArriving c datagram slots out .outcome .answer)
-      ≡ not (both (eqb (length slots) 44544) (eqb (length out) 1472))
+      ≡ not (both (eqb (length slots) slotsSize) (eqb (length out) pduSize))
   unfolding clientArriving clientActed clientSending clientOutcome clientPlan clientJudges clientPduGround
       clientTableGround clientRowGround numberGround fragmentGround fackCountGround ticketGround
   arrive-one datagram slots out =
@@ -123,8 +124,8 @@ pub client-one : (side : Side (List ℕ)) (call : ClientCall)
     → OneSo (both (sized (side .machine)) (clientSized side call)) (clientExport side call)
 unfolding clientStart startSized startable clientTransmit clientArrive clientTimer timedClient clientResult
 client-one side (ClientStart idempotent object interface version operation n message) =
-    or-wrong _ (leb n 44544) _ (side .machine) [] [] (read-one _ _ _ _ (start-one _ _ n))
-    ∙ ap not (both-joined (sized (side .machine)) _ (leb n 44544))
+    or-wrong _ (leb n messageSize) _ (side .machine) [] [] (read-one _ _ _ _ (start-one _ _ n))
+    ∙ ap not (both-joined (sized (side .machine)) _ (leb n messageSize))
 client-one side (ClientTransmit message out) =
     or-wrong _ (clientSized side (ClientTransmit message out)) _ (side .machine) [] out
     (read-one _ _ _ _ (transmit-one _ message out ∙ ap not (client-message (side .machine) message out)))
@@ -132,7 +133,7 @@ client-one side (ClientArrive p lent out) =
     or-wrong _ (clientSized side (ClientArrive p lent out)) _ (side .machine) _ out
     (read-one _ _ _ _ (arrive-one _ (p .bytes) _ out))
 client-one side (ClientTimer kind ticket out) =
-    let right = eqb (length out) 1472 in
+    let right = eqb (length out) pduSize in
     or-wrong _ (clientSized side (ClientTimer kind ticket out)) _ (side .machine) [] out
     (choice-keeps (OneSo right) (eqb kind 1) _ _ (read-one _ _ _ _ (timer-one _ Wait ticket out))
     (choice-keeps (OneSo right) (eqb kind 2) _ _ (read-one _ _ _ _ (timer-one _ Ack ticket out))

@@ -6,6 +6,7 @@ use mathlib.Core.Path.{_≡_, refl, ap, _∙_}
 use lib.Dec.{eqb, leb}
 use lib.ListN.{length}
 use Rattle.words.specs.Choice.{both}
+use Rattle.words.specs.Sizes.{pduSize, slotsSize, messageSize}
 use Rattle.answers.specs.declared.Ground.{Ground}
 use Rattle.answers.specs.declared.Ground.the-variants.{Pass, Refuse}
 use Rattle.incoming.specs.declared.Incoming.{Incoming}
@@ -48,7 +49,7 @@ use Rattle.host_history.proofs.WrongGrounds.{isOne, one, Other, first-o
 
 -- The server's.
 module _ (s : Server) where
-  reply-one : (n : ℕ) → isOne (replying s n .answer) ≡ not (leb n 44544)
+  reply-one : (n : ℕ) → isOne (replying s n .answer) ≡ not (leb n messageSize)
   unfolding replying serverOutcome replyGround
   reply-one n =
       planned (replyGround s n)
@@ -72,11 +73,11 @@ module _ (s : Server) where
       planned (Refuse a) = unfold serverTransmits refusedServer in refl
 
   fault-one : (status : ℕ) (out : List ℕ)
-      → isOne (faulting s status out .outcome .answer) ≡ not (eqb (length out) 1472)
+      → isOne (faulting s status out .outcome .answer) ≡ not (eqb (length out) pduSize)
   unfolding faulting serverSending serverOutcome faultGround ticketGround
   fault-one status out =
       planned (faultGround s (length out))
-      ∙ judged-first (eqb (length out) 1472) _
+      ∙ judged-first (eqb (length out) pduSize) _
       (first-other _ _ (refuse-other _ _ refl) (first-other _ _ (refuse-other _ _ refl) (refuse-other _ _ refl)))
     where
       planned : (g : Ground) → isOne (faultPlan g s status .answer) ≡ one g
@@ -100,11 +101,11 @@ module _ (s : Server) where
   timed-one (Held reply) = held-one reply
 
   resend-one : (ticket : ℕ) (out : List ℕ)
-      → isOne (serverTiming s ticket out .outcome .answer) ≡ not (eqb (length out) 1472)
+      → isOne (serverTiming s ticket out .outcome .answer) ≡ not (eqb (length out) pduSize)
   unfolding serverTiming serverSending serverOutcome serverTimerGround lateGround ticketGround
   resend-one ticket out =
       planned (serverTimerGround s ticket (length out))
-      ∙ judged-first (eqb (length out) 1472) _
+      ∙ judged-first (eqb (length out) pduSize) _
       (first-other _ _ (refuse-other _ _ refl)
       (first-other _ _ (refuse-other _ _ refl) (first-other _ _ (refuse-other _ _ refl) (refuse-other _ _ refl))))
     where
@@ -204,7 +205,7 @@ module _ (s : Server) where
 
   taken-one : (datagram slots out : List ℕ)
       → isOne (serverArriving s datagram slots out .outcome .answer)
-      ≡ not (both (eqb (length slots) 44544) (eqb (length out) 1472))
+      ≡ not (both (eqb (length slots) slotsSize) (eqb (length out) pduSize))
   unfolding serverArriving serverActed serverSending serverOutcome serverPlan serverJudges serverPduGround
       serverTableGround requestGround fragmentGround fackCountGround
   taken-one datagram slots out =
@@ -229,7 +230,7 @@ server-one side (ServerTransmit message out) =
     (read-one _ _ _ _ (sent-one _ message out ∙ ap not (server-message (side .machine) message out)))
 server-one side (ServerTimer kind ticket out) =
     or-wrong _ (serverSized side (ServerTimer kind ticket out)) _ (side .machine) [] out
-    (choice-keeps (OneSo (eqb (length out) 1472)) (eqb kind 3) _ _ (read-one _ _ _ _ (resend-one _ ticket out))
+    (choice-keeps (OneSo (eqb (length out) pduSize)) (eqb kind 3) _ _ (read-one _ _ _ _ (resend-one _ ticket out))
     (kind-one _ (side .machine) [] out))
 server-one side (ServerReply n message) =
     or-wrong _ (serverSized side (ServerReply n message)) _ (side .machine) [] [] (read-one _ _ _ _ (reply-one _ n))

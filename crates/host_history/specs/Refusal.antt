@@ -8,6 +8,7 @@ use lib.Dec.{eqb, leb}
 use lib.ListN.{length, getD}
 use Rattle.words.specs.Choice.{both, either}
 use Rattle.words.specs.Number.{number}
+use Rattle.words.specs.Sizes.{pduSize, slotsSize, messageSize}
 use Rattle.answers.specs.declared.Answer.the-variants.{Done}
 use Rattle.answers.specs.Number.{numberOf}
 use Rattle.calls.specs.declared.Notice.the-variants.{Nothing as Untold}
@@ -85,27 +86,27 @@ readableAt h (ToServer call) = serverReadable (h .server .machine)
 -- record says at 24.
 abbrev pub messageSized : ℕ → List ℕ → List ℕ → Bool
 messageSized sending bytes message =
-    both (leb (length message) 44544)
+    both (leb (length message) messageSize)
     (either (not (eqb (getD bytes 0 0) sending)) (eqb (length message) (number 4 true bytes 24)))
 
 -- What 1 judges beside the record's length is as it should be: a PDU buffer has 1,472 bytes, a slot buffer 44,544, a
 -- message at most 44,544, and a start's other arguments are an event's. The client sends in state 1, SEND_FRAGS,
 abbrev pub clientSized : Side (List ℕ) → ClientCall → Bool
 clientSized c (ClientStart idempotent object interface version operation n message) =
-    both (startable idempotent object interface) (leb n 44544)
-clientSized c (ClientTransmit message out) = both (eqb (length out) 1472) (messageSized 1 (c .machine) message)
+    both (startable idempotent object interface) (leb n messageSize)
+clientSized c (ClientTransmit message out) = both (eqb (length out) pduSize) (messageSized 1 (c .machine) message)
 clientSized c (ClientArrive p lent out) =
-    both (eqb (length (bytesLent lent (c .slots))) 44544) (eqb (length out) 1472)
-clientSized c (ClientTimer kind ticket out) = eqb (length out) 1472
+    both (eqb (length (bytesLent lent (c .slots))) slotsSize) (eqb (length out) pduSize)
+clientSized c (ClientTimer kind ticket out) = eqb (length out) pduSize
 
 -- the server in state 5, REPLYING.
 abbrev pub serverSized : Side (List ℕ) → ServerCall → Bool
 serverSized s (ServerArrive p lent out) =
-    both (eqb (length (bytesLent lent (s .slots))) 44544) (eqb (length out) 1472)
-serverSized s (ServerTransmit message out) = both (eqb (length out) 1472) (messageSized 5 (s .machine) message)
-serverSized s (ServerTimer kind ticket out) = eqb (length out) 1472
-serverSized s (ServerReply n message) = leb n 44544
-serverSized s (ServerFault status out) = eqb (length out) 1472
+    both (eqb (length (bytesLent lent (s .slots))) slotsSize) (eqb (length out) pduSize)
+serverSized s (ServerTransmit message out) = both (eqb (length out) pduSize) (messageSized 5 (s .machine) message)
+serverSized s (ServerTimer kind ticket out) = eqb (length out) pduSize
+serverSized s (ServerReply n message) = leb n messageSize
+serverSized s (ServerFault status out) = eqb (length out) pduSize
 
 -- 1 has nothing to refuse: the record has 272 bytes, and the rest is as it should be.
 abbrev pub sizedAt : HostWorld → HostCall → Bool

@@ -5,6 +5,7 @@ use mathlib.Core.List.{List, [], _∷_}
 use mathlib.Core.Path.{_≡_, refl}
 use native.Mathlib.Omega.{arith}
 use lib.ListN.{length, replicate, length-replicate}
+use Rattle.words.specs.Sizes.{bodySize, pduSize, slotsSize}
 use Rattle.record_bytes.specs.Fits.{Octets}
 use Rattle.record_bytes.proofs.ByteLaws.{octets-three}
 use Rattle.host_history.specs.HostDemand.{HostDemand}
@@ -20,7 +21,7 @@ use Rattle.host_runs.proofs.AtTheDoor.{host-ran, begins, begins-there}
 -- of the whole request, is told complete once, and reads the whole reply.
 pub host-lossy : (message reply clientMemory serverMemory clientSlots serverSlots out : List ℕ)
     → length message ≡ 2785 → length reply ≡ 2786 → length clientMemory ≡ 272 → length serverMemory ≡ 272
-    → length clientSlots ≡ 44544 → length serverSlots ≡ 44544 → length out ≡ 1472
+    → length clientSlots ≡ slotsSize → length serverSlots ≡ slotsSize → length out ≡ pduSize
     → Octets message → Octets reply → Octets out
     → HostRan (beginning clientMemory serverMemory clientSlots serverSlots)
     (callsFor (eventsOf (lossy message reply out))) (numbersOf (lossy message reply out))
@@ -46,28 +47,28 @@ zeros-octets n = octets-same n 0 (omega arith)
 message-octets : Octets exampleMessage
 unfolding exampleMessage
 message-octets =
-    octets-three (replicate 1392 10) (replicate 1392 20) (30 ∷ []) (octets-same 1392 10 (omega arith))
-    (octets-same 1392 20 (omega arith)) (omega arith)
+    octets-three (replicate bodySize 10) (replicate bodySize 20) (30 ∷ []) (octets-same bodySize 10 (omega arith))
+    (octets-same bodySize 20 (omega arith)) (omega arith)
 
 reply-octets : Octets exampleReply
 unfolding exampleReply
 reply-octets =
-    octets-three (replicate 1392 40) (replicate 1392 50) (60 ∷ 70 ∷ []) (octets-same 1392 40 (omega arith))
-    (octets-same 1392 50 (omega arith)) (omega arith)
+    octets-three (replicate bodySize 40) (replicate bodySize 50) (60 ∷ 70 ∷ []) (octets-same bodySize 40 (omega arith))
+    (octets-same bodySize 50 (omega arith)) (omega arith)
 
 pub host-example :
-    HostRan (beginning (zeros 272) (zeros 272) (zeros 44544) (zeros 44544))
-    (callsFor (eventsOf (lossy exampleMessage exampleReply (zeros 1472))))
-    (numbersOf (lossy exampleMessage exampleReply (zeros 1472)))
+    HostRan (beginning (zeros 272) (zeros 272) (zeros slotsSize) (zeros slotsSize))
+    (callsFor (eventsOf (lossy exampleMessage exampleReply (zeros pduSize))))
+    (numbersOf (lossy exampleMessage exampleReply (zeros pduSize)))
     (record { ordinal = 0; number = 0; call = called; bytes = exampleMessage } ∷ [])
     (record { ordinal = 0; bytes = exampleReply } ∷ []) exampleReply
 host-example =
-    host-lossy exampleMessage exampleReply (zeros 272) (zeros 272) (zeros 44544) (zeros 44544) (zeros 1472)
-    (unfold exampleMessage in refl) (unfold exampleReply in refl) (zeros-long 272) (zeros-long 272) (zeros-long 44544)
-    (zeros-long 44544) (zeros-long 1472) message-octets reply-octets (zeros-octets 1472)
+    host-lossy exampleMessage exampleReply (zeros 272) (zeros 272) (zeros slotsSize) (zeros slotsSize) (zeros pduSize)
+    (unfold exampleMessage in refl) (unfold exampleReply in refl) (zeros-long 272) (zeros-long 272) (zeros-long slotsSize)
+    (zeros-long slotsSize) (zeros-long pduSize) message-octets reply-octets (zeros-octets pduSize)
 
 -- Of that host demand 3 holds.
 pub example-demanded :
-    HostDemand (beginning (zeros 272) (zeros 272) (zeros 44544) (zeros 44544))
-    (callsFor (eventsOf (lossy exampleMessage exampleReply (zeros 1472))))
+    HostDemand (beginning (zeros 272) (zeros 272) (zeros slotsSize) (zeros slotsSize))
+    (callsFor (eventsOf (lossy exampleMessage exampleReply (zeros pduSize))))
 example-demanded = host-demand _ (host-example .fresh) _ (host-example .small) (host-example .fair)

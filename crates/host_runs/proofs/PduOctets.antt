@@ -4,6 +4,7 @@ use mathlib.Core.List.{List, [], _∷_, _++_}
 use native.Mathlib.Omega.{arith}
 use lib.ListN.{length, take, drop, replicate}
 use Rattle.words.specs.Number.{digits}
+use Rattle.words.specs.Sizes.{bodySize}
 use Rattle.pdu.specs.Header.{frontBytes, numberBytes, hintBytes, backBytes, headerBytes, datagram}
 use Rattle.calls.specs.declared.Call.{Call}
 use Rattle.calls.specs.Sent.{sentHeader}
@@ -24,7 +25,7 @@ octets-same (suc n) b small = (small, octets-same n b small)
 -- A fragment of a message of bytes.
 pub fragment-octets : (message : List ℕ) (f : ℕ) → Octets message → Octets (fragmentOf message f)
 unfolding fragmentOf
-fragment-octets message f octets = octets-take 1392 (drop (1392 * f) message) (octets-drop (1392 * f) message octets)
+fragment-octets message f octets = octets-take bodySize (drop (bodySize * f) message) (octets-drop (bodySize * f) message octets)
 
 -- A PDU as a side sends it.
 pub pdu-octets : (kind flags1 serial : ℕ) (activity : List ℕ) (boot number : ℕ) (call : Call) (fragment : ℕ)

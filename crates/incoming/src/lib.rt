@@ -1,4 +1,7 @@
 // The message received: which fragments are held, how long each is, and which is known to be the last.
+use words::BODY_SIZE;
+use words::LAST_NUMBER;
+use words::WINDOW_SIZE;
 ghost use mathlib.Core.Path.{_≡_};
 ghost use Rattle.incoming.specs.Slots.{within, slotSound, soundFrom, lastSound, sound, contiguousFrom, contiguous, allTo, complete, cleared, slotsWith, lastWith, stored};
 
@@ -15,7 +18,7 @@ pub enum Last {
 }
 
 pub struct Incoming {
-    pub slots: [Slot; 32],
+    pub slots: [Slot; WINDOW_SIZE as usize],
     pub last: Last,
 }
 
@@ -35,7 +38,7 @@ fn slot_is_sound(last: Last, i: u16, is_held: bool, length: u16) -> bool
 {
     let allowed = is_within(last, i);
     if is_held {
-        if length <= 1392 {
+        if length as usize <= BODY_SIZE {
             return allowed;
         }
         return false;
@@ -48,16 +51,16 @@ fn last_is_sound(last: Last) -> bool
 {
     match last {
         Last::Unknown => true,
-        Last::At(number) => number <= 31,
+        Last::At(number) => number <= LAST_NUMBER,
     }
 }
 
 // Whether every slot keeps the rules.
-fn slots_are_sound(slots: [Slot; 32], last: Last) -> bool
+fn slots_are_sound(slots: [Slot; WINDOW_SIZE as usize], last: Last) -> bool
     ensures { λ r. ⌜ r ≡ soundFrom last 0 slots ⌝ }
 {
     let mut i: u16 = 0;
-    while i < 32 {
+    while i < WINDOW_SIZE {
         let at = i as usize;
         let slot = slots[at];
         if !slot_is_sound(last, i, slot.held, slot.length) {
@@ -78,11 +81,11 @@ pub fn is_sound(m: Incoming) -> bool
 }
 
 // How many slots from the first on are held without a gap.
-fn count_held(slots: [Slot; 32]) -> u16
+fn count_held(slots: [Slot; WINDOW_SIZE as usize]) -> u16
     ensures { λ r. ⌜ r ≡ contiguousFrom slots ⌝ }
 {
     let mut i: u16 = 0;
-    while i < 32 {
+    while i < WINDOW_SIZE {
         let at = i as usize;
         let slot = slots[at];
         if !slot.held {
@@ -90,7 +93,7 @@ fn count_held(slots: [Slot; 32]) -> u16
         }
         i += 1;
     }
-    32
+    WINDOW_SIZE
 }
 
 // The contiguous count.
@@ -127,17 +130,17 @@ pub fn empty() -> Incoming
         slots: [Slot {
             held: false,
             length: 0,
-        }; 32],
+        }; WINDOW_SIZE as usize],
         last: Last::Unknown,
     }
 }
 
-// The slots with fragment f held; a number above 31 has no slot.
-fn slots_with(slots: [Slot; 32], f: u16, length: u16) -> [Slot; 32]
+// The slots with fragment f held; a number beyond the window has no slot.
+fn slots_with(slots: [Slot; WINDOW_SIZE as usize], f: u16, length: u16) -> [Slot; WINDOW_SIZE as usize]
     ensures { λ r. ⌜ r ≡ slotsWith slots f length ⌝ }
 {
     let mut after = slots;
-    if f < 32 {
+    if f < WINDOW_SIZE {
         let at = f as usize;
         after[at] = Slot { held: true, length };
         return after;

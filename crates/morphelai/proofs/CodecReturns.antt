@@ -10,6 +10,7 @@ use borrow.Author.Tests.{eq-eqb, ne-eqb}
 use Rattle.words.specs.Choice.{choose}
 use Rattle.words.specs.Number.{digits}
 use Rattle.words.specs.Place.{placed}
+use Rattle.words.specs.Sizes.{headerSize}
 use Rattle.words.proofs.Tests.{choose-true, choose-false}
 use Rattle.answers.specs.Number.{numberOf}
 use Rattle.pdu.specs.declared.Header.{Header}
@@ -42,19 +43,19 @@ header-low h n =
     ((digits 2 (h .operation) ++ (digits 2 (h .ihint) ++ (digits 2 (h .ahint) ++ digits-low n i))) ++
     backBytes (h .fragment) (h .authentication) (h .serial))))
 
-refused : (c : Codec) (s out : List ℕ) → (length s ≡ 80 → ⊥) → Coded (choose (eqb (length s) 80) c (refusingCodec out)) 1 out
+refused : (c : Codec) (s out : List ℕ) → (length s ≡ headerSize → ⊥) → Coded (choose (eqb (length s) headerSize) c (refusingCodec out)) 1 out
 unfolding refusingCodec
 refused c s out h =
-    subst (λ (d : Codec). Coded d 1 out) (sym (choose-false _ c (refusingCodec out) (ne-eqb (length s) 80 h))) (record { result = refl; buffer = refl })
+    subst (λ (d : Codec). Coded d 1 out) (sym (choose-false _ c (refusingCodec out) (ne-eqb (length s) headerSize h))) (record { result = refl; buffer = refl })
 
-passed : (c : Codec) (s out after : List ℕ) (r : ℕ) → length s ≡ 80 → Coded c r after → Coded (choose (eqb (length s) 80) c (refusingCodec out)) r after
-passed c s out after r h x = subst (λ (d : Codec). Coded d r after) (sym (choose-true _ c (refusingCodec out) (eq-eqb (length s) 80 h))) x
+passed : (c : Codec) (s out after : List ℕ) (r : ℕ) → length s ≡ headerSize → Coded c r after → Coded (choose (eqb (length s) headerSize) c (refusingCodec out)) r after
+passed c s out after r h x = subst (λ (d : Codec). Coded d r after) (sym (choose-true _ c (refusingCodec out) (eq-eqb (length s) headerSize h))) x
 
-pub read-refused : (datagram out : List ℕ) → (length out ≡ 80 → ⊥) → Coded (codecRead datagram out) 1 out
+pub read-refused : (datagram out : List ℕ) → (length out ≡ headerSize → ⊥) → Coded (codecRead datagram out) 1 out
 unfolding codecRead
 read-refused datagram out h = refused _ out out h
 
-module _ (datagram out : List ℕ) (h : length out ≡ 80) (r : Reading) (e : r ≡ reading datagram) (number : ℕ) (k : number ≡ numberOf (r .answer)) where
+module _ (datagram out : List ℕ) (h : length out ≡ headerSize) (r : Reading) (e : r ≡ reading datagram) (number : ℕ) (k : number ≡ numberOf (r .answer)) where
   answered : number ≡ numberOf (reading datagram .answer)
   answered = k ∙ ap (λ (x : Reading). numberOf (x .answer)) e
 
@@ -80,11 +81,11 @@ module _ (datagram out : List ℕ) (h : length out ≡ 80) (r : Reading) (e : r 
       passed _ out out out number h
       (record { result = answered; buffer = sym (choose-false _ _ _ (ne-eqb _ 0 (λ q. z (answered ∙ q)))) })
 
-pub write-refused : (header body out : List ℕ) → (length header ≡ 80 → ⊥) → Coded (codecWrite header body out) 1 out
+pub write-refused : (header body out : List ℕ) → (length header ≡ headerSize → ⊥) → Coded (codecWrite header body out) 1 out
 unfolding codecWrite
 write-refused header body out h = refused _ header out h
 
-pub write-left : (header body out after : List ℕ) (h : Header) (w : Written) (r : ℕ) → length header ≡ 80 → h ≡ fieldsOf true header
+pub write-left : (header body out after : List ℕ) (h : Header) (w : Written) (r : ℕ) → length header ≡ headerSize → h ≡ fieldsOf true header
     → Wrote (writing h body out) w after → r ≡ writtenResult w → Coded (codecWrite header body out) r after
 unfolding codecWrite codecWritten
 write-left header body out after h w r l f x p =

@@ -4,6 +4,7 @@ use mathlib.Core.List.{List}
 use mathlib.Core.Path.{_≡_, refl, ap}
 use native.Mathlib.Omega.{arith}
 use lib.ListN.{length}
+use Rattle.words.specs.Sizes.{bodySize, pduSize}
 use Rattle.answers.specs.declared.Ground.{Ground}
 use Rattle.answers.specs.declared.Ground.the-variants.{Pass, Refuse}
 use Rattle.answers.specs.Number.{answerOf}
@@ -12,13 +13,13 @@ use Rattle.writer.specs.Writing.{writeGround, writeBy, writing}
 use Rattle.writer.proofs.Returns.{writable}
 
 -- The writer gives 0, or 80 and a body of at most 1,392.
-short-by : (g : Ground) (h : Header) (body out : List ℕ) → (g ≡ Pass → length body ≤ 1392)
-    → writeBy g h body out .result .length ≤ 1472
+short-by : (g : Ground) (h : Header) (body out : List ℕ) → (g ≡ Pass → length body ≤ bodySize)
+    → writeBy g h body out .result .length ≤ pduSize
 unfolding writeBy
 short-by Pass h body out short = omega (arith, short refl)
 short-by (Refuse a) h body out short = omega arith
 
-pub written-short : (h : Header) (body out : List ℕ) → writing h body out .result .length ≤ 1472
+pub written-short : (h : Header) (body out : List ℕ) → writing h body out .result .length ≤ pduSize
 unfolding writing
 written-short h body out =
     let g = writeGround (length out) (h .kind) (h .authentication) (length body) in

@@ -7,6 +7,7 @@ use lib.ListN.{length}
 use lib.Dec.{eqb}
 use Rattle.words.specs.Choice.{choose}
 use Rattle.words.specs.Place.{placed}
+use Rattle.words.specs.Sizes.{headerSize}
 use Rattle.answers.specs.Number.{numberOf}
 use Rattle.pdu.specs.Header.{headerBytes, headerOf, bodyOf}
 use Rattle.reader.specs.declared.Reading.{Reading}
@@ -42,7 +43,7 @@ headerOut r length out =
 -- morphelai_read.
 unfoldable pub codecRead : List ℕ → List ℕ → Codec
 codecRead datagram out =
-    choose (eqb (length out) 80)
+    choose (eqb (length out) headerSize)
     (record {
       result = numberOf (reading datagram .answer);
       out = headerOut (reading datagram) (length (bodyOf datagram)) out;
@@ -59,4 +60,4 @@ codecWritten w = record { result = writtenResult (w .result); out = w .out }
 -- morphelai_write: the header's fields as they stand in its little-endian form.
 unfoldable pub codecWrite : List ℕ → List ℕ → List ℕ → Codec
 codecWrite header body out =
-    choose (eqb (length header) 80) (codecWritten (writing (headerOf true header) body out)) (refusingCodec out)
+    choose (eqb (length header) headerSize) (codecWritten (writing (headerOf true header) body out)) (refusingCodec out)

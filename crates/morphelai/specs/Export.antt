@@ -8,6 +8,7 @@ use lib.ListN.{length}
 use lib.Dec.{eqb}
 use Rattle.words.specs.Choice.{choose}
 use Rattle.words.specs.Place.{placed}
+use Rattle.words.specs.Sizes.{pduSize}
 use Rattle.answers.specs.declared.Answer.{Answer}
 use Rattle.answers.specs.Number.{numberOf}
 
@@ -38,7 +39,7 @@ keptBytes answer next bytes = choose (eqb (numberOf answer) 0) (placed 0 next by
 
 -- What a timer answers whose kind the side does not have, by the size of the PDU buffer: 1 and 2 first, then 15.
 unfoldable pub otherTimer : Bool → ℕ → ℕ
-otherTimer sound size = choose (not (eqb size 1472)) 1 (choose (not sound) 2 15)
+otherTimer sound size = choose (not (eqb size pduSize)) 1 (choose (not sound) 2 15)
 
 unfoldable pub otherKind : Bool → List ℕ → List ℕ → List ℕ → Export
 otherKind sound bytes slots out =

@@ -2,7 +2,7 @@
 use answers::Answer;
 use calls::Notice;
 use calls::Sent;
-use pdu::PDU_SIZE;
+use words::PDU_SIZE;
 ghost use mathlib.Core.Path.{_≡_};
 ghost use Rattle.morphelai.specs.Result.{noticeKind, noticeValue, sentLength, packed, resultOf};
 ghost use Rattle.morphelai.specs.Export.{otherTimer};

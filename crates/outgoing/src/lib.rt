@@ -1,13 +1,12 @@
 // The message being sent: its cut into fragments, how far it is sent and acknowledged, and the sender's serial.
 use flags::FRAGMENT;
 use flags::LAST_FRAGMENT;
+use words::BODY_SIZE;
+use words::MESSAGE_SIZE;
 ghost use mathlib.Core.Path.{_≡_};
 ghost use Prim.Native.Nat.{max};
 ghost use Rattle.outgoing.specs.Message.{fragments, fragmentOf, flagsOf};
 ghost use Rattle.outgoing.specs.Sending.{nextSerial, oneMore, inByte, afterSend, sendsLast, afterPing, acknowledgedTo, firstToSend, rewound, messageOf, started, replied, noMessage, bounded, hasMessage, hasNothing};
-
-// A message has at most as many bytes: 32 fragments of 1,392.
-pub const MESSAGE_SIZE: u32 = 44544;
 
 // Length and fragment count of the message; sent is the next fragment to send, so also how many are sent.
 pub struct Outgoing {
@@ -25,22 +24,22 @@ pub fn fragments(length: u32) -> u32
     if length == 0 {
         return 1;
     }
-    (length - 1) / 1392 + 1
+    (length - 1) / (BODY_SIZE as u32) + 1
 }
 
 // The part of a message that is its fragment f; an empty part where there is none.
 pub fn fragment(message: &[u8], f: u16) -> &[u8]
     ensures { λ r. ⌜ now r ≡ fragmentOf (now (message .entry)) f ⌝ }
 {
-    let from = 1392 * (f as usize);
+    let from = BODY_SIZE * (f as usize);
     let size = message.len();
     if size <= from {
         return &message[0..0];
     }
-    if size - from < 1392 {
+    if size - from < BODY_SIZE {
         return &message[from..size];
     }
-    let to = from + 1392;
+    let to = from + BODY_SIZE;
     &message[from..to]
 }
 

@@ -1,16 +1,11 @@
 // The connectionless PDU: its header, and the header's fields as they stand in a datagram.
+use words::HEADER_SIZE;
 ghost use mathlib.Core.Path.{_≡_};
 ghost use mathlib.Core.Bool.{true, false};
 ghost use Prim.Native.Nat.{_+_, _≤_};
 ghost use lib.ListN.{length};
+ghost use Rattle.words.specs.Sizes.{headerSize};
 ghost use Rattle.pdu.specs.Header.{uuidAt, headerOf, blank, fieldsOf};
-
-// A PDU of 1,472 bytes at most: 80 of header and a body of up to 1,392.
-pub const HEADER_SIZE: usize = 80;
-
-pub const BODY_SIZE: usize = 1392;
-
-pub const PDU_SIZE: usize = 1472;
 
 // The header, but for version, representation and body length, which the writer sets itself. UUIDs are in the
 // little-endian form.
@@ -96,7 +91,7 @@ fn uuid(s: &[u8], at: usize, little: bool) -> [u8; 16]
 
 // The header's fields, in the sender's order.
 fn header_of(s: &[u8], little: bool) -> Header
-    requires { ⌜ 80 ≤ length (now s) ⌝ }
+    requires { ⌜ headerSize ≤ length (now s) ⌝ }
     ensures { λ r. ⌜ r ≡ headerOf little (now (s .entry)) ⌝ }
 {
     Header {

@@ -1,9 +1,9 @@
 // The reader: any datagram, of any length.
 use answers::Answer;
 use answers::Ground;
-use pdu::BODY_SIZE;
-use pdu::HEADER_SIZE;
 use pdu::Header;
+use words::BODY_SIZE;
+use words::HEADER_SIZE;
 ghost use mathlib.Core.Path.{_≡_};
 ghost use Rattle.pdu.specs.Header.{bodyOf};
 ghost use Rattle.reader.specs.Reading.{represents, readGround, orderIs, groundBy, reading};

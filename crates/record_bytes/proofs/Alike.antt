@@ -12,6 +12,7 @@ use borrow.Author.Tests.{eqb-true, ltb-true, ltb-false}
 use Rattle.words.specs.Choice.{choose, both}
 use Rattle.words.specs.Number.{le, part, number}
 use Rattle.words.specs.Place.{putAt, placed}
+use Rattle.words.specs.Sizes.{windowSize}
 use Rattle.words.proofs.Place.{placed-fits, length-putAt}
 use Rattle.record_bytes.specs.declared.Fields.{Fields}
 use Rattle.record_bytes.specs.Canonical.{SharedUnjudged, SameButAt}
@@ -297,7 +298,7 @@ module _ {Machine : Type 0} (isReadable : List ℕ → Bool) (recordIn : List �
           shared b i (inl (unarmed, low, omega (arith, high, width))))
 
       -- Any 2 bytes as the length of a slot that is not held.
-      pub slot-length-any : (f : ℕ) (two : List ℕ) → f < 32 → length two ≡ 2 → getD b (4 * f + 146) 0 ≡ 0
+      pub slot-length-any : (f : ℕ) (two : List ℕ) → f < windowSize → length two ≡ 2 → getD b (4 * f + 146) 0 ≡ 0
           → (isReadable (placed (4 * f + 144) two b) ≡ isReadable b)
           × (recordIn (placed (4 * f + 144) two b) ≡ recordIn b)
       slot-length-any f two below width missing =

@@ -12,7 +12,7 @@ use Rattle.words.proofs.Number.{digits-part, part-take, length-part}
 use Rattle.words.proofs.Tests.{both-true}
 use Rattle.record_bytes.specs.Fits.{Octets, Uuid, FitsFields}
 use Rattle.record_bytes.specs.Canonical.{TicketClear, LengthsClear}
-use Rattle.record_bytes.specs.Parts.{markOf, timerWhere, isArmed, timerTicket, lastNumber, lastOf, uuidIn}
+use Rattle.record_bytes.specs.Parts.{markOf, timerWhere, isArmed, timerTicket, lastField, lastOf, uuidIn}
 use Rattle.record_bytes.specs.Held.{slotsBytes, slotsBelow, slotsIn, slotsReadable}
 use Rattle.record_bytes.specs.Layout.{lastReadable, marksReadable, countsReadable, sparesReadable, readable}
 use Rattle.record_bytes.specs.Layout.{callIn, outgoingIn, incomingIn, fieldsIn}
@@ -107,12 +107,12 @@ module _ (b : List ℕ) (size : length b ≡ 272) (octets : Octets b) (allowed :
 
   front-again
       : frontBytes (getD b 0 0) (markOf (eqb (getD b 1 0) 1)) (getD b 2 0) (getD b 3 0) (outgoingIn b)
-      (lastNumber (lastOf (number 2 true b 10))) (number 2 true b 14)
+      (lastField (lastOf (number 2 true b 10))) (number 2 true b 14)
       ≡ part 16 b 0
   unfolding outgoingIn
   front-again =
       let r = known b allowed in
-      let last : digits 2 (lastNumber (lastOf (number 2 true b 10))) ≡ part 2 b 10 =
+      let last : digits 2 (lastField (lastOf (number 2 true b 10))) ≡ part 2 b 10 =
       ap (digits 2) (last-again (number 2 true b 10)) ∙ digits-at 2 10 in
       λ i.
       getD b 0 0

@@ -12,7 +12,7 @@ use Rattle.words.proofs.Tests.{both-hold}
 use Rattle.record_bytes.specs.declared.Fields.{Fields}
 use Rattle.record_bytes.specs.Fits.{Octets, FitsFields}
 use Rattle.record_bytes.specs.Canonical.{TicketClear, LengthsClear}
-use Rattle.record_bytes.specs.Parts.{markOf, isArmed, timerTicket, lastNumber, clear}
+use Rattle.record_bytes.specs.Parts.{markOf, isArmed, timerTicket, lastField, clear}
 use Rattle.record_bytes.specs.Held.{slotsBytes}
 use Rattle.record_bytes.specs.Layout.{marksReadable, countsReadable, sparesReadable, readable}
 use Rattle.record_bytes.specs.Layout.{callIn, outgoingIn, incomingIn, fieldsIn}
@@ -52,7 +52,7 @@ spelled f = record {
 abbrev frontOf : Fields → List ℕ
 frontOf f =
     frontBytes (f .state) (markOf (f .call .idempotent)) (f .count) (f .extra) (f .outgoing)
-    (lastNumber (f .incoming .last)) (f .call .operation)
+    (lastField (f .incoming .last)) (f .call .operation)
 
 abbrev countsOf : Fields → List ℕ
 countsOf f = drop 4 (frontOf f)
@@ -147,7 +147,7 @@ module _ (f : Fields) (fits : FitsFields f) where
   octets-counts =
       let o = fits .outgoing in
       let shorts =
-      octets-three (digits 2 (lastNumber (f .incoming .last))) (digits 2 (f .outgoing .serial))
+      octets-three (digits 2 (lastField (f .incoming .last))) (digits 2 (f .outgoing .serial))
       (digits 2 (f .call .operation)) (octets-digits 2 _) (octets-digits 2 _) (octets-digits 2 _) in
       (o .count, (omega arith, (o .sent, (omega arith, (o .acknowledged, (omega arith, shorts))))))
 

@@ -8,6 +8,7 @@ use lib.Dec.{ltb, eqb}
 use lib.ListN.{length, replicate, set, length-set}
 use borrow.Author.Tests.{ltb-true, eqb-false}
 use Rattle.words.specs.Choice.{choose}
+use Rattle.words.specs.Sizes.{windowSize}
 use Rattle.calls.specs.Sent.{blankCall}
 use Rattle.incoming.specs.declared.Slot.{Slot}
 use Rattle.incoming.specs.declared.Incoming.{Incoming}
@@ -126,7 +127,7 @@ no-message-fits = record {
 -- The message received: nothing held,
 pub cleared-fits : FitsIncoming cleared
 unfolding cleared
-cleared-fits = record { size = refl; slots = none 32; last = tt }
+cleared-fits = record { size = refl; slots = none windowSize; last = tt }
   where
     none : (n : ℕ) → FitsSlots (replicate n (record { held = false; length = 0 }))
     none zero = tt

@@ -16,7 +16,7 @@ use Rattle.incoming.specs.declared.Last.the-variants.{Unknown, At}
 use Rattle.timers.specs.declared.Timer.{Timer}
 use Rattle.timers.specs.declared.Timer.the-variants.{Off, Armed}
 use Rattle.record_bytes.specs.Fits.{FitsLast, FitsTimer}
-use Rattle.record_bytes.specs.Parts.{markOf, timerWhere, isArmed, timerTicket, lastNumber, lastOf, uuidIn}
+use Rattle.record_bytes.specs.Parts.{markOf, timerWhere, isArmed, timerTicket, lastField, lastOf, uuidIn}
 use Rattle.record_bytes.specs.Layout.{lastReadable}
 use Rattle.record_bytes.proofs.HeldLaws.{placed-all}
 
@@ -67,26 +67,26 @@ ticket-clear Off e = refl
 ticket-clear (Armed ticket) e = absurd (omega (arith, e))
 
 -- The known last.
-last-small : (l : Last) → FitsLast l → lastNumber l < 65536
+last-small : (l : Last) → FitsLast l → lastField l < 65536
 last-small Unknown fits = omega arith
 last-small (At n) fits = omega (arith, fits)
 
-last-same : (l : Last) → FitsLast l → lastOf (lastNumber l) ≡ l
+last-same : (l : Last) → FitsLast l → lastOf (lastField l) ≡ l
 unfolding lastOf choose
 last-same Unknown fits = refl
 last-same (At n) fits =
     ap (λ (t : Bool). choose t Unknown (At n)) (ne-eqb n 65535 (λ (e : n ≡ 65535). omega (arith, fits, e)))
 
-pub last-back : (l : Last) → FitsLast l → lastOf (number 2 true (digits 2 (lastNumber l)) 0) ≡ l
-last-back l fits = ap lastOf (number-back 2 (lastNumber l) (last-small l fits)) ∙ last-same l fits
+pub last-back : (l : Last) → FitsLast l → lastOf (number 2 true (digits 2 (lastField l)) 0) ≡ l
+last-back l fits = ap lastOf (number-back 2 (lastField l) (last-small l fits)) ∙ last-same l fits
 
-last-allowed : (l : Last) → FitsLast l → lastReadable (lastNumber l) ≡ true
+last-allowed : (l : Last) → FitsLast l → lastReadable (lastField l) ≡ true
 unfolding lastReadable either choose
 last-allowed Unknown fits = refl
 last-allowed (At n) fits = ap (λ (t : Bool). choose t true (eqb n 65535)) (lt-ltb n 256 fits)
 
-pub last-readable : (l : Last) → FitsLast l → lastReadable (number 2 true (digits 2 (lastNumber l)) 0) ≡ true
-last-readable l fits = ap lastReadable (number-back 2 (lastNumber l) (last-small l fits)) ∙ last-allowed l fits
+pub last-readable : (l : Last) → FitsLast l → lastReadable (number 2 true (digits 2 (lastField l)) 0) ≡ true
+last-readable l fits = ap lastReadable (number-back 2 (lastField l) (last-small l fits)) ∙ last-allowed l fits
 
 -- A UUID within bytes is its sixteen bytes.
 pub uuid-part : (s : List ℕ) (at : ℕ) → at + 16 ≤ length s → uuidIn s at ≡ part 16 s at

@@ -10,11 +10,12 @@ use lib.Seq.{getD-drop}
 use borrow.Author.Tests.{ltb-true, leb-true, eqb-true, eqb-false}
 use Rattle.words.specs.Choice.{choose, both, either}
 use Rattle.words.specs.Number.{part, number}
+use Rattle.words.specs.Sizes.{retryLimit}
 use Rattle.words.proofs.Tests.{both-true, choose-true}
 use Rattle.incoming.specs.declared.Last.the-variants.{Unknown, At}
 use Rattle.record_bytes.specs.Fits.{FitsLast, FitsTimer}
 use Rattle.record_bytes.specs.Canonical.{TicketClear}
-use Rattle.record_bytes.specs.Parts.{markOf, timerWhere, isArmed, timerTicket, lastNumber, lastOf}
+use Rattle.record_bytes.specs.Parts.{markOf, timerWhere, isArmed, timerTicket, lastField, lastOf}
 use Rattle.record_bytes.specs.Parts.{clear, countWhere}
 use Rattle.record_bytes.specs.Layout.{lastReadable}
 
@@ -91,11 +92,11 @@ timer-fits true ticket h = h
 timer-fits false ticket h = tt
 
 -- the known last,
-pub last-again : (n : ℕ) → lastNumber (lastOf n) ≡ n
+pub last-again : (n : ℕ) → lastField (lastOf n) ≡ n
 unfolding lastOf choose
 last-again n = by-test (eqb n 65535) refl
   where
-    by-test : (t : Bool) → eqb n 65535 ≡ t → lastNumber (choose t Unknown (At n)) ≡ n
+    by-test : (t : Bool) → eqb n 65535 ≡ t → lastField (choose t Unknown (At n)) ≡ n
     by-test true p = sym (eqb-true n 65535 p)
     by-test false p = refl
 
@@ -114,6 +115,6 @@ pub count-again : (readable : Bool) (count : ℕ) → readable ≡ true → coun
 unfolding countWhere
 count-again readable count e = choose-true readable count _ e
 
-pub count-broken : (readable : Bool) (count : ℕ) → readable ≡ false → leb (countWhere readable count) 5 ≡ false
+pub count-broken : (readable : Bool) (count : ℕ) → readable ≡ false → leb (countWhere readable count) retryLimit ≡ false
 unfolding countWhere choose
-count-broken readable count e = ap (λ (r : Bool). leb (countWhere r count) 5) e
+count-broken readable count e = ap (λ (r : Bool). leb (countWhere r count) retryLimit) e

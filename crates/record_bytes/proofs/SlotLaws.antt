@@ -9,6 +9,7 @@ use lib.ListN.{length, getD, drop, drop-of-length-le}
 use lib.Seq.{drop-cons}
 use Rattle.words.specs.Choice.{choose, both}
 use Rattle.words.specs.Number.{digits, number}
+use Rattle.words.specs.Sizes.{windowSize}
 use Rattle.words.proofs.Number.{value-bytes}
 use Rattle.incoming.specs.declared.Slot.{Slot}
 use Rattle.incoming.specs.Slots.{missing}
@@ -37,11 +38,11 @@ abbrev spelled : ℕ → List Slot → ℕ → List Slot
 spelled zero xs at = []
 spelled (suc n) xs at = getD xs at missing ∷ spelled n xs (at + 1)
 
-back-spelled : (xs : List Slot) → slotsIn (slotsBytes (spelled 32 xs 0)) ≡ map again (spelled 32 xs 0)
+back-spelled : (xs : List Slot) → slotsIn (slotsBytes (spelled windowSize xs 0)) ≡ map again (spelled windowSize xs 0)
 unfolding slotsIn slotsBelow slotIn number
 back-spelled xs = refl
 
-readable-spelled : (xs : List Slot) → slotsReadable (slotsBytes (spelled 32 xs 0)) ≡ true
+readable-spelled : (xs : List Slot) → slotsReadable (slotsBytes (spelled windowSize xs 0)) ≡ true
 unfolding slotsReadable readableBelow slotReadable both choose
 readable-spelled xs = simp mark-readable
 
@@ -53,9 +54,9 @@ spelled-drop (suc n) at xs e =
     rw (drop-cons xs at missing (omega arith), ← add-one at)
     (ap (λ (l : List Slot). getD xs at missing ∷ l) (spelled-drop n (at + 1) xs (omega arith)))
 
-module _ (xs : List Slot) (size : length xs ≡ 32) where
-  spelled-same : spelled 32 xs 0 ≡ xs
-  spelled-same = spelled-drop 32 0 xs (sym size)
+module _ (xs : List Slot) (size : length xs ≡ windowSize) where
+  spelled-same : spelled windowSize xs 0 ≡ xs
+  spelled-same = spelled-drop windowSize 0 xs (sym size)
 
   pub slots-back : FitsSlots xs → slotsIn (slotsBytes xs) ≡ xs
   slots-back fits =

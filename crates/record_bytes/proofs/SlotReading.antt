@@ -9,6 +9,7 @@ use lib.ListN.{length, getD}
 use borrow.Author.Tests.{eqb-true}
 use Rattle.words.specs.Choice.{choose}
 use Rattle.words.specs.Number.{digits, part, number}
+use Rattle.words.specs.Sizes.{windowSize}
 use Rattle.words.proofs.Number.{digits-part, part-all}
 use Rattle.words.proofs.Tests.{both-true}
 use Rattle.incoming.specs.declared.Slot.{Slot}
@@ -30,7 +31,7 @@ foursFrom zero s f = []
 foursFrom (suc n) s f =
     getD s (4 * f) 0 ∷ (getD s (4 * f + 1) 0 ∷ (getD s (4 * f + 2) 0 ∷ (getD s (4 * f + 3) 0 ∷ foursFrom n s (f + 1))))
 
-slots-from : (s : List ℕ) → slotsIn s ≡ slotsFrom 32 s 0
+slots-from : (s : List ℕ) → slotsIn s ≡ slotsFrom windowSize s 0
 unfolding slotsIn slotsBelow
 slots-from s = refl
 
@@ -60,16 +61,16 @@ module _ (s : List ℕ) (octets : Octets s) where
       (length-fits (eqb (markAt s f) 1) _ (number-below 2 true s (4 * f) octets), from-fits n (f + 1))
 
   pub slots-fit : FitsSlots (slotsIn s)
-  slots-fit = subst FitsSlots (sym (slots-from s)) (from-fits 32 0)
+  slots-fit = subst FitsSlots (sym (slots-from s)) (from-fits windowSize 0)
 
   module _ (size : length s ≡ 128) (readable : slotsReadable s ≡ true) (clear : LengthsClear s) where
     -- One slot's mark is 0 or 1, and its spare byte 0.
-    marks : (f : ℕ) → f < 32 → (leb (markAt s f) 1 ≡ true) × (eqb (getD s (4 * f + 3) 0) 0 ≡ true)
+    marks : (f : ℕ) → f < windowSize → (leb (markAt s f) 1 ≡ true) × (eqb (getD s (4 * f + 3) 0) 0 ≡ true)
     unfolding slotsReadable readableBelow slotReadable
     marks f h = both-true _ _ (each-of (readableBelow s) (slotReadable s) (λ (n : ℕ). refl) 32 readable f h)
 
     -- Its length is written as it stands.
-    length-digits : (f : ℕ) → f < 32
+    length-digits : (f : ℕ) → f < windowSize
         → digits 2 (lengthWhere (eqb (markAt s f) 1) (lengthWhere (eqb (markAt s f) 1) (lengthAt s f)))
         ≡ part 2 s (4 * f)
     length-digits f h =
@@ -77,15 +78,15 @@ module _ (s : List ℕ) (octets : Octets s) where
         (length-again _ _ (λ (e : eqb (markAt s f) 1 ≡ false). clear f h (mark-zero (markAt s f) (marks f h .0) e)))
         ∙ digits-part 2 s (4 * f) (octet-at s octets)
 
-    from-again : (n f : ℕ) → f + n ≤ 32 → slotsBytes (slotsFrom n s f) ≡ foursFrom n s f
+    from-again : (n f : ℕ) → f + n ≤ windowSize → slotsBytes (slotsFrom n s f) ≡ foursFrom n s f
     unfolding slotIn
     from-again zero f h = refl
     from-again (suc n) f h =
-        let here : f < 32 = omega arith in
+        let here : f < windowSize = omega arith in
         let mark : markOf (eqb (markAt s f) 1) ≡ markAt s f = mark-again (markAt s f) (marks f here .0) in
         let spare : getD s (4 * f + 3) 0 ≡ 0 = eqb-true (getD s (4 * f + 3) 0) 0 (marks f here .1) in
         let rest : slotsBytes (slotsFrom n s (f + 1)) ≡ foursFrom n s (f + 1) = from-again n (f + 1) (omega arith) in
         λ i. length-digits f here i ++ (mark i ∷ (sym spare i ∷ rest i))
 
     pub slots-again : slotsBytes (slotsIn s) ≡ s
-    slots-again = ap slotsBytes (slots-from s) ∙ from-again 32 0 (omega arith) ∙ part-all 128 s size
+    slots-again = ap slotsBytes (slots-from s) ∙ from-again windowSize 0 (omega arith) ∙ part-all 128 s size

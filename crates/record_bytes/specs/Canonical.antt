@@ -7,6 +7,7 @@ use mathlib.Core.Logic.{_⊎_}
 use mathlib.Core.Path.{_≡_}
 use lib.ListN.{length, getD}
 use Rattle.words.specs.Number.{number}
+use Rattle.words.specs.Sizes.{windowSize}
 
 -- Where the mark says that a timer is not armed, its ticket of 8 bytes at `at` is 0.
 abbrev pub TicketClear : ℕ → ℕ → List ℕ → Type 0
@@ -14,7 +15,7 @@ TicketClear mark at b = getD b mark 0 ≡ 0 → number 8 true b at ≡ 0
 
 -- Where the mark says that fragment f is not held, its length is 0. Each slot has four bytes.
 abbrev pub LengthsClear : List ℕ → Type 0
-LengthsClear s = (f : ℕ) → f < 32 → getD s (4 * f + 2) 0 ≡ 0 → number 2 true s (4 * f) ≡ 0
+LengthsClear s = (f : ℕ) → f < windowSize → getD s (4 * f + 2) 0 ≡ 0 → number 2 true s (4 * f) ≡ 0
 
 -- The places that are not judged: the 8 bytes of the ticket at `at`, where the mark says that the timer is not armed;
 abbrev pub TicketUnjudged : ℕ → ℕ → List ℕ → ℕ → Type 0

@@ -5,6 +5,7 @@ use mathlib.Core.Bool.{Bool, true, false}
 use mathlib.Core.List.{List, [], _∷_}
 use mathlib.Core.Path.{_≡_}
 use lib.ListN.{length}
+use Rattle.words.specs.Sizes.{windowSize}
 use Rattle.calls.specs.declared.Call.{Call}
 use Rattle.incoming.specs.declared.Slot.{Slot}
 use Rattle.incoming.specs.declared.Last.{Last}
@@ -56,7 +57,7 @@ FitsSlots (s ∷ ss) = FitsSlot (s .held) (s .length) × FitsSlots ss
 
 -- The message received has 32 slots.
 pub record FitsIncoming (m : Incoming) : Type 0 where
-  pub size : length (m .slots) ≡ 32
+  pub size : length (m .slots) ≡ windowSize
   pub slots : FitsSlots (m .slots)
   pub last : FitsLast (m .last)
 

@@ -6,6 +6,7 @@ use lib.ListN.{getD, set, replicate}
 use lib.Dec.{eqb, leb}
 use Rattle.words.specs.Choice.{choose, both}
 use Rattle.words.specs.Number.{digits, number}
+use Rattle.words.specs.Sizes.{windowSize}
 use Rattle.incoming.specs.declared.Slot.{Slot}
 use Rattle.incoming.specs.Slots.{missing}
 use Rattle.record_bytes.specs.Parts.{markOf}
@@ -31,11 +32,11 @@ slotIn s f = record {
 
 -- The slots of which the first n are as they stand in s, and the others missing.
 unfoldable pub slotsBelow : List ℕ → ℕ → List Slot
-slotsBelow s zero = replicate 32 missing
+slotsBelow s zero = replicate windowSize missing
 slotsBelow s (suc n) = set (slotsBelow s n) n (slotIn s n)
 
 unfoldable pub slotsIn : List ℕ → List Slot
-slotsIn s = slotsBelow s 32
+slotsIn s = slotsBelow s windowSize
 
 -- Fragment f's mark is 0 or 1, and its spare byte 0.
 unfoldable pub slotReadable : List ℕ → ℕ → Bool
@@ -46,4 +47,4 @@ readableBelow s zero = true
 readableBelow s (suc n) = both (readableBelow s n) (slotReadable s n)
 
 unfoldable pub slotsReadable : List ℕ → Bool
-slotsReadable s = readableBelow s 32
+slotsReadable s = readableBelow s windowSize

@@ -10,7 +10,7 @@ use Rattle.calls.specs.declared.Call.{Call}
 use Rattle.incoming.specs.declared.Incoming.{Incoming}
 use Rattle.outgoing.specs.declared.Outgoing.{Outgoing}
 use Rattle.record_bytes.specs.declared.Fields.{Fields}
-use Rattle.record_bytes.specs.Parts.{markOf, timerWhere, isArmed, timerTicket, lastNumber, lastOf, uuidIn, clear}
+use Rattle.record_bytes.specs.Parts.{markOf, timerWhere, isArmed, timerTicket, lastField, lastOf, uuidIn, clear}
 use Rattle.record_bytes.specs.Held.{slotsBytes, slotsIn, slotsReadable}
 
 -- The known last fits a byte, or is 65535: unknown.
@@ -115,7 +115,7 @@ unfoldable pub fieldBytes : Fields → List ℕ
 fieldBytes f =
     laidBytes
     (frontBytes (f .state) (markOf (f .call .idempotent)) (f .count) (f .extra) (f .outgoing)
-    (lastNumber (f .incoming .last)) (f .call .operation))
+    (lastField (f .incoming .last)) (f .call .operation))
     (numberBytes (f .number) (f .call .version) (f .outgoing .length) (f .boot))
     (digits 8 (f .tickets))
     (digits 8 (timerTicket (f .timer)))

@@ -28,9 +28,9 @@ timerTicket Off = 0
 timerTicket (Armed ticket) = ticket
 
 -- The known last as a number, 65535 where none is known; and the known last of a number.
-abbrev pub lastNumber : Last → ℕ
-lastNumber Unknown = 65535
-lastNumber (At number) = number
+abbrev pub lastField : Last → ℕ
+lastField Unknown = 65535
+lastField (At number) = number
 
 unfoldable pub lastOf : ℕ → Last
 lastOf number = choose (eqb number 65535) Unknown (At number)

@@ -6,12 +6,13 @@ use incoming::Last;
 use incoming::Slot;
 use outgoing::Outgoing;
 use timers::Timer;
+use words::WINDOW_SIZE;
 ghost use mathlib.Core.Bool.{true};
 ghost use mathlib.Core.Path.{_≡_};
 ghost use Prim.Native.Nat.{_+_, _*_};
 ghost use Rattle.words.specs.Number.{digits, number};
 ghost use Rattle.words.specs.Place.{placed};
-ghost use Rattle.record_bytes.specs.Parts.{markOf, timerWhere, isArmed, timerTicket, lastNumber, lastOf, uuidIn, clear, countWhere};
+ghost use Rattle.record_bytes.specs.Parts.{markOf, timerWhere, isArmed, timerTicket, lastField, lastOf, uuidIn, clear, countWhere};
 ghost use Rattle.record_bytes.specs.Held.{lengthWhere, slotBytes, slotsBytes, slotIn, slotsIn, slotReadable, slotsReadable};
 ghost use Rattle.record_bytes.specs.Layout.{lastReadable, marksReadable, countsReadable, sparesReadable, readable, callIn, outgoingIn, incomingIn, fieldsIn, frontBytes, numberBytes, backBytes, laidBytes, fieldBytes};
 
@@ -92,7 +93,7 @@ fn last(number: u16) -> Last
 }
 
 fn last_number(last: Last) -> u16
-    ensures { λ r. ⌜ r ≡ lastNumber last ⌝ }
+    ensures { λ r. ⌜ r ≡ lastField last ⌝ }
 {
     match last {
         Last::Unknown => 65535,
@@ -169,7 +170,7 @@ fn length_where(held: bool, length: u16) -> u16
 }
 
 // Fragment f's slot: length u16, held u8 and a spare byte, four bytes a slot.
-fn slot(s: &[u8], f: u8) -> Slot
+fn slot(s: &[u8], f: u16) -> Slot
     ensures { λ r. ⌜ r ≡ slotIn (now (s .entry)) f ⌝ }
 {
     let at = 4 * (f as usize);
@@ -181,16 +182,16 @@ fn slot(s: &[u8], f: u8) -> Slot
     }
 }
 
-// All 32 slots.
-fn slots(s: &[u8]) -> [Slot; 32]
+// All slots.
+fn slots(s: &[u8]) -> [Slot; WINDOW_SIZE as usize]
     ensures { λ r. ⌜ r ≡ slotsIn (now (s .entry)) ⌝ }
 {
     let mut all = [Slot {
         held: false,
         length: 0,
-    }; 32];
-    let mut f: u8 = 0;
-    while f < 32 {
+    }; WINDOW_SIZE as usize];
+    let mut f: u16 = 0;
+    while f < WINDOW_SIZE {
         let at = f as usize;
         all[at] = slot(s, f);
         f += 1;
@@ -199,7 +200,7 @@ fn slots(s: &[u8]) -> [Slot; 32]
 }
 
 // Whether fragment f's held byte is 0 or 1 and its spare byte 0.
-fn is_slot_readable(s: &[u8], f: u8) -> bool
+fn is_slot_readable(s: &[u8], f: u16) -> bool
     ensures { λ r. ⌜ r ≡ slotReadable (now (s .entry)) f ⌝ }
 {
     let at = 4 * (f as usize);
@@ -208,13 +209,13 @@ fn is_slot_readable(s: &[u8], f: u8) -> bool
     words::both(held <= 1, spare == 0)
 }
 
-// Whether all 32 slots are readable.
+// Whether all slots are readable.
 fn are_slots_readable(s: &[u8]) -> bool
     ensures { λ r. ⌜ r ≡ slotsReadable (now (s .entry)) ⌝ }
 {
     let mut all = true;
-    let mut f: u8 = 0;
-    while f < 32 {
+    let mut f: u16 = 0;
+    while f < WINDOW_SIZE {
         let one = is_slot_readable(s, f);
         all = words::both(all, one);
         f += 1;
@@ -230,13 +231,13 @@ fn slot_bytes(held: bool, length: u16) -> [u8; 4]
     [(n % 256) as u8, (n / 256 % 256) as u8, mark(held), 0]
 }
 
-// The 128 bytes of 32 slots.
-fn slots_bytes(slots: [Slot; 32]) -> [u8; 128]
+// The 128 bytes of the slots.
+fn slots_bytes(slots: [Slot; WINDOW_SIZE as usize]) -> [u8; 128]
     ensures { λ r. ⌜ r ≡ slotsBytes slots ⌝ }
 {
     let mut bytes = [0u8; 128];
-    let mut f: u8 = 0;
-    while f < 32 {
+    let mut f: u16 = 0;
+    while f < WINDOW_SIZE {
         let at = f as usize;
         let slot = slots[at];
         let four = slot_bytes(slot.held, slot.length);

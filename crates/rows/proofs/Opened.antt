@@ -14,6 +14,7 @@ use Rattle.grounds.specs.Timing
 use Rattle.client_record.specs.States as ClientStates
 use Rattle.client_record.specs.Rules as ClientRules
 use Rattle.client_record.specs.Record as ClientRecord
+use Rattle.client_record.specs.Arming as ClientArming
 use Rattle.client_table.specs.Local as ClientLocal
 use Rattle.client_steps.specs.Plan as ClientPlan
 use Rattle.client_steps.specs.Rows as ClientRows
@@ -21,6 +22,7 @@ use Rattle.client.specs.Machine as ClientMachine
 use Rattle.server_record.specs.States as ServerStates
 use Rattle.server_record.specs.Rules as ServerRules
 use Rattle.server_record.specs.Record as ServerRecord
+use Rattle.server_record.specs.Arming as ServerArming
 use Rattle.server_table.specs.Local as ServerLocal
 use Rattle.server_steps.specs.Plan as ServerPlan
 use Rattle.server_steps.specs.Rows as ServerRows
@@ -52,9 +54,9 @@ unfoldable pub clientEvents : Unit {0}
 unfolding shared
     ClientStates.mayStart ClientStates.isQueued ClientStates.isWaiting ClientStates.isAckPending
     ClientRules.countsSound ClientRules.messageRule ClientRules.outgoingSound ClientRules.timersSound ClientRules.sound
-    ClientRecord.fresh
-    ClientLocal.startGround ClientLocal.namedTimer ClientLocal.namedBy ClientLocal.pings ClientLocal.timerGround
-    ClientPlan.refused ClientPlan.accepted ClientPlan.withOutgoing
+    ClientRecord.fresh ClientRecord.withOutgoing
+    ClientLocal.startGround ClientArming.namedTimer ClientArming.namedBy ClientArming.pings ClientLocal.timerGround
+    ClientPlan.refused ClientPlan.accepted
     ClientRows.startPlan ClientRows.waitPlan ClientRows.ackPlan ClientRows.timerRow ClientRows.timerPlan
     ClientMachine.outcomeOf ClientMachine.starting ClientMachine.sending ClientMachine.timing
 clientEvents = tt
@@ -64,9 +66,9 @@ unfoldable pub serverEvents : Unit {0}
 unfolding shared
     ServerStates.isRunning ServerStates.isHeld
     ServerRules.heldRule ServerRules.messageRule ServerRules.outgoingSound ServerRules.sound
-    ServerRecord.fresh ServerRecord.unarmed
-    ServerLocal.heldArmsAgain ServerLocal.armsAgain ServerLocal.timerGround ServerLocal.replyGround
-    ServerPlan.refused ServerPlan.accepted ServerPlan.withOutgoing
+    ServerRecord.fresh ServerRecord.unarmed ServerRecord.withOutgoing
+    ServerArming.heldArmsAgain ServerArming.armsAgain ServerLocal.timerGround ServerLocal.replyGround
+    ServerPlan.refused ServerPlan.accepted
     ServerRows.replyPlan ServerRows.resendHeld ServerRows.resendRow ServerRows.timerRow ServerRows.timerPlan
     ServerMachine.outcomeOf ServerMachine.replying ServerMachine.sending ServerMachine.timing
 serverEvents = tt

@@ -1,6 +1,7 @@
 -- A case, and what the definitions that the contracts cite give for it.
 use Prim.Native.Nat.{ℕ}
 use mathlib.Core.List.{List}
+use Rattle.words.specs.Sizes.{pduSize}
 use Rattle.answers.specs.Number.{numberOf}
 use Rattle.reader.specs.Reading.{reading}
 use Rattle.incoming.specs.Slots.{contiguous}
@@ -51,6 +52,6 @@ given (Held fs) = Fack (contiguous (holding fs)) (lastContiguous (contiguous (ho
 given (Message length) = Fragments (fragments length)
 given (Start length) = Answer (numberOf (starting client blankCall length .answer))
 given (Reply length) = Answer (numberOf (replying running length .answer))
-given (WaitTimer armed ticket) = Answer (numberOf (clientTiming (dispatched armed) Wait ticket (zeros 1472) .outcome .answer))
-given (AckTimer armed ticket) = Answer (numberOf (clientTiming (ackPending armed) Ack ticket (zeros 1472) .outcome .answer))
-given (ResendTimer armed ticket) = Answer (numberOf (serverTiming (held armed) ticket (zeros 1472) .outcome .answer))
+given (WaitTimer armed ticket) = Answer (numberOf (clientTiming (dispatched armed) Wait ticket (zeros pduSize) .outcome .answer))
+given (AckTimer armed ticket) = Answer (numberOf (clientTiming (ackPending armed) Ack ticket (zeros pduSize) .outcome .answer))
+given (ResendTimer armed ticket) = Answer (numberOf (serverTiming (held armed) ticket (zeros pduSize) .outcome .answer))

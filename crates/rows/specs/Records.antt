@@ -2,6 +2,7 @@
 use Prim.Native.Nat.{ℕ}
 use mathlib.Core.Bool.{false}
 use mathlib.Core.List.{List, [], _∷_}
+use Rattle.words.specs.Sizes.{bodySize}
 use Rattle.incoming.specs.declared.Incoming.{Incoming}
 use Rattle.incoming.specs.Slots.{cleared, stored}
 use Rattle.outgoing.specs.declared.Outgoing.{Outgoing}
@@ -9,19 +10,17 @@ use Rattle.outgoing.specs.Sending.{started, afterSend}
 use Rattle.timers.specs.declared.Timer.the-variants.{Off, Armed}
 use Rattle.client_record.specs.declared.Client.{Client}
 use Rattle.client_record.specs.declared.State.the-variants.{Dispatched, AckPending}
-use Rattle.client_record.specs.Record.{fresh as freshClient, timed as timedClient}
-use Rattle.client_steps.specs.Plan.{withOutgoing as clientWith}
+use Rattle.client_record.specs.Record.{fresh as freshClient, timed as timedClient, withOutgoing as clientWith}
 use Rattle.server_record.specs.declared.Server.{Server}
 use Rattle.server_record.specs.declared.Reply.the-variants.{Data}
 use Rattle.server_record.specs.declared.State.the-variants.{Running, Held}
-use Rattle.server_record.specs.Record.{fresh as freshServer, timed as timedServer, unarmed}
-use Rattle.server_steps.specs.Plan.{withOutgoing as serverWith}
+use Rattle.server_record.specs.Record.{fresh as freshServer, timed as timedServer, unarmed, withOutgoing as serverWith}
 use Rattle.rows.specs.Datagrams.{zeros}
 
 -- A message received of which these fragments are held, 1,392 bytes each, and no last is known.
 abbrev pub holding : List ℕ → Incoming
 holding [] = cleared
-holding (f ∷ fs) = stored (holding fs) f 1392 false
+holding (f ∷ fs) = stored (holding fs) f bodySize false
 
 -- An empty message, sent: its one fragment is out.
 abbrev pub sent : Outgoing

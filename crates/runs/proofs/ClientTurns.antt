@@ -4,6 +4,7 @@ use Prim.Native.Nat.{ℕ}
 use mathlib.Core.List.{List, [], _++_}
 use mathlib.Core.Path.{_≡_, _∙_}
 use lib.ListN.{length}
+use Rattle.words.specs.Sizes.{pduSize, slotsSize}
 use Rattle.answers.specs.Number.{numberOf}
 use Rattle.pdu.specs.declared.Header.{Header}
 use Rattle.pdu.specs.Header.{datagram}
@@ -41,7 +42,7 @@ clientLeft w plan message slots = record {
 abbrev clientDone : World → Plan → List ℕ → List ℕ → List ℕ → World
 clientDone w plan message out slots = clientStep w (sending plan message out .outcome) (sending plan message out .out) slots
 
-client-left : (w : World) (plan : Plan) (message out slots : List ℕ) → Uuids (plan .client .activity) (plan .client .call) → length out ≡ 1472
+client-left : (w : World) (plan : Plan) (message out slots : List ℕ) → Uuids (plan .client .activity) (plan .client .call) → length out ≡ pduSize
     → clientDone w plan message out slots ≡ clientLeft w plan message slots
 unfolding sending outcomeOf
 client-left w plan message out slots z room = λ i. record {
@@ -57,15 +58,15 @@ client-left w plan message out slots z room = λ i. record {
 
 -- The plan of a transmit of n bytes, of a timer event, and of an arriving PDU.
 abbrev pub clientTransmit : Client → ℕ → Plan
-clientTransmit c n = transmitPlan (transmitGround c n 1472) c
+clientTransmit c n = transmitPlan (transmitGround c n pduSize) c
 
 abbrev pub clientTime : Client → TimerKind → ℕ → Plan
-clientTime c kind ticket = timerPlan (timerGround c kind ticket 1472) kind c
+clientTime c kind ticket = timerPlan (timerGround c kind ticket pduSize) kind c
 
 abbrev pub clientArrival : Client → Header → List ℕ → Plan
-clientArrival c h body = planOf c (lentGround 44544 1472) (accepted h) body
+clientArrival c h body = planOf c (lentGround slotsSize pduSize) (accepted h) body
 
-module _ (w : World) (out : List ℕ) (room : length out ≡ 1472) where
+module _ (w : World) (out : List ℕ) (room : length out ≡ pduSize) where
   -- A transmit, of a message of n bytes;
   pub client-transmits : (message : List ℕ) (n : ℕ) → length message ≡ n
       → Uuids (clientTransmit (w .client .machine) n .client .activity) (clientTransmit (w .client .machine) n .client .call)
@@ -93,7 +94,7 @@ module _ (w : World) (out : List ℕ) (room : length out ≡ 1472) where
   }
 
   -- a PDU that arrives.
-  pub client-arrives : {h : Header} {body : List ℕ} {o : ℕ} → Carried h body → length (w .client .slots) ≡ 44544
+  pub client-arrives : {h : Header} {body : List ℕ} {o : ℕ} → Carried h body → length (w .client .slots) ≡ slotsSize
       → Uuids (clientArrival (w .client .machine) h body .client .activity) (clientArrival (w .client .machine) h body .client .call)
       → Makes w (OfClient (ClientArrive (pduOf o (datagram h body)) Own out)) (numberOf (clientArrival (w .client .machine) h body .answer))
       (clientLeft w (clientArrival (w .client .machine) h body) []

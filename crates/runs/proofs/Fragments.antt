@@ -5,6 +5,7 @@ use mathlib.Core.List.{List}
 use mathlib.Core.Path.{_≡_, refl, ap, subst}
 use lib.Dec.{eqb}
 use lib.ListN.{length, length-take, length-drop}
+use Rattle.words.specs.Sizes.{bodySize, lastNumber}
 use Rattle.incoming.specs.declared.Incoming.{Incoming}
 use Rattle.incoming.specs.Slots.{sound, stored}
 use Rattle.fragments.specs.Judgement.{held, contradicts}
@@ -15,17 +16,17 @@ use Rattle.history.proofs.Holding.{Slotted, can-put, Holding, put-holding}
 
 module _ (message : List ℕ) (n f : ℕ) (size : length message ≡ n) where
   -- How long fragment f is, and as a record keeps it.
-  pub cut : length (fragmentOf message f) ≡ min 1392 (n - 1392 * f)
+  pub cut : length (fragmentOf message f) ≡ min bodySize (n - bodySize * f)
   unfolding fragmentOf
   cut = simp (length-take, length-drop) (rw size)
 
-  pub kept : length (fragmentOf message f) % 65536 ≡ min 1392 (n - 1392 * f) % 65536
+  pub kept : length (fragmentOf message f) % 65536 ≡ min bodySize (n - bodySize * f) % 65536
   kept = ap (λ (k : ℕ). k % 65536) cut
 
   -- Where all that is held is of the message, it is so when fragment f is put.
-  pub put : (m : Incoming) (slots : List ℕ) (flags1 : ℕ) → Holding m slots message → sound m ≡ true → Slotted m → f ≤ 31
+  pub put : (m : Incoming) (slots : List ℕ) (flags1 : ℕ) → Holding m slots message → sound m ≡ true → Slotted m → f ≤ lastNumber
       → held m f ≡ false → contradicts m f (isLast flags1) ≡ false → f < fragments n → isLast flags1 ≡ eqb (f + 1) (fragments n)
-      → Holding (stored m f (min 1392 (n - 1392 * f)) (isLast flags1)) (filled f (fragmentOf message f) slots) message
+      → Holding (stored m f (min bodySize (n - bodySize * f)) (isLast flags1)) (filled f (fragmentOf message f) slots) message
   put m slots flags1 holds rules long number new fits below ends =
       subst (λ (k : ℕ). Holding (stored m f k (isLast flags1)) (filled f (fragmentOf message f) slots) message) cut
       (put-holding m slots message flags1 f (fragmentOf message f) holds rules long

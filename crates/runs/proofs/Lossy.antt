@@ -4,6 +4,7 @@ use mathlib.Core.List.{List, [], _∷_}
 use mathlib.Core.Path.{_≡_, refl, _∙_}
 use native.Mathlib.Omega.{arith}
 use lib.ListN.{length, take}
+use Rattle.words.specs.Sizes.{bodySize, pduSize, slotsSize}
 use Rattle.calls.specs.Sent.{sentHeader}
 use Rattle.incoming.specs.declared.Last.the-variants.{Unknown, At}
 use Rattle.incoming.specs.declared.Incoming.{Incoming}
@@ -59,43 +60,43 @@ empty-came : (boot kind serial : ℕ) → (boot < 65536) × (kind ≤ 10) × (se
 empty-came boot kind serial small = carried kind 0 serial activity boot 0 called 0 [] typed refl (omega arith) (omega arith)
 
 module _ (message reply clientSlots serverSlots out : List ℕ) (asks : length message ≡ 2785) (replies : length reply ≡ 2786)
-    (clientRoom : length clientSlots ≡ 44544) (serverRoom : length serverSlots ≡ 44544) (room : length out ≡ 1472) where
+    (clientRoom : length clientSlots ≡ slotsSize) (serverRoom : length serverSlots ≡ slotsSize) (room : length out ≡ pduSize) where
   -- The server's slot buffer after each put,
   abbrev v1 : List ℕ
   v1 = filled 2 (fragmentOf message 2) serverSlots
 
-  v1-long : length v1 ≡ 44544
+  v1-long : length v1 ≡ slotsSize
   v1-long = filled-length 2 (fragmentOf message 2) serverSlots ∙ serverRoom
 
   abbrev v2 : List ℕ
   v2 = filled 0 (fragmentOf message 0) v1
 
-  v2-long : length v2 ≡ 44544
+  v2-long : length v2 ≡ slotsSize
   v2-long = filled-length 0 (fragmentOf message 0) v1 ∙ v1-long
 
   abbrev v3 : List ℕ
   v3 = filled 1 (fragmentOf message 1) v2
 
-  v3-long : length v3 ≡ 44544
+  v3-long : length v3 ≡ slotsSize
   v3-long = filled-length 1 (fragmentOf message 1) v2 ∙ v2-long
 
   -- and the client's.
   abbrev u1 : List ℕ
   u1 = filled 1 (fragmentOf reply 1) clientSlots
 
-  u1-long : length u1 ≡ 44544
+  u1-long : length u1 ≡ slotsSize
   u1-long = filled-length 1 (fragmentOf reply 1) clientSlots ∙ clientRoom
 
   abbrev u2 : List ℕ
   u2 = filled 0 (fragmentOf reply 0) u1
 
-  u2-long : length u2 ≡ 44544
+  u2-long : length u2 ≡ slotsSize
   u2-long = filled-length 0 (fragmentOf reply 0) u1 ∙ u1-long
 
   abbrev u3 : List ℕ
   u3 = filled 2 (fragmentOf reply 2) u2
 
-  u3-long : length u3 ≡ 44544
+  u3-long : length u3 ≡ slotsSize
   u3-long = filled-length 2 (fragmentOf reply 2) u2 ∙ u2-long
 
   -- The first n PDUs of all that the client has sent, and the server.
@@ -167,16 +168,16 @@ module _ (message reply clientSlots serverSlots out : List ℕ) (asks : length m
   k11 n = clientAt ReceiveFrags 3 7 (holds missing (held n) missing Unknown) 0 1 10 (Armed 10) Off u1 7
 
   abbrev k12 : ℕ → Side Client
-  k12 n = clientAt ReceiveFrags 3 7 (holds (held n) (held 1392) missing Unknown) 0 1 11 (Armed 11) Off u2 7
+  k12 n = clientAt ReceiveFrags 3 7 (holds (held n) (held bodySize) missing Unknown) 0 1 11 (Armed 11) Off u2 7
 
   abbrev k13 : Side Client
-  k13 = clientAt ReceiveFrags 3 8 (holds (held 1392) (held 1392) missing Unknown) 1 1 12 (Armed 12) Off u2 8
+  k13 = clientAt ReceiveFrags 3 8 (holds (held bodySize) (held bodySize) missing Unknown) 1 1 12 (Armed 12) Off u2 8
 
   abbrev k14 : ℕ → Side Client
-  k14 n = clientAt AckPending 3 8 (holds (held 1392) (held 1392) (held n) (At 2)) 0 1 13 Off (Armed 13) u3 8
+  k14 n = clientAt AckPending 3 8 (holds (held bodySize) (held bodySize) (held n) (At 2)) 0 1 13 Off (Armed 13) u3 8
 
   abbrev k15 : Side Client
-  k15 = clientAt Complete 3 8 (holds (held 1392) (held 1392) (held 2) (At 2)) 0 1 13 Off Off u3 9
+  k15 = clientAt Complete 3 8 (holds (held bodySize) (held bodySize) (held 2) (At 2)) 0 1 13 Off Off u3 9
 
   -- The server, likewise.
   abbrev s0 : Side Server
@@ -189,13 +190,13 @@ module _ (message reply clientSlots serverSlots out : List ℕ) (asks : length m
   s2 n = serverAt Collect (sends 0 0 0 0 0) (holds (held n) missing (held 1) (At 2)) 100 Off v2 0
 
   abbrev s3 : Side Server
-  s3 = serverAt Collect (sends 0 0 0 0 0) (holds (held 1392) missing (held 1) (At 2)) 100 Off v2 1
+  s3 = serverAt Collect (sends 0 0 0 0 0) (holds (held bodySize) missing (held 1) (At 2)) 100 Off v2 1
 
   abbrev s4 : ℕ → Side Server
-  s4 n = serverAt Running (sends 0 0 0 0 0) (holds (held 1392) (held n) (held 1) (At 2)) 100 Off v3 1
+  s4 n = serverAt Running (sends 0 0 0 0 0) (holds (held bodySize) (held n) (held 1) (At 2)) 100 Off v3 1
 
   abbrev all : Incoming
-  all = holds (held 1392) (held 1392) (held 1) (At 2)
+  all = holds (held bodySize) (held bodySize) (held 1) (At 2)
 
   abbrev s5 : Side Server
   s5 = serverAt Running (sends 0 0 0 0 0) all 100 Off v3 2
@@ -249,7 +250,7 @@ module _ (message reply clientSlots serverSlots out : List ℕ) (asks : length m
   request-whole =
       parts-joined (serverSound (s5 .machine)) all v3 refl
       ∙ holding-whole all v3 message
-      (put message 2785 1 asks (s2 1392 .machine .incoming) v2 4
+      (put message 2785 1 asks (s2 bodySize .machine .incoming) v2 4
       (put message 2785 0 asks (s1 1 .machine .incoming) v1 4
       (put message 2785 2 asks cleared serverSlots 6 (empty-holding cleared serverSlots message serverRoom cleared-empty)
       refl refl (omega arith) refl refl (omega arith) refl)
@@ -262,8 +263,8 @@ module _ (message reply clientSlots serverSlots out : List ℕ) (asks : length m
   unfolding opened
   reply-joined =
       holding-whole (k15 .machine .incoming) u3 reply
-      (put reply 2786 2 replies (k12 1392 .machine .incoming) u2 6
-      (put reply 2786 0 replies (k11 1392 .machine .incoming) u1 4
+      (put reply 2786 2 replies (k12 bodySize .machine .incoming) u2 6
+      (put reply 2786 0 replies (k11 bodySize .machine .incoming) u1 4
       (put reply 2786 1 replies cleared clientSlots 4 (empty-holding cleared clientSlots reply clientRoom cleared-empty)
       refl refl (omega arith) refl refl (omega arith) refl)
       refl refl (omega arith) refl refl (omega arith) refl)
@@ -280,7 +281,7 @@ module _ (message reply clientSlots serverSlots out : List ℕ) (asks : length m
   reply-whole = hands-joined (k15 .machine) u3 refl ∙ reply-joined
 
   -- The story, stage by stage.
-  plays-asked : Plays (world k0 s0 b0) (asked message reply out) (world k4 (s2 1392) b1)
+  plays-asked : Plays (world k0 s0 b0) (asked message reply out) (world k4 (s2 bodySize) b1)
   unfolding opened
   plays-asked =
       then {next = world k1 s0 b1} (record { answered = refl; leaves = refl }) (record { typed = typed; whole = asks })
@@ -290,25 +291,25 @@ module _ (message reply clientSlots serverSlots out : List ℕ) (asks : length m
       (then {next = world k4 (s1 1) b1}
       (told (λ (n : ℕ). world k4 (s1 n) b1) (kept message 2785 2 asks)
       (server-arrives _ out room (fragment-came 0 0 message 2 3 (omega arith)) serverRoom uuids)) (came 2 refl)
-      (then {next = world k4 (s2 1392) b1}
+      (then {next = world k4 (s2 bodySize) b1}
       (told (λ (n : ℕ). world k4 (s2 n) b1) (kept message 2785 0 asks)
       (server-arrives _ out room (fragment-came 0 0 message 0 1 (omega arith)) v1-long uuids)) (came 0 refl)
-      (refused {next = world k4 (s2 1392) b1} (server-arrives _ out room (fragment-came 0 0 message 0 1 (omega arith)) v2-long uuids) refl
+      (refused {next = world k4 (s2 bodySize) b1} (server-arrives _ out room (fragment-came 0 0 message 0 1 (omega arith)) v2-long uuids) refl
       over))))))
 
-  plays-asked-again : Plays (world k4 (s2 1392) b1) (askedAgain message reply out) (world k10 s5 (b2 message))
+  plays-asked-again : Plays (world k4 (s2 bodySize) b1) (askedAgain message reply out) (world k10 s5 (b2 message))
   unfolding opened
   plays-asked-again =
-      then {next = world k5 (s2 1392) b1} (client-times _ out room Wait 6 uuids) tt
-      (refused {next = world k5 (s2 1392) b1} (client-times _ out room Wait 6 uuids) refl
+      then {next = world k5 (s2 bodySize) b1} (client-times _ out room Wait 6 uuids) tt
+      (refused {next = world k5 (s2 bodySize) b1} (client-times _ out room Wait 6 uuids) refl
       (then {next = world k5 s3 b1} (server-arrives _ out room (empty-came 0 1 4 (omega arith)) v2-long uuids) (came 3 refl)
       (then {next = world k6 s3 b1} (client-arrives _ out room (empty-came 7 5 0 (omega arith)) clientRoom uuids) (came 0 refl)
       (then {next = world k7 s3 b1} (client-transmits _ out room message 2785 asks uuids) refl
       (then {next = world k8 s3 b1} (client-transmits _ out room message 2785 asks uuids) refl
       (then {next = world k9 s3 b1} (client-transmits _ out room message 2785 asks uuids) refl
       (refused {next = world k9 s3 b1} (server-arrives _ out room (fragment-came 0 0 message 0 5 (omega arith)) v2-long uuids) refl
-      (then {next = world k9 (s4 1392) (b2 message)}
-      (told (λ (bytes : List ℕ). world k9 (s4 1392) (b2 bytes)) request-whole
+      (then {next = world k9 (s4 bodySize) (b2 message)}
+      (told (λ (bytes : List ℕ). world k9 (s4 bodySize) (b2 bytes)) request-whole
       (told (λ (n : ℕ). world k9 (s4 n) (b2 (serverHandsUp (s4 n .machine) v3))) (kept message 2785 1 asks)
       (server-arrives _ out room (fragment-came 0 0 message 1 6 (omega arith)) v2-long uuids))) (came 5 refl)
       (then {next = world k9 s5 (b2 message)} (server-arrives _ out room (fragment-came 0 0 message 2 7 (omega arith)) v3-long uuids) (came 6 refl)
@@ -322,10 +323,10 @@ module _ (message reply clientSlots serverSlots out : List ℕ) (asks : length m
       (then {next = world k10 s7 b3} (server-transmits _ out room reply 2786 replies uuids) refl
       (then {next = world k10 s8 b3} (server-transmits _ out room reply 2786 replies uuids) refl
       (then {next = world k10 s9 b3} (server-transmits _ out room reply 2786 replies uuids) refl
-      (then {next = world (k11 1392) s9 b3}
+      (then {next = world (k11 bodySize) s9 b3}
       (told (λ (n : ℕ). world (k11 n) s9 b3) (kept reply 2786 1 replies)
       (client-arrives _ out room (fragment-came 7 2 reply 1 2 (omega arith)) clientRoom uuids)) (came 3 refl)
-      (then {next = world (k12 1392) s9 b3}
+      (then {next = world (k12 bodySize) s9 b3}
       (told (λ (n : ℕ). world (k12 n) s9 b3) (kept reply 2786 0 replies)
       (client-arrives _ out room (fragment-came 7 2 reply 0 1 (omega arith)) u1-long uuids)) (came 2 refl)
       (then {next = world k13 s9 b3} (client-times _ out room Wait 11 uuids) tt

@@ -18,6 +18,7 @@ use Rattle.calls.specs.Sent
 use Rattle.client_record.specs.States as ClientStates
 use Rattle.client_record.specs.Rules as ClientRules
 use Rattle.client_record.specs.Record as ClientRecord
+use Rattle.client_record.specs.Arming as ClientArming
 use Rattle.client_table.specs.Events as ClientEvents
 use Rattle.client_table.specs.Arrival as ClientArrival
 use Rattle.client_table.specs.Local as ClientLocal
@@ -28,6 +29,7 @@ use Rattle.client_arrivals.specs.Table as ClientArrivalTable
 use Rattle.server_record.specs.States as ServerStates
 use Rattle.server_record.specs.Rules as ServerRules
 use Rattle.server_record.specs.Record as ServerRecord
+use Rattle.server_record.specs.Arming as ServerArming
 use Rattle.server_rows.specs.Events as ServerEvents
 use Rattle.server_rows.specs.Rows as ServerRowFor
 use Rattle.server_table.specs.Events as ServerEventGrounds
@@ -72,15 +74,16 @@ unfolding ClientStates.mayStart ClientStates.isQueued ClientStates.isSending Cli
     ClientStates.isWaiting ClientStates.isAckPending
     ClientRules.countsSound ClientRules.messageRule ClientRules.outgoingSound ClientRules.timersSound ClientRules.sound
     ClientRecord.fresh ClientRecord.waiting ClientRecord.ackPending ClientRecord.unarmed
+    ClientRecord.withOutgoing ClientRecord.withWaits ClientRecord.withIncoming ClientRecord.withResends
     ClientEvents.serverEvent ClientEvents.eventOf ClientEvents.byEvent ClientEvents.sideGround ClientEvents.hasRow ClientEvents.arms
     ClientArrival.numberGround ClientArrival.pduGround ClientArrival.completes ClientArrival.rowGround ClientArrival.tableGround
     ClientArrival.arrivalGround
-    ClientLocal.startGround ClientLocal.transmitGround ClientLocal.namedTimer ClientLocal.namedBy ClientLocal.pings ClientLocal.timerGround
-    ClientPlan.refused ClientPlan.accepted ClientPlan.withOutgoing ClientPlan.withWaits
+    ClientLocal.startGround ClientLocal.transmitGround ClientArming.namedTimer ClientArming.namedBy ClientArming.pings ClientLocal.timerGround
+    ClientPlan.refused ClientPlan.accepted
     ClientRows.nextNumber ClientRows.started ClientRows.startPlan ClientRows.transmitted ClientRows.transmitPlan ClientRows.pinged
     ClientRows.waitPlan ClientRows.ackPlan ClientRows.timerRow ClientRows.timerPlan
-    ClientArrivalRows.acknowledged ClientArrivalRows.fackPlan ClientArrivalRows.putRecord ClientArrivalRows.withIncoming
-    ClientArrivalRows.putNotice ClientArrivalRows.fackFor ClientArrivalRows.withResends ClientArrivalRows.putPlan
+    ClientArrivalRows.acknowledged ClientArrivalRows.fackPlan ClientArrivalRows.putRecord
+    ClientArrivalRows.putNotice ClientArrivalRows.fackFor ClientArrivalRows.putPlan
     ClientArrivalRows.responsePlan ClientArrivalRows.workingPlan ClientArrivalRows.resent ClientArrivalRows.nocallPlan
     ClientArrivalTable.arrivalRow ClientArrivalTable.arrivalPlan
 clientTables = tt
@@ -90,6 +93,7 @@ unfoldable pub serverTables : Unit {0}
 unfolding ServerStates.neverCalled ServerStates.isFresh ServerStates.isRunning ServerStates.isReplying ServerStates.isHeld
     ServerRules.idleRule ServerRules.heldRule ServerRules.messageRule ServerRules.outgoingSound ServerRules.sound
     ServerRecord.fresh ServerRecord.holding ServerRecord.unarmed
+    ServerRecord.withOutgoing ServerRecord.withIncoming
     ServerEvents.clientEvent ServerEvents.eventOf ServerEventGrounds.byEvent ServerEventGrounds.sideGround
     ServerTable.orderBy ServerTable.orderOf ServerTable.requestNewer ServerTable.requestAgain ServerTable.requestIdle ServerTable.requestEqual ServerTable.requestRow
     ServerTable.pingEqual ServerTable.pingRow ServerTable.whereReplied ServerTable.acknowledgementRow ServerTable.finishRow ServerTable.fackRow ServerTable.ackRow
@@ -97,11 +101,11 @@ unfolding ServerStates.neverCalled ServerStates.isFresh ServerStates.isRunning S
     ServerArrival.requestGround ServerArrival.oldGround ServerArrival.rowGround ServerArrival.agree ServerArrival.sameCall
     ServerArrival.callGround ServerArrival.contradictionGround ServerArrival.slotGround ServerArrival.pduGround ServerArrival.tableGround ServerRowFor.orderFor
     ServerRowFor.rowFor ServerArrival.arrivalGround
-    ServerLocal.runsAgain ServerLocal.armsResend ServerLocal.transmitGround ServerLocal.timerGround ServerLocal.replyGround
-    ServerPlan.refused ServerPlan.accepted ServerPlan.withOutgoing
+    ServerArming.runsAgain ServerArming.armsResend ServerLocal.transmitGround ServerLocal.timerGround ServerLocal.replyGround
+    ServerPlan.refused ServerPlan.accepted
     ServerRows.answered ServerRows.replyPlan ServerRows.settled ServerRows.transmitted ServerRows.transmitPlan ServerRows.rewinding
     ServerRows.replayHeld ServerRows.replayPlan ServerRows.timerPlan
-    ServerArrivalRows.callOf ServerArrivalRows.begun ServerArrivalRows.withIncoming ServerArrivalRows.putState ServerArrivalRows.putNotice
+    ServerArrivalRows.callOf ServerArrivalRows.begun ServerArrivalRows.putState ServerArrivalRows.putNotice
     ServerArrivalRows.fackFor ServerArrivalRows.putPlan ServerArrivalRows.requestPlan ServerArrivalRows.beginPlan
     ServerArrivalRows.workingPlan ServerArrivalRows.nocallPlan ServerArrivalRows.ackPlan
     ServerArrivalTable.arrivalRow ServerArrivalTable.arrivalPlan

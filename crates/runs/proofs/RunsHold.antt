@@ -4,6 +4,7 @@ use mathlib.Core.List.{List, [], _∷_}
 use mathlib.Core.Path.{_≡_, refl, ap, _∙_}
 use native.Mathlib.Omega.{arith}
 use lib.ListN.{length, length-replicate}
+use Rattle.words.specs.Sizes.{pduSize, slotsSize}
 use Rattle.client_record.specs.declared.State.the-variants.{AckPending, Complete}
 use Rattle.server_record.specs.declared.Idle.the-variants.{Spent, Repeatable}
 use Rattle.server_record.specs.declared.Reply.the-variants.{Data}
@@ -43,8 +44,8 @@ ran fresh plays handed = record {
 
 -- The first, for every request of 2,785 bytes and every reply of 2,786: the call is COMPLETE and the server spent,
 -- there is one dispatch, of the whole request, and the client hands up the whole reply.
-pub lossy-ran : (message reply clientSlots serverSlots out : List ℕ) → length message ≡ 2785 → length reply ≡ 2786 → length clientSlots ≡ 44544
-    → length serverSlots ≡ 44544 → length out ≡ 1472
+pub lossy-ran : (message reply clientSlots serverSlots out : List ℕ) → length message ≡ 2785 → length reply ≡ 2786 → length clientSlots ≡ slotsSize
+    → length serverSlots ≡ slotsSize → length out ≡ pduSize
     → Ran (before clientSlots serverSlots) (lossy message reply out) Complete (Idle Spent) (record { ordinal = 0; number = 0; call = called; bytes = message } ∷ [])
     (record { ordinal = 0; bytes = reply } ∷ []) reply
 lossy-ran message reply clientSlots serverSlots out asks replies clientRoom serverRoom room =
@@ -57,15 +58,15 @@ unfolding zeros
 zeros-long n = length-replicate n 0
 
 pub example-ran :
-    Ran (before (zeros 44544) (zeros 44544)) (lossy exampleMessage exampleReply (zeros 1472)) Complete (Idle Spent)
+    Ran (before (zeros slotsSize) (zeros slotsSize)) (lossy exampleMessage exampleReply (zeros pduSize)) Complete (Idle Spent)
     (record { ordinal = 0; number = 0; call = called; bytes = exampleMessage } ∷ []) (record { ordinal = 0; bytes = exampleReply } ∷ []) exampleReply
 unfolding exampleMessage exampleReply
 example-ran =
-    lossy-ran exampleMessage exampleReply (zeros 44544) (zeros 44544) (zeros 1472) refl refl (zeros-long 44544) (zeros-long 44544) (zeros-long 1472)
+    lossy-ran exampleMessage exampleReply (zeros slotsSize) (zeros slotsSize) (zeros pduSize) refl refl (zeros-long slotsSize) (zeros-long slotsSize) (zeros-long pduSize)
 
 -- The second: the call is COMPLETE and the server repeatable, there are two dispatches, each of the whole request,
 -- and the client hands up the reply to the second.
-pub twice-ran : (clientSlots serverSlots out : List ℕ) → length clientSlots ≡ 44544 → length serverSlots ≡ 44544 → length out ≡ 1472
+pub twice-ran : (clientSlots serverSlots out : List ℕ) → length clientSlots ≡ slotsSize → length serverSlots ≡ slotsSize → length out ≡ pduSize
     → Ran (before clientSlots serverSlots) (twice out) Complete (Idle Repeatable)
     (record { ordinal = 0; number = 0; call = asking; bytes = question } ∷ record { ordinal = 0; number = 0; call = asking; bytes = question } ∷ [])
     (record { ordinal = 0; bytes = secondReply } ∷ []) secondReply
@@ -75,7 +76,7 @@ twice-ran clientSlots serverSlots out clientRoom serverRoom room =
 
 -- The third goes on with the next call: it is dispatched once, after both of call 0, and complete with its own reply, though
 -- PDUs of call 0 came late.
-pub twice-and-next-ran : (clientSlots serverSlots out : List ℕ) → length clientSlots ≡ 44544 → length serverSlots ≡ 44544 → length out ≡ 1472
+pub twice-and-next-ran : (clientSlots serverSlots out : List ℕ) → length clientSlots ≡ slotsSize → length serverSlots ≡ slotsSize → length out ≡ pduSize
     → Ran (before clientSlots serverSlots) (twiceAndNext out) AckPending (Held Data)
     (record { ordinal = 0; number = 0; call = asking; bytes = question }
     ∷ record { ordinal = 0; number = 0; call = asking; bytes = question }

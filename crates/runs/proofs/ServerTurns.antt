@@ -3,6 +3,7 @@ use Prim.Native.Nat.{ℕ}
 use mathlib.Core.List.{List, [], _++_}
 use mathlib.Core.Path.{_≡_, refl, _∙_}
 use lib.ListN.{length}
+use Rattle.words.specs.Sizes.{pduSize, slotsSize}
 use Rattle.answers.specs.declared.Answer.{Answer}
 use Rattle.answers.specs.Number.{numberOf}
 use Rattle.pdu.specs.declared.Header.{Header}
@@ -42,7 +43,7 @@ abbrev serverDone : World → Plan → Header → List ℕ → List ℕ → List
 serverDone w plan h message out slots of = serverStep w (sending plan h message out .outcome) (sending plan h message out .out) slots of
 
 server-left : (w : World) (plan : Plan) (h : Header) (message out slots : List ℕ) (of : Subject) → Uuids (plan .server .activity) (plan .server .call)
-    → Uuids (plan .server .activity) (echoed h) → length out ≡ 1472
+    → Uuids (plan .server .activity) (echoed h) → length out ≡ pduSize
     → serverDone w plan h message out slots of ≡ serverLeft w plan h message slots of
 unfolding sending outcomeOf
 server-left w plan h message out slots of z y room = λ i. record {
@@ -58,19 +59,19 @@ server-left w plan h message out slots of z y room = λ i. record {
 
 -- The plan of a transmit of n bytes, of a timer event, and of an arriving PDU.
 abbrev pub serverTransmit : Server → ℕ → Plan
-serverTransmit s n = transmitPlan (transmitGround s n 1472) s
+serverTransmit s n = transmitPlan (transmitGround s n pduSize) s
 
 abbrev pub serverTime : Server → ℕ → Plan
-serverTime s ticket = timerPlan (timerGround s ticket 1472) s
+serverTime s ticket = timerPlan (timerGround s ticket pduSize) s
 
 abbrev pub serverArrival : Server → Header → List ℕ → Plan
-serverArrival s h body = planOf s (lentGround 44544 1472) (accepted h) body
+serverArrival s h body = planOf s (lentGround slotsSize pduSize) (accepted h) body
 
 -- What the arrival of a PDU with that header is of.
 abbrev ofHeader : World → ℕ → Header → Answer → Subject
 ofHeader w o h answer = record { ordinal = o; number = h .number; standing = standingAfter (w .books .standing) answer (h .kind) o }
 
-module _ (w : World) (out : List ℕ) (room : length out ≡ 1472) where
+module _ (w : World) (out : List ℕ) (room : length out ≡ pduSize) where
   -- A transmit, of a message of n bytes;
   pub server-transmits : (message : List ℕ) (n : ℕ) → length message ≡ n
       → Uuids (serverTransmit (w .server .machine) n .server .activity) (serverTransmit (w .server .machine) n .server .call)
@@ -99,7 +100,7 @@ module _ (w : World) (out : List ℕ) (room : length out ≡ 1472) where
   }
 
   -- a PDU that arrives.
-  pub server-arrives : {h : Header} {body : List ℕ} {o : ℕ} → Carried h body → length (w .server .slots) ≡ 44544
+  pub server-arrives : {h : Header} {body : List ℕ} {o : ℕ} → Carried h body → length (w .server .slots) ≡ slotsSize
       → Uuids (serverArrival (w .server .machine) h body .server .activity) (serverArrival (w .server .machine) h body .server .call)
       → Makes w (OfServer (ServerArrive (pduOf o (datagram h body)) Own out)) (numberOf (serverArrival (w .server .machine) h body .answer))
       (serverLeft w (serverArrival (w .server .machine) h body) h [] (storing (serverArrival (w .server .machine) h body .put) (h .fragment) body (w .server .slots))

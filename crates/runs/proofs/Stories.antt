@@ -8,6 +8,7 @@ use native.Mathlib.Omega.{arith}
 use lib.Dec.{ltb, eqb}
 use lib.ListN.{length, drop, getD}
 use borrow.Author.Tests.{ltb-true, eqb-false}
+use Rattle.words.specs.Sizes.{bodySize}
 use Rattle.answers.specs.declared.Answer.the-variants.{Done}
 use Rattle.answers.specs.Number.{numberOf}
 use Rattle.pdu.specs.declared.Header.{Header}
@@ -98,10 +99,10 @@ pub record Carried (h : Header) (body : List ℕ) : Type 0 where
   pub fits : Fits h
   pub known : h .kind ≤ 10
   pub plain : h .authentication ≡ 0
-  pub short : length body ≤ 1392
+  pub short : length body ≤ bodySize
 
 pub carried : (kind flags1 serial : ℕ) (activity : List ℕ) (boot number : ℕ) (call : Call) (fragment : ℕ) (body : List ℕ) → Typed call
-    → length activity ≡ 16 → (kind ≤ 10) × (serial < 65536) × (boot < 4294967296) × (number < 4294967296) × (fragment < 65536) → length body ≤ 1392
+    → length activity ≡ 16 → (kind ≤ 10) × (serial < 65536) × (boot < 4294967296) × (number < 4294967296) × (fragment < 65536) → length body ≤ bodySize
     → Carried (sentHeader kind flags1 serial activity boot number call fragment) body
 unfolding sentHeader
 carried kind flags1 serial activity boot number call fragment body typed whole small short = record {

@@ -5,6 +5,7 @@ use mathlib.Core.Path.{_≡_, refl, _∙_}
 use native.Mathlib.Omega.{arith}
 use lib.ListN.{length, take}
 use Rattle.words.specs.Number.{number}
+use Rattle.words.specs.Sizes.{bodySize, pduSize, slotsSize}
 use Rattle.bodies.specs.Fack.{fackBytes, fackSent}
 use Rattle.calls.specs.Sent.{sentHeader}
 use Rattle.incoming.specs.declared.Incoming.{Incoming}
@@ -46,7 +47,7 @@ typed : Typed asking
 typed = record { object = refl; interface = refl; version = omega arith; operation = omega arith }
 
 -- The run's PDUs arrive as they were written.
-came-with : (boot kind flags1 serial : ℕ) (body : List ℕ) → (boot < 65536) × (kind ≤ 10) × (serial < 65536) → length body ≤ 1392
+came-with : (boot kind flags1 serial : ℕ) (body : List ℕ) → (boot < 65536) × (kind ≤ 10) × (serial < 65536) → length body ≤ bodySize
     → Carried (sentHeader kind flags1 serial activity boot 0 asking 0) body
 came-with boot kind flags1 serial body small short = carried kind flags1 serial activity boot 0 asking 0 body typed refl (omega arith) short
 
@@ -57,29 +58,29 @@ called-uuids = record { activity-16 = refl; object-16 = refl; interface-16 = ref
 called-typed : Typed called
 called-typed = record { object = refl; interface = refl; version = omega arith; operation = omega arith }
 
-next-came : (boot kind flags1 serial : ℕ) (body : List ℕ) → (boot < 65536) × (kind ≤ 10) × (serial < 65536) → length body ≤ 1392
+next-came : (boot kind flags1 serial : ℕ) (body : List ℕ) → (boot < 65536) × (kind ≤ 10) × (serial < 65536) → length body ≤ bodySize
     → Carried (sentHeader kind flags1 serial activity boot 1 called 0) body
 next-came boot kind flags1 serial body small short = carried kind flags1 serial activity boot 1 called 0 body called-typed refl (omega arith) short
 
-module _ (clientSlots serverSlots out : List ℕ) (clientRoom : length clientSlots ≡ 44544) (serverRoom : length serverSlots ≡ 44544)
-    (room : length out ≡ 1472) where
+module _ (clientSlots serverSlots out : List ℕ) (clientRoom : length clientSlots ≡ slotsSize) (serverRoom : length serverSlots ≡ slotsSize)
+    (room : length out ≡ pduSize) where
   -- The server's slot buffer after each put, and the client's.
   abbrev v1 : List ℕ
   v1 = filled 0 question serverSlots
 
-  v1-long : length v1 ≡ 44544
+  v1-long : length v1 ≡ slotsSize
   v1-long = filled-length 0 question serverSlots ∙ serverRoom
 
   abbrev v2 : List ℕ
   v2 = filled 0 question v1
 
-  v2-long : length v2 ≡ 44544
+  v2-long : length v2 ≡ slotsSize
   v2-long = filled-length 0 question v1 ∙ v1-long
 
   abbrev u1 : List ℕ
   u1 = filled 0 secondReply clientSlots
 
-  u1-long : length u1 ≡ 44544
+  u1-long : length u1 ≡ slotsSize
   u1-long = filled-length 0 secondReply clientSlots ∙ clientRoom
 
   -- The first n PDUs of all that the client has sent, and the server.
@@ -165,7 +166,7 @@ module _ (clientSlots serverSlots out : List ℕ) (clientRoom : length clientSlo
   b6 bytes = onBooks (b1 .starts) (b5 .dispatches) (b5 .replies) (record { ordinal = 0; bytes = bytes } ∷ [])
 
   -- What the server hands up at each dispatch is the request,
-  question-whole : (slots : List ℕ) → length slots ≡ 44544 → serverHandsUp (s1 .machine) (filled 0 question slots) ≡ question
+  question-whole : (slots : List ℕ) → length slots ≡ slotsSize → serverHandsUp (s1 .machine) (filled 0 question slots) ≡ question
   unfolding opened serverHandsUp fragmentOf
   question-whole slots long =
       parts-joined (serverSound (s1 .machine)) (s1 .machine .incoming) (filled 0 question slots) refl
@@ -225,7 +226,7 @@ module _ (clientSlots serverSlots out : List ℕ) (clientRoom : length clientSlo
   abbrev v3 : List ℕ
   v3 = filled 0 question v2
 
-  v3-long : length v3 ≡ 44544
+  v3-long : length v3 ≡ slotsSize
   v3-long = filled-length 0 question v2 ∙ v2-long
 
   abbrev u2 : List ℕ

@@ -9,6 +9,7 @@ use lib.Dec.{eqb}
 use lib.ListN.{length}
 use Rattle.words.specs.Choice.{choose}
 use Rattle.words.specs.Place.{putAt}
+use Rattle.words.specs.Sizes.{bodySize, windowSize, slotsSize, lastNumber}
 use Rattle.words.proofs.Place.{placed-fits}
 use Rattle.answers.specs.declared.Answer.the-variants.{Done}
 use Rattle.answers.specs.declared.Ground.{Ground}
@@ -33,13 +34,13 @@ use Rattle.grounds.specs.Fack.{acknowledgedBy}
 use Rattle.grounds.proofs.GroundLaws.{lent-passes, body-length}
 use Rattle.server_record.specs.declared.Server.{Server}
 use Rattle.server_record.specs.Rules.{sound}
-use Rattle.server_record.specs.Record.{unarmed}
+use Rattle.server_record.specs.Record.{unarmed, withOutgoing}
 use Rattle.server_record.proofs.RuleLaws.{rules-told, count-most}
 use Rattle.server_rows.specs.declared.Row.{Row}
 use Rattle.server_rows.specs.declared.Row.the-variants.{Begin, Put, Acknowledge}
 use Rattle.server_rows.specs.Events.{eventOf}
 use Rattle.server_rows.specs.Rows.{rowFor}
-use Rattle.server_steps.specs.Plan.{accepted, withOutgoing}
+use Rattle.server_steps.specs.Plan.{accepted}
 use Rattle.server_steps.specs.Rows.{answered, replyPlan, transmitPlan}
 use Rattle.server_steps.proofs.StepLaws.{transmitted-one-more}
 use Rattle.server_arrivals.specs.Rows.{putPlan, requestPlan, beginPlan, fackPlan}
@@ -78,8 +79,8 @@ module _ (s : Server) (datagram slots out : List ℕ) (done : arriving s datagra
   -- It has entered and passed its row's judgement, and leaves what its row leaves.
   record Accepted : Type 0 where
     kept : sound s ≡ true
-    room : length slots ≡ 44544
-    short : length (bodyOf datagram) ≤ 1392
+    room : length slots ≡ slotsSize
+    short : length (bodyOf datagram) ≤ bodySize
     can : CanArrive s h
     leaves : (row : Row) → rowFor s h ≡ row → arriving s datagram slots out .outcome .server ≡ arrivalRow row s h n .server
     stores : (row : Row) → rowFor s h ≡ row
@@ -117,14 +118,14 @@ module _ (s : Server) (datagram slots out : List ℕ) (done : arriving s datagra
       (count-most (s .outgoing) (s .state) (rules-told s (a .kept) .outgoing))
 
   -- A body of a number at most 31 that is stored lies in its place of the slot buffer.
-  placed-whole : Accepted → h .fragment ≤ 31
-      → storing true (h .fragment) (bodyOf datagram) slots ≡ putAt (1392 * h .fragment) (bodyOf datagram) slots
+  placed-whole : Accepted → h .fragment ≤ lastNumber
+      → storing true (h .fragment) (bodyOf datagram) slots ≡ putAt (bodySize * h .fragment) (bodyOf datagram) slots
   unfolding storing choose
   placed-whole a number =
       let room = a .room in
       let short = a .short in
       filled-placed (h .fragment) (bodyOf datagram) slots room short (omega arith)
-      ∙ placed-fits (1392 * h .fragment) (bodyOf datagram) slots (omega arith)
+      ∙ placed-fits (bodySize * h .fragment) (bodyOf datagram) slots (omega arith)
 
   -- After a request that is put its slot has the length of its body,
   pub put-length : rowFor s h ≡ Put
@@ -138,7 +139,7 @@ module _ (s : Server) (datagram slots out : List ℕ) (done : arriving s datagra
       ∙ ap (λ (k : ℕ). stored (s .incoming) (h .fragment) k (isLast (h .flags1))) (body-length (bodyOf datagram) (a .short))
 
   -- it is held,
-  pub put-is-held : rowFor s h ≡ Put → length (s .incoming .slots) ≡ 32
+  pub put-is-held : rowFor s h ≡ Put → length (s .incoming .slots) ≡ windowSize
       → held (arriving s datagram slots out .outcome .server .incoming) (h .fragment) ≡ true
   put-is-held row long =
       let number = put-fits s h (accepted-so .can) row .0 in
@@ -146,7 +147,7 @@ module _ (s : Server) (datagram slots out : List ℕ) (done : arriving s datagra
       ∙ stored-held-same (s .incoming) (h .fragment) (length (bodyOf datagram)) (isLast (h .flags1)) (omega arith)
 
   -- and its body lies in its place;
-  pub put-bytes : rowFor s h ≡ Put → arriving s datagram slots out .slots ≡ putAt (1392 * h .fragment) (bodyOf datagram) slots
+  pub put-bytes : rowFor s h ≡ Put → arriving s datagram slots out .slots ≡ putAt (bodySize * h .fragment) (bodyOf datagram) slots
   unfolding arrivalRow requestPlan putPlan
   put-bytes row =
       let a = accepted-so in
@@ -169,7 +170,7 @@ module _ (s : Server) (datagram slots out : List ℕ) (done : arriving s datagra
       ap (λ (m : Incoming). held m (h .fragment)) (begin-length row)
       ∙ stored-held-same cleared (h .fragment) (length (bodyOf datagram)) (isLast (h .flags1)) (omega (arith, cleared-length))
 
-  pub begin-bytes : rowFor s h ≡ Begin → arriving s datagram slots out .slots ≡ putAt (1392 * h .fragment) (bodyOf datagram) slots
+  pub begin-bytes : rowFor s h ≡ Begin → arriving s datagram slots out .slots ≡ putAt (bodySize * h .fragment) (bodyOf datagram) slots
   unfolding arrivalRow beginPlan requestPlan putPlan
   begin-bytes row =
       let a = accepted-so in

@@ -5,6 +5,7 @@ use mathlib.Core.Path.{_≡_, refl, subst}
 use native.Mathlib.Omega.{arith}
 use lib.Dec.{leb}
 use Rattle.words.specs.Choice.{choose, both}
+use Rattle.words.specs.Sizes.{retryLimit}
 use Rattle.incoming.specs.declared.Incoming.{Incoming}
 use Rattle.incoming.specs.Slots.{cleared, complete, stored, sound as incomingSound}
 use Rattle.outgoing.specs.Sending.{bounded, hasMessage, hasNothing, noMessage, acknowledgedTo}
@@ -16,14 +17,14 @@ use Rattle.server_record.specs.declared.State.{State}
 use Rattle.server_record.specs.declared.State.the-variants.{Collect, Running}
 use Rattle.server_record.specs.declared.Server.{Server}
 use Rattle.server_record.specs.Rules.{messageRule, outgoingSound, sound}
-use Rattle.server_record.specs.Record.{unarmed}
+use Rattle.server_record.specs.Record.{unarmed, withOutgoing, withIncoming}
 use Rattle.server_record.proofs.RuleLaws.{rules-told, rules-hold, out-told, out-holds, collect-told, count-most}
 use Rattle.server_record.proofs.RecordLaws.{unarmed-sound, spent-sound}
-use Rattle.server_steps.specs.Plan.{accepted, withOutgoing}
-use Rattle.server_arrivals.specs.Rows.{begun, withIncoming, putState, putPlan, requestPlan, beginPlan, workingPlan, nocallPlan, fackPlan, ackPlan}
+use Rattle.server_steps.specs.Plan.{accepted}
+use Rattle.server_arrivals.specs.Rows.{begun, putState, putPlan, requestPlan, beginPlan, workingPlan, nocallPlan, fackPlan, ackPlan}
 
 -- A request is put where no message is out: to COLLECT, or to RUNNING where all is held.
-module _ (s : Server) (m : Incoming) (count : leb (s .resends) 5 ≡ true) (out : outgoingSound Collect (s .outgoing) ≡ true)
+module _ (s : Server) (m : Incoming) (count : leb (s .resends) retryLimit ≡ true) (out : outgoingSound Collect (s .outgoing) ≡ true)
     (right : incomingSound m ≡ true) where
   -- In both states the message is right,
   put-out : (all : Bool) → outgoingSound (putState all) (s .outgoing) ≡ true

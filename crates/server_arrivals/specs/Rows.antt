@@ -18,11 +18,11 @@ use Rattle.server_record.specs.declared.Idle.the-variants.{Spent}
 use Rattle.server_record.specs.declared.State.{State}
 use Rattle.server_record.specs.declared.State.the-variants.{Idle as IdleState, Collect, Running}
 use Rattle.server_record.specs.declared.Server.{Server}
-use Rattle.server_record.specs.Record.{unarmed}
+use Rattle.server_record.specs.Record.{unarmed, withOutgoing, withIncoming, withCall}
 use Rattle.server_steps.specs.declared.Send.{Send}
 use Rattle.server_steps.specs.declared.Send.the-variants.{Nothing, Working, Nocall, Fack}
 use Rattle.server_steps.specs.declared.Plan.{Plan}
-use Rattle.server_steps.specs.Plan.{accepted, withOutgoing}
+use Rattle.server_steps.specs.Plan.{accepted}
 
 -- The call that a request carries.
 unfoldable pub callOf : Header → Call
@@ -36,33 +36,7 @@ callOf h = record {
 
 -- Begin: the request's number and call; serial, all counts, slots and known last reset; COLLECT, nothing armed.
 unfoldable pub begun : Server → Header → Server
-begun s h = record {
-  state = Collect;
-  activity = s .activity;
-  boot = s .boot;
-  number = h .number;
-  call = callOf h;
-  outgoing = noMessage 0;
-  incoming = cleared;
-  resends = 0;
-  tickets = s .tickets;
-  resend = Off;
-}
-
--- The record with other fragments held.
-unfoldable pub withIncoming : Server → Incoming → Server
-withIncoming s m = record {
-  state = s .state;
-  activity = s .activity;
-  boot = s .boot;
-  number = s .number;
-  call = s .call;
-  outgoing = s .outgoing;
-  incoming = m;
-  resends = s .resends;
-  tickets = s .tickets;
-  resend = s .resend;
-}
+begun s h = withCall s Collect (h .number) (callOf h)
 
 -- All to the last held: to RUNNING; else COLLECT.
 unfoldable pub putState : Bool → State

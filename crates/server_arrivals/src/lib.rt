@@ -11,9 +11,9 @@ use server_record::State;
 use server_rows::Row;
 use server_steps::Plan;
 use server_steps::Send;
-use timers::Timer;
 ghost use mathlib.Core.Path.{_≡_};
-ghost use Rattle.server_arrivals.specs.Rows.{callOf, begun as begunRecord, withIncoming, putState, putNotice, fackFor, putPlan, requestPlan, beginPlan, fackPlan, ackPlan};
+ghost use Rattle.server_record.specs.Record.{withIncoming};
+ghost use Rattle.server_arrivals.specs.Rows.{callOf, begun as begunRecord, putState, putNotice, fackFor, putPlan, requestPlan, beginPlan, fackPlan, ackPlan};
 ghost use Rattle.server_arrivals.specs.Table.{arrivalRow, arrivalPlan};
 
 // The call that a request carries.
@@ -35,28 +35,7 @@ fn call_of(h: Header) -> Call
 fn begun(s: Server, h: Header) -> Server
     ensures { λ r. ⌜ r ≡ begunRecord s h ⌝ }
 {
-    let activity = s.activity;
-    Server {
-        state: State::Collect,
-        activity,
-        boot: s.boot,
-        number: h.number,
-        call: call_of(h),
-        outgoing: outgoing::nothing(0),
-        incoming: incoming::empty(),
-        resends: 0,
-        tickets: s.tickets,
-        resend: Timer::Off,
-    }
-}
-
-// The record with other fragments held.
-fn with_incoming(s: Server, m: Incoming) -> Server
-    ensures { λ r. ⌜ r ≡ withIncoming s m ⌝ }
-{
-    let mut next = s;
-    next.incoming = m;
-    next
+    server_record::with_call(s, State::Collect, h.number, call_of(h))
 }
 
 // The state after a put.
@@ -94,7 +73,7 @@ fn put(s: Server, m: Incoming, flags1: u8, serial: u16) -> Plan
     ensures { λ r. ⌜ r ≡ putPlan s m flags1 serial ⌝ }
 {
     let complete = incoming::is_complete(m);
-    let server = with_incoming(server_record::to_unarmed(s, put_state(complete)), m);
+    let server = server_record::with_incoming(server_record::to_unarmed(s, put_state(complete)), m);
     let send = fack_for(grounds::wants_fack(flags1), serial);
     let notice = put_notice(complete);
     Plan {
@@ -128,7 +107,7 @@ fn fack(s: Server, g: u16) -> Plan
 {
     let o = s.outgoing;
     let count = grounds::acknowledged_by(g);
-    let next = server_steps::with_outgoing(s, outgoing::acknowledge(o, count));
+    let next = server_record::with_outgoing(s, outgoing::acknowledge(o, count));
     server_steps::accepted(next, Send::Nothing)
 }
 

@@ -11,6 +11,7 @@ use lib.ListN.{length, getD, drop}
 use Rattle.words.specs.Choice.{choose}
 use Rattle.words.specs.Number.{number}
 use Rattle.words.specs.Place.{placed}
+use Rattle.words.specs.Sizes.{windowSize}
 use Rattle.record_bytes.specs.Canonical.{SharedUnjudged, SameButAt}
 use Rattle.record_bytes.specs.Parts.{clear}
 use Rattle.record_bytes.specs.Layout.{fieldsIn}
@@ -122,6 +123,6 @@ module _ (b : List ℕ) (size : length b ≡ 272) where
       inr (other, low, omega (arith, high, width)))
 
   -- Any 2 bytes as the length of a slot that is not held.
-  pub length-any : (f : ℕ) (two : List ℕ) → f < 32 → length two ≡ 2 → getD b (4 * f + 146) 0 ≡ 0
+  pub length-any : (f : ℕ) (two : List ℕ) → f < windowSize → length two ≡ 2 → getD b (4 * f + 146) 0 ≡ 0
       → (readable (placed (4 * f + 144) two b) ≡ readable b) × (serverIn (placed (4 * f + 144) two b) ≡ serverIn b)
   length-any = slot-length-any readable serverIn Unjudged both-alike shared b size

@@ -5,6 +5,7 @@ use mathlib.Core.List.{List}
 use mathlib.Core.Path.{_≡_, refl}
 use lib.Dec.{leb}
 use Rattle.words.specs.Choice.{choose, both}
+use Rattle.words.specs.Sizes.{retryLimit}
 use Rattle.incoming.specs.declared.Incoming.{Incoming}
 use Rattle.incoming.specs.Slots.{sound as incomingSound}
 use Rattle.incoming.proofs.SlotLaws.{cleared-sound}
@@ -24,7 +25,7 @@ use Rattle.server_record.proofs.RuleLaws.{rules-told, rules-hold, spent
 
 -- What no timer touches, for a state to go to: the count, the message, the fragments held.
 pub record Untimed (state : State) (resends : ℕ) (o : Outgoing) (m : Incoming) : Type 0 where
-  pub count : leb resends 5 ≡ true
+  pub count : leb resends retryLimit ≡ true
   pub outgoing : outgoingSound state o ≡ true
   pub held : incomingSound m ≡ true
 

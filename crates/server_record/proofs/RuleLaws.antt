@@ -1,11 +1,12 @@
 -- What a record that keeps its rules is known to be.
-use Prim.Native.Nat.{ℕ, _≤_, _<_}
+use Prim.Native.Nat.{ℕ, _+_, _≤_, _<_}
 use mathlib.Core.Bool.{Bool, true, false, false≢true}
 use mathlib.Core.Path.{_≡_, refl, subst}
 use native.Mathlib.Omega.{arith}
 use lib.Dec.{ltb, leb}
 use borrow.Author.Tests.{ltb-true, lt-ltb, eqb-true}
 use Rattle.words.specs.Choice.{choose, both, either}
+use Rattle.words.specs.Sizes.{lastNumber, retryLimit}
 use Rattle.words.proofs.Tests.{both-true, both-hold}
 use Rattle.incoming.specs.Slots.{sound as incomingSound}
 use Rattle.outgoing.specs.declared.Outgoing.{Outgoing}
@@ -25,7 +26,7 @@ use Rattle.server_record.proofs.StateLaws.{idle-state}
 
 -- The four rules of a record, one by one,
 pub record Rules (s : Server) : Type 0 where
-  pub count : leb (s .resends) 5 ≡ true
+  pub count : leb (s .resends) retryLimit ≡ true
   pub outgoing : outgoingSound (s .state) (s .outgoing) ≡ true
   pub incoming : incomingSound (s .incoming) ≡ true
   pub timer : timerSound (isHeld (s .state)) (s .resend) (s .tickets) ≡ true
@@ -34,7 +35,7 @@ pub record Rules (s : Server) : Type 0 where
 pub rules-told : (s : Server) → sound s ≡ true → Rules s
 unfolding sound
 rules-told s e0 =
-    let e1 = both-true (leb (s .resends) 5) _ e0 in
+    let e1 = both-true (leb (s .resends) retryLimit) _ e0 in
     let e2 = both-true (outgoingSound (s .state) (s .outgoing)) _ (e1 .1) in
     let e3 = both-true (incomingSound (s .incoming)) (timerSound (isHeld (s .state)) (s .resend) (s .tickets)) (e2 .1) in
     record { count = e1 .0; outgoing = e2 .0; incoming = e3 .0; timer = e3 .1 }
@@ -126,11 +127,11 @@ module _ (o : Outgoing) where
   repeatable-holds state e = out-holds (IdleState Repeatable) (out-told state e .0) (one-told state (out-told state e .1))
 
   -- and it has at most 32 fragments.
-  pub count-most : (state : State) → outgoingSound state o ≡ true → o .count ≤ 32
+  pub count-most : (state : State) → outgoingSound state o ≡ true → o .count ≤ lastNumber + 1
   unfolding either choose hasNothing
   count-most state e = by-nothing (hasNothing o) refl (one-told state (out-told state e .1))
     where
-      by-nothing : (t : Bool) → hasNothing o ≡ t → choose t true (hasMessage o) ≡ true → o .count ≤ 32
+      by-nothing : (t : Bool) → hasNothing o ≡ t → choose t true (hasMessage o) ≡ true → o .count ≤ lastNumber + 1
       by-nothing true none one = let zero-count : o .count ≡ 0 = eqb-true (o .count) 0 none in omega arith
       by-nothing false none one = message-count-range o one .1
 

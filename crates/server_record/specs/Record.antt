@@ -1,8 +1,11 @@
--- A fresh record, and the two ways in which a row moves its timer.
+-- A fresh record, the two ways in which a row leaves its timer, and the record with another part.
 use Prim.Native.Nat.{ℕ}
 use mathlib.Core.List.{List}
+use Rattle.calls.specs.declared.Call.{Call}
 use Rattle.calls.specs.Sent.{blankCall}
+use Rattle.outgoing.specs.declared.Outgoing.{Outgoing}
 use Rattle.outgoing.specs.Sending.{noMessage}
+use Rattle.incoming.specs.declared.Incoming.{Incoming}
 use Rattle.incoming.specs.Slots.{cleared}
 use Rattle.timers.specs.declared.Timer.{Timer}
 use Rattle.timers.specs.declared.Timer.the-variants.{Off}
@@ -50,3 +53,65 @@ holding s reply = timed s (Held reply) (nextTicket (s .tickets)) (armedAfresh (s
 -- To a state with nothing armed.
 unfoldable pub unarmed : Server → State → Server
 unarmed s state = timed s state (s .tickets) Off
+
+-- The record with another message sent.
+unfoldable pub withOutgoing : Server → Outgoing → Server
+withOutgoing s o = record {
+  state = s .state;
+  activity = s .activity;
+  boot = s .boot;
+  number = s .number;
+  call = s .call;
+  outgoing = o;
+  incoming = s .incoming;
+  resends = s .resends;
+  tickets = s .tickets;
+  resend = s .resend;
+}
+
+-- The record with other fragments held.
+unfoldable pub withIncoming : Server → Incoming → Server
+withIncoming s m = record {
+  state = s .state;
+  activity = s .activity;
+  boot = s .boot;
+  number = s .number;
+  call = s .call;
+  outgoing = s .outgoing;
+  incoming = m;
+  resends = s .resends;
+  tickets = s .tickets;
+  resend = s .resend;
+}
+
+-- The record with another RESEND count.
+unfoldable pub withResends : Server → ℕ → Server
+withResends s resends = record {
+  state = s .state;
+  activity = s .activity;
+  boot = s .boot;
+  number = s .number;
+  call = s .call;
+  outgoing = s .outgoing;
+  incoming = s .incoming;
+  resends = resends;
+  tickets = s .tickets;
+  resend = s .resend;
+}
+
+
+-- Another call in place of the last one, of which nothing stays: its number and data; no message, counts 0, slots and
+-- known last forgotten, nothing armed.
+abbrev pub withCall : Server → State → ℕ → Call → Server
+withCall s state number call = record {
+  state = state;
+  activity = s .activity;
+  boot = s .boot;
+  number = number;
+  call = call;
+  outgoing = noMessage 0;
+  incoming = cleared;
+  resends = 0;
+  tickets = s .tickets;
+  resend = Off;
+}

@@ -2,6 +2,7 @@
 use mathlib.Core.Bool.{Bool}
 use lib.Dec.{ltb, leb}
 use Rattle.words.specs.Choice.{both, either}
+use Rattle.words.specs.Sizes.{retryLimit}
 use Rattle.outgoing.specs.declared.Outgoing.{Outgoing}
 use Rattle.outgoing.specs.Sending.{bounded, hasMessage, hasNothing}
 use Rattle.incoming.specs.Slots.{sound as incomingSound}
@@ -42,7 +43,7 @@ outgoingSound state o =
 -- The record keeps its rules: the count at most 5, the message sent, the fragments held, and RESEND armed only in HELD.
 unfoldable pub sound : Server → Bool
 sound s =
-    both (leb (s .resends) 5)
+    both (leb (s .resends) retryLimit)
     (both (outgoingSound (s .state) (s .outgoing))
     (both (incomingSound (s .incoming))
     (timerSound (isHeld (s .state)) (s .resend) (s .tickets))))

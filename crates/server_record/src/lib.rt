@@ -1,13 +1,15 @@
-// The server's record: what a controller keeps of an activity, the rules that a record keeps, and the
-// two ways in which a row leaves its timer.
+// The server's record: what a controller keeps of an activity, the rules that a record keeps, the two
+// ways in which a row leaves its timer, the record with another part, and when a row arms the timer.
 use calls::Call;
 use incoming::Incoming;
 use outgoing::Outgoing;
 use timers::Timer;
+use words::RETRY_LIMIT;
 ghost use mathlib.Core.Path.{_≡_};
 ghost use Rattle.server_record.specs.States.{neverCalled, isFresh, isRunning, isReplying, isHeld};
 ghost use Rattle.server_record.specs.Rules.{idleRule, heldRule, messageRule, outgoingSound, sound};
-ghost use Rattle.server_record.specs.Record.{fresh as freshRecord, timed, holding, unarmed};
+ghost use Rattle.server_record.specs.Record.{fresh as freshRecord, timed, holding, unarmed, withOutgoing, withIncoming, withResends, withCall};
+ghost use Rattle.server_record.specs.Arming.{runsAgain, armsResend, heldArmsAgain, armsAgain};
 
 // What became of the last call.
 pub enum Idle {
@@ -168,7 +170,7 @@ pub fn is_sound(s: Server) -> bool
     let named = is_held(state);
     let timing = timers::is_sound_where(named, resend, s.tickets);
     words::both(
-        s.resends <= 5,
+        s.resends <= RETRY_LIMIT,
         words::both(sending, words::both(receiving, timing)),
     )
 }
@@ -227,4 +229,88 @@ pub fn to_unarmed(s: Server, state: State) -> Server
     ensures { λ r. ⌜ r ≡ unarmed s state ⌝ }
 {
     with_timer(s, state, s.tickets, Timer::Off)
+}
+
+// The record with another message sent.
+pub fn with_outgoing(s: Server, o: Outgoing) -> Server
+    ensures { λ r. ⌜ r ≡ withOutgoing s o ⌝ }
+{
+    let mut next = s;
+    next.outgoing = o;
+    next
+}
+
+// The record with other fragments held.
+pub fn with_incoming(s: Server, m: Incoming) -> Server
+    ensures { λ r. ⌜ r ≡ withIncoming s m ⌝ }
+{
+    let mut next = s;
+    next.incoming = m;
+    next
+}
+
+// The record with another RESEND count.
+pub fn with_resends(s: Server, resends: u8) -> Server
+    ensures { λ r. ⌜ r ≡ withResends s resends ⌝ }
+{
+    let mut next = s;
+    next.resends = resends;
+    next
+}
+
+// Another call in place of the last one, of which nothing stays.
+pub fn with_call(s: Server, state: State, number: u32, call: Call) -> Server
+    ensures { λ r. ⌜ r ≡ withCall s state number call ⌝ }
+{
+    let activity = s.activity;
+    Server {
+        state,
+        activity,
+        boot: s.boot,
+        number,
+        call,
+        outgoing: outgoing::nothing(0),
+        incoming: incoming::empty(),
+        resends: 0,
+        tickets: s.tickets,
+        resend: Timer::Off,
+    }
+}
+
+// Whether an idempotent call with this reply can be run again.
+pub fn runs_again(idempotent: bool, o: Outgoing) -> bool
+    ensures { λ r. ⌜ r ≡ runsAgain idempotent o ⌝ }
+{
+    words::both(idempotent, o.count == 1)
+}
+
+// Whether the next fragment arms RESEND.
+pub fn arms_resend(idempotent: bool, o: Outgoing) -> bool
+    ensures { λ r. ⌜ r ≡ armsResend idempotent o ⌝ }
+{
+    let again = runs_again(idempotent, o);
+    words::both(outgoing::sends_last(o), !again)
+}
+
+// Whether replaying what is held arms RESEND afresh.
+fn held_arms_again(reply: Reply, below: bool) -> bool
+    ensures { λ r. ⌜ r ≡ heldArmsAgain reply below ⌝ }
+{
+    match reply {
+        Reply::Data => false,
+        Reply::Fault(status) => below,
+    }
+}
+
+// Whether RESEND's row arms it afresh.
+pub fn arms_again(state: State, below: bool) -> bool
+    ensures { λ r. ⌜ r ≡ armsAgain state below ⌝ }
+{
+    match state {
+        State::Idle(idle) => false,
+        State::Collect => false,
+        State::Running => false,
+        State::Replying => false,
+        State::Held(reply) => held_arms_again(reply, below),
+    }
 }

@@ -4,14 +4,16 @@
 use answers::Answer;
 use answers::Ground;
 use calls::Notice;
-use outgoing::Outgoing;
 use server_record::Idle;
 use server_record::Reply;
 use server_record::Server;
 use server_record::State;
+use words::RETRY_LIMIT;
 ghost use mathlib.Core.Path.{_≡_};
 ghost use Prim.Native.Nat.{_<_};
-ghost use Rattle.server_steps.specs.Plan.{refused as refusedPlan, accepted as acceptedPlan, withOutgoing, withResends};
+ghost use Rattle.server_record.specs.Record.{withOutgoing, withResends};
+ghost use Rattle.words.specs.Sizes.{retryLimit};
+ghost use Rattle.server_steps.specs.Plan.{refused as refusedPlan, accepted as acceptedPlan};
 ghost use Rattle.server_steps.specs.Rows.{answered as answeredRecord, replyPlan, settled as settledRecord, transmitted as transmittedRecord, transmitPlan, faultPlan, rewinding as rewindingRecord, replayHeld, replayPlan, resendHeld, resendRow, timerRow, timerPlan};
 
 // What is to be sent: nothing, the response's fragment of that number, a fault with its status, and
@@ -61,30 +63,12 @@ pub fn accepted(s: Server, send: Send) -> Plan
     }
 }
 
-// The record with another message sent.
-pub fn with_outgoing(s: Server, o: Outgoing) -> Server
-    ensures { λ r. ⌜ r ≡ withOutgoing s o ⌝ }
-{
-    let mut next = s;
-    next.outgoing = o;
-    next
-}
-
-// The record with another RESEND count.
-fn with_resends(s: Server, resends: u8) -> Server
-    ensures { λ r. ⌜ r ≡ withResends s resends ⌝ }
-{
-    let mut next = s;
-    next.resends = resends;
-    next
-}
-
 // The record of a reply that was given.
 fn answered(s: Server, length: u32) -> Server
     ensures { λ r. ⌜ r ≡ answeredRecord s length ⌝ }
 {
     let o = s.outgoing;
-    let next = with_outgoing(s, outgoing::reply(o, length));
+    let next = server_record::with_outgoing(s, outgoing::reply(o, length));
     server_record::to_unarmed(next, State::Replying)
 }
 
@@ -114,9 +98,9 @@ fn transmitted(last: bool, s: Server) -> Server
 {
     let o = s.outgoing;
     let call = s.call;
-    let next = with_outgoing(s, outgoing::after_send(o));
+    let next = server_record::with_outgoing(s, outgoing::after_send(o));
     if last {
-        let again = server_table::runs_again(call.idempotent, o);
+        let again = server_record::runs_again(call.idempotent, o);
         return settled(again, next, Reply::Data);
     }
     next
@@ -153,7 +137,7 @@ fn rewinding(s: Server) -> Server
     ensures { λ r. ⌜ r ≡ rewindingRecord s ⌝ }
 {
     let o = s.outgoing;
-    let next = with_outgoing(s, outgoing::rewind(o));
+    let next = server_record::with_outgoing(s, outgoing::rewind(o));
     server_record::to_unarmed(next, State::Replying)
 }
 
@@ -182,10 +166,10 @@ pub fn replay(state: State, s: Server) -> Plan
 
 // RESEND below its limit: the count goes up and what is held is replayed.
 fn resend_held(s: Server, reply: Reply) -> Plan
-    requires { ⌜ s .resends < 5 ⌝ }
+    requires { ⌜ s .resends < retryLimit ⌝ }
     ensures { λ r. ⌜ r ≡ resendHeld s reply ⌝ }
 {
-    let next = with_resends(s, s.resends + 1);
+    let next = server_record::with_resends(s, s.resends + 1);
     match reply {
         Reply::Data => accepted(rewinding(next), Send::Nothing),
         Reply::Fault(status) => accepted(
@@ -199,7 +183,7 @@ fn resend_held(s: Server, reply: Reply) -> Plan
 fn resend(s: Server, reply: Reply) -> Plan
     ensures { λ r. ⌜ r ≡ resendRow s reply ⌝ }
 {
-    if s.resends < 5 {
+    if s.resends < RETRY_LIMIT {
         return resend_held(s, reply);
     }
     accepted(

@@ -4,7 +4,6 @@ use answers::Answer;
 use answers::Ground;
 use calls::Call;
 use incoming::Incoming;
-use outgoing::MESSAGE_SIZE;
 use outgoing::Outgoing;
 use pdu::Header;
 use reader::Reading;
@@ -14,10 +13,13 @@ use server_record::State;
 use server_rows::Event;
 use server_rows::Order;
 use server_rows::Row;
+use words::MESSAGE_SIZE;
+use words::RETRY_LIMIT;
 ghost use mathlib.Core.Path.{_≡_};
+ghost use Rattle.server_record.specs.Arming.{runsAgain, armsResend, heldArmsAgain, armsAgain};
 ghost use Rattle.server_table.specs.Events.{byEvent, sideGround};
 ghost use Rattle.server_table.specs.Arrival.{requestGround, oldGround, rowGround, agree, sameCall, callGround, contradictionGround, slotGround, pduGround, tableGround, arrivalGround};
-ghost use Rattle.server_table.specs.Local.{runsAgain, armsResend, transmitGround, heldArmsAgain, armsAgain, timerGround, replyGround, faultGround};
+ghost use Rattle.server_table.specs.Local.{transmitGround, timerGround, replyGround, faultGround};
 
 // What is judged of a request and of a fack.
 fn by_event(event: Event, request: Ground, fack: Ground) -> Ground
@@ -198,21 +200,6 @@ pub fn arrival(s: Server, lent: Ground, reading: Reading, body: &[u8]) -> Ground
     grounds::first_of(entry, grounds::first_of(pdu, table))
 }
 
-// Whether an idempotent call with this reply can be run again.
-pub fn runs_again(idempotent: bool, o: Outgoing) -> bool
-    ensures { λ r. ⌜ r ≡ runsAgain idempotent o ⌝ }
-{
-    words::both(idempotent, o.count == 1)
-}
-
-// Whether the next fragment arms RESEND.
-fn arms_resend(idempotent: bool, o: Outgoing) -> bool
-    ensures { λ r. ⌜ r ≡ armsResend idempotent o ⌝ }
-{
-    let again = runs_again(idempotent, o);
-    words::both(outgoing::sends_last(o), !again)
-}
-
 // The ground of a transmit.
 pub fn transmit(s: Server, message: usize, out: usize) -> Ground
     ensures { λ r. ⌜ r ≡ transmitGround s message out ⌝ }
@@ -225,34 +212,11 @@ pub fn transmit(s: Server, message: usize, out: usize) -> Ground
     let sound = server_record::is_sound(s);
     let rules = grounds::refuse_if(!sound, Answer::BrokenRecord);
     let row = grounds::refuse_if(!replying, Answer::NoRow);
-    let ticket = grounds::tickets(arms_resend(call.idempotent, o), s.tickets);
+    let ticket = grounds::tickets(server_record::arms_resend(call.idempotent, o), s.tickets);
     grounds::first_of(
         lent,
         grounds::first_of(rules, grounds::first_of(row, ticket)),
     )
-}
-
-// Whether replaying what is held arms RESEND afresh.
-fn held_arms_again(reply: Reply, below: bool) -> bool
-    ensures { λ r. ⌜ r ≡ heldArmsAgain reply below ⌝ }
-{
-    match reply {
-        Reply::Data => false,
-        Reply::Fault(status) => below,
-    }
-}
-
-// Whether RESEND's row arms it afresh.
-fn arms_again(state: State, below: bool) -> bool
-    ensures { λ r. ⌜ r ≡ armsAgain state below ⌝ }
-{
-    match state {
-        State::Idle(idle) => false,
-        State::Collect => false,
-        State::Running => false,
-        State::Replying => false,
-        State::Held(reply) => held_arms_again(reply, below),
-    }
 }
 
 // The ground of the RESEND timer.
@@ -261,13 +225,13 @@ pub fn timer(s: Server, ticket: u64, out: usize) -> Ground
 {
     let state = s.state;
     let resend = s.resend;
-    let lent = grounds::refuse_if(out != pdu::PDU_SIZE, Answer::WrongLength);
+    let lent = grounds::refuse_if(out != words::PDU_SIZE, Answer::WrongLength);
     let sound = server_record::is_sound(s);
     let rules = grounds::refuse_if(!sound, Answer::BrokenRecord);
     let held = server_record::is_held(state);
     let row = grounds::refuse_if(!held, Answer::NoRow);
     let late = grounds::late(resend, ticket);
-    let fresh = grounds::tickets(arms_again(state, s.resends < 5), s.tickets);
+    let fresh = grounds::tickets(server_record::arms_again(state, s.resends < RETRY_LIMIT), s.tickets);
     let rest = grounds::first_of(row, grounds::first_of(late, fresh));
     grounds::first_of(lent, grounds::first_of(rules, rest))
 }
@@ -291,7 +255,7 @@ pub fn fault(s: Server, out: usize) -> Ground
 {
     let state = s.state;
     let call = s.call;
-    let lent = grounds::refuse_if(out != pdu::PDU_SIZE, Answer::WrongLength);
+    let lent = grounds::refuse_if(out != words::PDU_SIZE, Answer::WrongLength);
     let sound = server_record::is_sound(s);
     let rules = grounds::refuse_if(!sound, Answer::BrokenRecord);
     let running = server_record::is_running(state);

@@ -20,6 +20,7 @@ use Rattle.reader.specs.declared.Reading.{Reading}
 use Rattle.pdu.specs.Header.{uuidAt, headerOf, frontBytes, numberBytes, hintBytes, backBytes, headerBytes, datagram, bodyOf}
 use Rattle.reader.specs.Reading.{represents, orderIs, groundBy, readBy, reading}
 use Rattle.words.specs.Place.{placed}
+use Rattle.words.specs.Sizes.{headerSize, bodySize, pduSize}
 use Rattle.words.proofs.Place.{placed-front}
 use Rattle.writer.specs.Writing.{writeGround, writeBy, writing}
 use Rattle.pdu.proofs.HeaderLaws.{same-header}
@@ -73,16 +74,16 @@ header-spelled h body f =
     (value-bytes 2 true (h .operation) (f .operation)) (value-bytes 2 true (h .ihint) (f .ihint)) (value-bytes 2 true (h .ahint) (f .ahint))
     (value-bytes 2 true (h .fragment) (f .fragment)) refl
 
-ground-spelled : (h : Header) (body : List ℕ) → h .kind ≤ 10 → h .authentication ≡ 0 → length body ≤ 1392
+ground-spelled : (h : Header) (body : List ℕ) → h .kind ≤ 10 → h .authentication ≡ 0 → length body ≤ bodySize
     → groundBy (datagram (spelled h) body) true false ≡ Pass
 unfolding groundBy either choose datagram headerBytes spelled number
 ground-spelled h body k a n =
     let told : number 2 true (datagram (spelled h) body) 74 ≡ length body = value-bytes 2 true (length body) (omega arith) in
-    let size : length (datagram (spelled h) body) ≡ 80 + length body =
+    let size : length (datagram (spelled h) body) ≡ headerSize + length body =
     length-datagram (spelled h) body (record { object = refl; interface = refl; activity = refl }) in
     readable-passes (length (datagram (spelled h) body)) 4 (h .kind) true (h .authentication) (number 2 true (datagram (spelled h) body) 74)
     (record {
-      whole = size ∙ ap (λ (m : ℕ). 80 + m) (sym told);
+      whole = size ∙ ap (λ (m : ℕ). headerSize + m) (sym told);
       version-4 = refl;
       known-type = k;
       known-order = refl;
@@ -98,7 +99,7 @@ order-spelled : (h : Header) (body : List ℕ) → (orderIs 16 (datagram (spelle
 unfolding orderIs represents both choose datagram headerBytes spelled
 order-spelled h body = (refl, refl)
 
-reading-spelled : (h : Header) (body : List ℕ) → Fits h → h .kind ≤ 10 → h .authentication ≡ 0 → length body ≤ 1392
+reading-spelled : (h : Header) (body : List ℕ) → Fits h → h .kind ≤ 10 → h .authentication ≡ 0 → length body ≤ bodySize
     → reading (datagram (spelled h) body) ≡ accepted (spelled h)
 unfolding reading readBy
 reading-spelled h body f k a n =
@@ -106,7 +107,7 @@ reading-spelled h body f k a n =
     rw (order .0, order .1, ground-spelled h body k a n, header-spelled h body f)
 
 -- Reading what was written gives back the header,
-pub read-written : (h : Header) (body : List ℕ) → Fits h → h .kind ≤ 10 → h .authentication ≡ 0 → length body ≤ 1392
+pub read-written : (h : Header) (body : List ℕ) → Fits h → h .kind ≤ 10 → h .authentication ≡ 0 → length body ≤ bodySize
     → reading (datagram h body) ≡ accepted h
 read-written h body f k a n =
     subst (λ (g : Header). reading (datagram g body) ≡ accepted g) (spelled-same h (f .sized)) (reading-spelled h body f k a n)
@@ -123,7 +124,7 @@ header-number h body z small =
 -- and the body.
 pub body-written : (h : Header) (body : List ℕ) → Sized h → bodyOf (datagram h body) ≡ body
 unfolding bodyOf datagram
-body-written h body z = drop-at (headerBytes h (length body)) body 80 (length-header h (length body) z)
+body-written h body z = drop-at (headerBytes h (length body)) body headerSize (length-header h (length body) z)
 
 -- Bytes 4 to 6 of a little-endian datagram.
 representation : (mark a b c : ℕ) → represents mark a b c ≡ true → (a ≡ mark) × (b ≡ 0) × (c ≡ 0)
@@ -158,7 +159,7 @@ module _ (s : List ℕ) (done : reading s .answer ≡ Done) where
       passes = unfold groundBy in readable-passes _ _ _ _ _ _ accepted-readable
 
   -- Its body is at most 1,392 bytes.
-  pub body-short : length (bodyOf s) ≤ 1392
+  pub body-short : length (bodyOf s) ≤ bodySize
   unfolding bodyOf
   body-short = let known = accepted-readable in rw length-drop (omega arith)
 
@@ -192,7 +193,7 @@ module _ (s : List ℕ) (octets : (i : ℕ) → getD s i 0 < 256) where
       λ i. digits-part 2 s 76 octets i ++ (getD s 78 0 ∷ (low i ∷ []))
 
   header-same : (n : ℕ) → getD s 0 0 ≡ 4 → (getD s 4 0 ≡ 16) × (getD s 5 0 ≡ 0) × (getD s 6 0 ≡ 0) → n ≡ number 2 true s 74
-      → headerBytes (headerOf true s) n ≡ part 80 s 0
+      → headerBytes (headerOf true s) n ≡ part headerSize s 0
   unfolding headerBytes headerOf
   header-same n v o e =
       λ i. front-same v o i ++ ((uuidAt true s 8 ++ (uuidAt true s 24 ++ uuidAt true s 40)) ++ (number-same i ++ (hint-same n e i ++ back-same i)))
@@ -206,15 +207,15 @@ written-read s octets done little =
     let is = accepted-reading s done in
     let order : orderIs 16 s ≡ true = sym (ap (λ (x : Reading). x .little) is) ∙ little in
     let header : reading s .header ≡ headerOf true s = ap (λ (x : Reading). x .header) is ∙ ap (λ (b : Bool). headerOf b s) order in
-    let size : length s ≡ 80 + number 2 true s 74 = rw order at (r .whole) in
-    let rest : length (drop 80 s) ≡ number 2 true s 74 = omega (arith, length-drop 80 s) in
-    let front : headerBytes (headerOf true s) (length (drop 80 s)) ≡ part 80 s 0 =
-    header-same s octets (length (drop 80 s)) (r .version-4) (representation 16 (getD s 4 0) (getD s 5 0) (getD s 6 0) order) rest in
-    ap (λ (h : Header). headerBytes h (length (drop 80 s)) ++ drop 80 s) header
-    ∙ ap (λ (l : List ℕ). l ++ drop 80 s) (front ∙ part-take 80 s 0 (omega arith)) ∙ take-append-drop 80 s
+    let size : length s ≡ headerSize + number 2 true s 74 = rw order at (r .whole) in
+    let rest : length (drop headerSize s) ≡ number 2 true s 74 = omega (arith, length-drop headerSize s) in
+    let front : headerBytes (headerOf true s) (length (drop headerSize s)) ≡ part headerSize s 0 =
+    header-same s octets (length (drop headerSize s)) (r .version-4) (representation 16 (getD s 4 0) (getD s 5 0) (getD s 6 0) order) rest in
+    ap (λ (h : Header). headerBytes h (length (drop headerSize s)) ++ drop headerSize s) header
+    ∙ ap (λ (l : List ℕ). l ++ drop headerSize s) (front ∙ part-take headerSize s 0 (omega arith)) ∙ take-append-drop headerSize s
 
 -- So the write of an accepted little-endian datagram's header and body is answered 0, and leaves its bytes at the front of the buffer.
-module _ (s out : List ℕ) (octets : (i : ℕ) → getD s i 0 < 256) (done : reading s .answer ≡ Done) (room : length out ≡ 1472) where
+module _ (s out : List ℕ) (octets : (i : ℕ) → getD s i 0 < 256) (done : reading s .answer ≡ Done) (room : length out ≡ pduSize) where
   write-passes : writeGround (length out) (reading s .header .kind) (reading s .header .authentication) (length (bodyOf s)) ≡ Pass
   unfolding headerOf
   write-passes =
@@ -236,7 +237,7 @@ module _ (s out : List ℕ) (octets : (i : ℕ) → getD s i 0 < 256) (done : re
   unfolding writing writeBy bodyOf
   write-back little =
       let r = accepted-readable s done in
-      let size : 80 + length (drop 80 s) ≡ length s = omega (arith, length-drop 80 s, r .whole) in
+      let size : headerSize + length (drop headerSize s) ≡ length s = omega (arith, length-drop headerSize s, r .whole) in
       let bytes = written-read s octets done little in
       rw write-passes (ap (λ (n : ℕ). record { answer = Done; length = n }) size, ap (λ (d : List ℕ). placed 0 d out) bytes)
 
@@ -252,9 +253,9 @@ unfolding writing writeBy
 written-datagram h body out z done =
     let g = writeGround (length out) (h .kind) (h .authentication) (length body) in
     let w = writable (length out) (h .kind) (h .authentication) (length body) (sym (write-answers g h body out) ∙ done) in
-    let size : length (datagram h body) ≡ 80 + length body = length-datagram h body z in
+    let size : length (datagram h body) ≡ headerSize + length body = length-datagram h body z in
     rw (writable-passes (length out) (h .kind) (h .authentication) (length body) w)
-    (placed-front (datagram h body) out (80 + length body) size (omega arith))
+    (placed-front (datagram h body) out (headerSize + length body) size (omega arith))
 
 -- The two together: what a write that answers 0 leaves in the buffer reads as the header and the body that were written.
 pub read-back : (h : Header) (body out : List ℕ) → Fits h → writing h body out .result .answer ≡ Done

@@ -1,15 +1,16 @@
 // The writer: into a lent buffer of exactly 1,472 bytes, always little-endian.
 use answers::Answer;
 use answers::Ground;
-use pdu::BODY_SIZE;
-use pdu::HEADER_SIZE;
 use pdu::Header;
-use pdu::PDU_SIZE;
+use words::BODY_SIZE;
+use words::HEADER_SIZE;
+use words::PDU_SIZE;
 ghost use mathlib.Core.Path.{_≡_};
 ghost use mathlib.Core.List.{_++_};
 ghost use Prim.Native.Nat.{_≤_};
 ghost use lib.ListN.{length};
 ghost use Rattle.words.specs.Place.{placed};
+ghost use Rattle.words.specs.Sizes.{headerSize};
 ghost use Rattle.pdu.specs.Header.{frontBytes, numberBytes, hintBytes, backBytes, headerBytes};
 ghost use Rattle.writer.specs.Writing.{writeGround, writing, Wrote};
 
@@ -98,7 +99,7 @@ fn back(fragment: u16, authentication: u8, serial: u16) -> [u8; 4]
 
 // Lays the three UUIDs down, bytes 8 to 55.
 fn put_uuids(object: [u8; 16], interface: [u8; 16], activity: [u8; 16], out: &mut [u8])
-    requires { ⌜ 80 ≤ length (now out) ⌝ }
+    requires { ⌜ headerSize ≤ length (now out) ⌝ }
     ensures { λ _. ⌜ now (out .exit) ≡ placed 8 (object ++ (interface ++ activity)) (now (out .entry)) ⌝ }
 {
     words::put(out, 8, &object);
@@ -108,7 +109,7 @@ fn put_uuids(object: [u8; 16], interface: [u8; 16], activity: [u8; 16], out: &mu
 
 // Lays bytes 56 to 79 down.
 fn put_behind(middle: [u8; 12], further: [u8; 8], last: [u8; 4], out: &mut [u8])
-    requires { ⌜ 80 ≤ length (now out) ⌝ }
+    requires { ⌜ headerSize ≤ length (now out) ⌝ }
     ensures { λ _. ⌜ now (out .exit) ≡ placed 56 (middle ++ (further ++ last)) (now (out .entry)) ⌝ }
 {
     words::put(out, 56, &middle);
@@ -118,7 +119,7 @@ fn put_behind(middle: [u8; 12], further: [u8; 8], last: [u8; 4], out: &mut [u8])
 
 // Lays the 80 bytes of a header down.
 fn put_header(h: Header, body: u16, out: &mut [u8])
-    requires { ⌜ 80 ≤ length (now out) ⌝ }
+    requires { ⌜ headerSize ≤ length (now out) ⌝ }
     ensures { λ _. ⌜ now (out .exit) ≡ placed 0 (headerBytes h body) (now (out .entry)) ⌝ }
 {
     let lead = front(h.kind, h.flags1, h.flags2, h.serial);

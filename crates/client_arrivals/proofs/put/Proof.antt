@@ -16,4 +16,4 @@ put-spec =
     (λ c κs. search needs)
     (λ c κs. search needs)
     (λ c κs. search needs)
-    (λ c. rw (c .with-incoming .ensures, c .before .fack-for .ensures, c .before .before .wants-fack .ensures, c .before .before .before .put-notice .ensures, c .before .before .before .before .count .ensures, c .before .before .before .before .before .put-record .ensures, c .before .before .before .before .before .before .is-complete .ensures)))
+    (λ c. rw (c .received .ensures, c .before .fack-for .ensures, c .before .before .wants-fack .ensures, c .before .before .before .put-notice .ensures, c .before .before .before .before .count .ensures, c .before .before .before .before .before .put-record .ensures, c .before .before .before .before .before .before .is-complete .ensures)))

@@ -3,13 +3,14 @@ use mathlib.Core.Path.{_≡_}
 use native.Mathlib.Omega.{arith}
 use borrow.Author.Needs.{needs}
 use lib.ListN.{length, length-map}
+use Rattle.words.specs.Sizes.{windowSize}
 use Rattle.incoming.specs.Slots.{contiguous}
 use Rattle.incoming.proofs.SlotLaws.{count-most}
 use Rattle.facks.proofs.MaskLaws.{describes}
 use Rattle.facks.proofs.mask.Statement.{statement}
 use Rattle.facks.proofs.mask.Tie as tie
 
-long : (c : tie.Start) → length (c .args .m .slots) ≡ 32
+long : (c : tie.Start) → length (c .args .m .slots) ≡ windowSize
 long c = simp length-map at (c .good .0 .1 .1 .0 .1 .0 .1)
 
 word-from-requires : tie.Need-word-from-requires

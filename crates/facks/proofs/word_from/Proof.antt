@@ -4,20 +4,21 @@ use mathlib.Core.Path.{_≡_, sym, ap, _∙_}
 use native.Mathlib.Omega.{arith}
 use borrow.Author.Needs.{needs}
 use lib.ListN.{length, drop, drop-of-length-le}
+use Rattle.words.specs.Sizes.{windowSize}
 use Rattle.facks.specs.Mask.{heldWord}
 use Rattle.facks.proofs.MaskLaws.{word-step}
 use Rattle.facks.proofs.word_from.Statement.{statement}
 use Rattle.facks.proofs.word_from.Tie as tie
 
 abbrev Inv-loop : tie.InvT-loop
-Inv-loop from slots word₀ i₀ word i = (from ≤ i) × (i ≤ 32) × (length slots ≡ 32) × (word ≡ heldWord (drop i slots))
+Inv-loop from slots word₀ i₀ word i = (from ≤ i) × (i ≤ windowSize) × (length slots ≡ windowSize) × (word ≡ heldWord (drop i slots))
 
 abbrev μ-loop : tie.MeasureT-loop
 μ-loop from slots word₀ i₀ word i = i
 
 loop-holds : tie.Need-loop-holds Inv-loop μ-loop
 loop-holds c =
-    let long : length (c .args .t1) ≡ 32 = search needs in
+    let long : length (c .args .t1) ≡ windowSize = search needs in
     let past : length (c .args .t1) ≤ 32 = omega arith in
     (c .pre, omega arith, long, sym (ap heldWord (drop-of-length-le (c .args .t1) past)))
 

@@ -4,12 +4,13 @@ use mathlib.Core.Path.{_≡_, refl, sym, ap, _∙_}
 use native.Mathlib.Omega.{arith}
 use borrow.Author.Needs.{needs}
 use lib.ListN.{length, length-map}
+use Rattle.words.specs.Sizes.{bodySize, windowSize}
 use Rattle.incoming.specs.declared.Slot.{Slot}
 use Rattle.fragments.proofs.FragmentLaws.{handed-within, handed-part, handed-none}
 use Rattle.fragments.proofs.hand_up.Statement.{statement}
 use Rattle.fragments.proofs.hand_up.Tie as tie
 
-long : (c : tie.Start) → length (c .args .m .slots) ≡ 32
+long : (c : tie.Start) → length (c .args .m .slots) ≡ windowSize
 long c = simp length-map at (c .good .0 .1 .1 .0 .1 .0 .1)
 
 part-result-end : tie.Need-part-result-end
@@ -25,7 +26,7 @@ returns c =
     let d = c .before in
     let a = d .before .before .before .before .before .before .args in
     handed-part (a .m) (a .f) _ _ (a .buffer .now) (sym (d .before .is-handed-up .ensures) ∙ d .if1 .taken) refl
-    (ap (λ (s : Slot). 1392 * a .f + s .length) (d .before .before .before .slot-of .ensures))
+    (ap (λ (s : Slot). bodySize * a .f + s .length) (d .before .before .before .slot-of .ensures))
 
 returns-2 : tie.Need-returns-2
 returns-2 c =

@@ -5,16 +5,17 @@ use native.Mathlib.Omega.{arith}
 use borrow.Author.Needs.{needs}
 use borrow.Author.Tests.{not-true, not-false}
 use lib.ListN.{length, drop, drop-of-length-le}
+use Rattle.words.specs.Sizes.{windowSize}
 use Rattle.incoming.specs.Slots.{soundFrom}
 use Rattle.incoming.proofs.SlotLaws.{sound-on, sound-fails}
 use Rattle.incoming.proofs.slots_are_sound.Statement.{statement}
 use Rattle.incoming.proofs.slots_are_sound.Tie as tie
 
 abbrev Inv-loop : tie.InvT-loop
-Inv-loop last slots i₀ i = (i ≤ 32) × (length slots ≡ 32) × (soundFrom last 0 slots ≡ soundFrom last i (drop i slots))
+Inv-loop last slots i₀ i = (i ≤ windowSize) × (length slots ≡ windowSize) × (soundFrom last 0 slots ≡ soundFrom last i (drop i slots))
 
 abbrev μ-loop : tie.MeasureT-loop
-μ-loop last slots i₀ i = 32 - i
+μ-loop last slots i₀ i = windowSize - i
 
 loop-holds : tie.Need-loop-holds Inv-loop μ-loop
 loop-holds c = (omega arith, search needs, refl)

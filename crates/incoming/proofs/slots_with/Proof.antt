@@ -5,6 +5,7 @@ use native.Mathlib.Omega.{arith}
 use lib.ListN.{length}
 use mathlib.Core.Path.{refl, sym}
 use lib.Seq.{set-out}
+use Rattle.words.specs.Sizes.{windowSize}
 use Rattle.incoming.specs.Slots.{slotsWith}
 use borrow.Author.Needs.{needs}
 use Rattle.incoming.proofs.slots_with.Statement.{statement}
@@ -13,7 +14,7 @@ use Rattle.incoming.proofs.slots_with.Tie as tie
 returns-2 : tie.Need-returns-2
 unfolding slotsWith
 returns-2 c =
-    let long : length (c .before .args .slots) ≡ 32 = search needs in
+    let long : length (c .before .args .slots) ≡ windowSize = search needs in
     let past : length (c .before .args .slots) ≤ c .before .args .f = omega arith in
     sym (set-out _ _ _ past)
 

@@ -3,6 +3,7 @@ use Prim.Native.Nat.{_+_, _-_, _*_}
 use mathlib.Core.Path.{_≡_}
 use native.Mathlib.Omega.{arith}
 use borrow.Author.Needs.{needs}
+use Rattle.words.specs.Sizes.{bodySize}
 use Rattle.outgoing.specs.Message.{fragmentOf}
 use Rattle.outgoing.proofs.OutgoingLaws.{fragment-none, fragment-rest}
 use Rattle.outgoing.proofs.fragment.Statement.{statement}
@@ -22,7 +23,7 @@ returns-3 : tie.Need-returns-3
 unfolding fragmentOf
 returns-3 c =
     let f = c .before .before .before .args .f in
-    let size : 1392 * f + 1392 - 1392 * f ≡ 1392 = omega arith in
+    let size : bodySize * f + bodySize - bodySize * f ≡ bodySize = omega arith in
     rw size
 
 pub fragment-spec : {M : Type 1} → statement M

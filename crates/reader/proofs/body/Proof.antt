@@ -5,6 +5,7 @@ use native.Mathlib.Omega.{arith}
 use borrow.Author.Needs.{needs}
 use lib.ListN.{length, drop, length-drop, drop-of-length-le}
 use lib.Seq.{take-all}
+use Rattle.words.specs.Sizes.{headerSize}
 use Rattle.pdu.specs.Header.{bodyOf}
 use Rattle.reader.proofs.body.Statement.{statement}
 use Rattle.reader.proofs.body.Tie as tie
@@ -13,15 +14,15 @@ returns : tie.Need-returns
 unfolding bodyOf
 returns c =
     let s = c .before .before .args .s .now in
-    let short : length s ≤ 80 = omega arith in
+    let short : length s ≤ headerSize = omega arith in
     sym (drop-of-length-le s short)
 
 returns-2 : tie.Need-returns-2
 unfolding bodyOf
 returns-2 c =
     let s = c .before .before .args .s .now in
-    let rest : length (drop 80 s) ≤ length s - 80 = omega (arith, length-drop 80 s) in
-    take-all (length s - 80) (drop 80 s) rest
+    let rest : length (drop headerSize s) ≤ length s - headerSize = omega (arith, length-drop headerSize s) in
+    take-all (length s - headerSize) (drop headerSize s) rest
 
 pub body-spec : {M : Type 1} → statement M
 body-spec =

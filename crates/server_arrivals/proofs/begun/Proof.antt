@@ -6,10 +6,4 @@ use Rattle.server_arrivals.proofs.begun.Tie as tie
 
 pub begun-spec : {M : Type 1} → statement M
 unfolding begun
-begun-spec =
-    tie.close
-    (tie.spec
-    (λ c κs. search needs)
-    (λ c κs. search needs)
-    (λ c κs. search needs)
-    (λ c. rw (c .empty .ensures, c .before .nothing .ensures, c .before .before .call-of .ensures)))
+begun-spec = tie.close (tie.spec (λ c κs. search needs) (λ c κs. search needs) (λ c. rw (c .with-call .ensures, c .before .call-of .ensures)))

@@ -3,14 +3,15 @@ use Prim.Native.Nat.{_≤_, _-_}
 use mathlib.Core.Path.{_≡_}
 use borrow.Author.Needs.{needs}
 use lib.ListN.{length}
+use Rattle.words.specs.Sizes.{windowSize}
 use Rattle.demo.proofs.controller.take_request.Statement.{statement}
 use Rattle.demo.proofs.controller.take_request.Tie as tie
 
 abbrev Inv-loop : tie.InvT-loop
-Inv-loop side slots message₀ taken₀ f₀ message taken f = (f ≤ 32) × (length message ≡ length message₀)
+Inv-loop side slots message₀ taken₀ f₀ message taken f = (f ≤ windowSize) × (length message ≡ length message₀)
 
 abbrev μ-loop : tie.MeasureT-loop
-μ-loop side slots message₀ taken₀ f₀ message taken f = 32 - f
+μ-loop side slots message₀ taken₀ f₀ message taken f = windowSize - f
 
 pub take-request-spec : {M : Type 1} → statement M
 take-request-spec =

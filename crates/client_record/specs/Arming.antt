@@ -1,0 +1,25 @@
+-- Which timer an event names, and when its row arms it: what judging and stepping both ask of a record.
+use Prim.Native.Nat.{ℕ}
+use mathlib.Core.Bool.{Bool, false}
+use lib.Dec.{ltb}
+use Rattle.words.specs.Sizes.{retryLimit}
+use Rattle.timers.specs.declared.Timer.{Timer}
+use Rattle.client_record.specs.declared.State.{State}
+use Rattle.client_record.specs.declared.TimerKind.{TimerKind}
+use Rattle.client_record.specs.declared.TimerKind.the-variants.{Wait, Ack}
+use Rattle.client_record.specs.States.{isWaiting, isAckPending}
+
+-- The timer of a kind.
+unfoldable pub namedTimer : TimerKind → Timer → Timer → Timer
+namedTimer Wait wait ack = wait
+namedTimer Ack wait ack = ack
+
+-- The states that have the row of a timer.
+unfoldable pub namedBy : TimerKind → State → Bool
+namedBy Wait state = isWaiting state
+namedBy Ack state = isAckPending state
+
+-- WAIT arms afresh while its count is below 5.
+unfoldable pub pings : TimerKind → ℕ → Bool
+pings Wait waits = ltb waits retryLimit
+pings Ack waits = false
