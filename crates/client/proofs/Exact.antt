@@ -32,7 +32,7 @@ use Rattle.writer.proofs.RoundTrip.{body-short}
 use Rattle.grounds.specs.Entry.{lentGround}
 use Rattle.grounds.specs.Fragment.{isLast, bodyLength}
 use Rattle.grounds.specs.Fack.{acknowledgedBy}
-use Rattle.grounds.proofs.GroundLaws.{lent-passes, fragment-passes, body-length, fack-passes}
+use Rattle.grounds.proofs.GroundLaws.{lent-passes, body-length, fack-passes}
 use Rattle.client_record.specs.declared.Client.{Client}
 use Rattle.client_record.specs.States.{isQueued}
 use Rattle.client_record.specs.Rules.{sound}
@@ -48,7 +48,7 @@ use Rattle.client_steps.proofs.StepLaws.{next-number, transmitted-one-more}
 use Rattle.client_arrivals.specs.Rows.{acknowledged, fackPlan, putPlan, responsePlan}
 use Rattle.client_arrivals.specs.Table.{arrivalRow, arrivalPlan}
 use Rattle.client.specs.Machine.{outcomeOf, sending, planOf, acted, starting, transmitting, arriving}
-use Rattle.client.proofs.Judging.{CanArrive, start-passes, transmit-passes, arrival-passes}
+use Rattle.client.proofs.Judging.{CanArrive, response-can, start-passes, transmit-passes, arrival-passes}
 use Rattle.client.proofs.Accepting.{start-accepted, transmit-accepted, arrive-accepted}
 
 -- A start gives the next number of a record whose number is a u32,
@@ -141,19 +141,19 @@ module _ (c : Client) (datagram slots out : List ℕ) (done : arriving c datagra
   -- and is held,
   pub response-held : h .kind ≡ 2 → length (c .incoming .slots) ≡ windowSize
       → held (arriving c datagram slots out .outcome .client .incoming) (h .fragment) ≡ true
-  unfolding eventOf serverEvent byEvent choose
+  unfolding eventOf serverEvent choose
   response-held typed long =
       let a = accepted-as Response (ap eventOf typed) in
-      let number = fragment-passes (h .flags1) (h .fragment) (a .can .number) in
+      let number = response-can c h n (a .can) .number in
       ap (λ (m : Incoming). held m (h .fragment)) (response-length typed)
       ∙ stored-held-same (c .incoming) (h .fragment) (length (bodyOf datagram)) (isLast (h .flags1)) (omega arith)
 
   -- and its body lies in its place of the slot buffer.
   pub response-bytes : h .kind ≡ 2 → arriving c datagram slots out .slots ≡ putAt (bodySize * h .fragment) (bodyOf datagram) slots
-  unfolding arrivalRow responsePlan putPlan storing eventOf serverEvent byEvent choose
+  unfolding arrivalRow responsePlan putPlan storing eventOf serverEvent choose
   response-bytes typed =
       let a = accepted-as Response (ap eventOf typed) in
-      let number = fragment-passes (h .flags1) (h .fragment) (a .can .number) in
+      let number = response-can c h n (a .can) .number in
       let room = a .room in
       let short = a .short in
       a .stores

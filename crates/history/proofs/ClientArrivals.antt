@@ -14,6 +14,7 @@ use Rattle.answers.specs.declared.Ground.{Ground}
 use Rattle.bodies.specs.Status.{statusReading}
 use Rattle.calls.specs.declared.Notice.the-variants.{Nothing as Untold, Fault as FaultNotice, Reject as RejectNotice, Cause}
 use Rattle.fragments.specs.Slots.{filled, storing}
+use Rattle.fragments.proofs.PutLaws.{CanPut}
 use Rattle.incoming.specs.declared.Incoming.{Incoming}
 use Rattle.incoming.specs.Slots.{contiguous, complete, stored, sound as incomingSound}
 use Rattle.pdu.specs.declared.Header.{Header}
@@ -22,7 +23,7 @@ use Rattle.reader.specs.Reading.{reading}
 use Rattle.writer.proofs.RoundTrip.{body-short}
 use Rattle.grounds.specs.Entry.{lentGround}
 use Rattle.grounds.specs.Fragment.{isLast, wantsFack, bodyLength}
-use Rattle.grounds.proofs.GroundLaws.{lent-passes, fragment-passes, put-passes, body-length}
+use Rattle.grounds.proofs.GroundLaws.{lent-passes, body-length}
 use Rattle.client_record.specs.declared.Client.{Client}
 use Rattle.client_record.specs.States.{isQueued, isActive, isDispatched}
 use Rattle.client_record.specs.Rules.{sound}
@@ -39,14 +40,14 @@ use Rattle.client_arrivals.specs.Rows.{putNotice, fackPlan, putRecord, fackFor,
 use Rattle.client_arrivals.specs.Table.{arrivalRow, arrivalPlan}
 use Rattle.client_arrivals.proofs.ArrivalLaws.{nocall-puts-none}
 use Rattle.client.specs.Machine.{sending, planOf, acted, arriving}
-use Rattle.client.proofs.Judging.{CanArrive, arrival-passes}
+use Rattle.client.proofs.Judging.{CanArrive, response-can, arrival-passes}
 use Rattle.client.proofs.Accepting.{arrive-accepted}
 use Rattle.client.proofs.Keeping.{row-sound}
 use Rattle.history.specs.Lists.{In}
 use Rattle.history.specs.World.{Started, Completed, Replied, SentPdu, World}
 use Rattle.history.specs.Steps.{lastStart, completionsAfter, completionEntry}
 use Rattle.history.specs.Claim.{WholeReply, hasReply}
-use Rattle.history.proofs.Holding.{Buffer, Slotted, Short, CanPut, can-put, PartOf, unheld-unfinished, holding-whole, Holding, Single, empty-holding, put-holding, put-slotted, other-empty}
+use Rattle.history.proofs.Holding.{Buffer, Slotted, Short, PartOf, unheld-unfinished, holding-whole, Holding, Single, empty-holding, put-holding, put-slotted, other-empty}
 use Rattle.history.proofs.Types.{IsResponse, response-kind}
 use Rattle.history.proofs.Network.{Request, Response}
 use Rattle.history.proofs.Ordinals.{equal-start}
@@ -63,7 +64,7 @@ module _ (ordinal : ℕ) (m : Incoming) (slots : List ℕ) (replies : List Repli
     (kept : incomingSound m ≡ true) (long : Slotted m) (whole : Buffer slots)
     (alike : (r t : Replied) → In r replies → In t replies → r .ordinal ≡ t .ordinal → (r ≡ t) ⊎ (Single (r .message) ⊎ Single (t .message)))
     (r : Replied) (given : In r replies) (mine : r .ordinal ≡ ordinal) (part : PartOf (r .message) flags1 f body)
-    (can : CanPut m flags1 f) where
+    (can : CanPut m f (isLast flags1)) where
   -- What was held is of that reply,
   same-reply : ClientHolds ordinal m slots replies → Holding m slots (r .message)
   same-reply (nothing e) = empty-holding m slots (r .message) whole e
@@ -169,8 +170,6 @@ module _ (w : World) (inv : Inv w) (o : ℕ) (h : Header) (body : List ℕ) (sta
       let begun = active-state (c .state) (j .row) in
       let same = put-same (complete m) (c .call .idempotent) c m in
       let from = known (response-kind (h .kind) e) in
-      let number = fragment-passes (h .flags1) (h .fragment) (j .number) in
-      let new = put-passes (c .incoming) (h .fragment) (isLast (h .flags1)) (j .fits) in
       record {
         kept = row-sound c h (bodyLength body) status kept (omega arith) ResponseEvent j;
         activity = rw (same .activity) (inv .client .activity);
@@ -187,8 +186,7 @@ module _ (w : World) (inv : Inv w) (o : ℕ) (h : Header) (body : List ℕ) (sta
             rw (body-length body short)
             (put-holds (lastStart (w .books .starts)) (c .incoming) (w .client .slots) (w .books .replies) (h .flags1) (h .fragment) body (rules-told c kept .incoming)
             (inv .client .slotted) whole (inv .calls .alike) (from .reply) (from .given) (mine from begun (j .mine)) (from .part)
-            (can-put (c .incoming) (h .flags1) (h .fragment) number (new .0) (new .1))
-            (inv .client .holds begun));
+            (response-can c h (bodyLength body) j) (inv .client .holds begun));
       }
 
   other : (event : Event) → CanArrive event (w .client .machine) h (bodyLength body) → isQueued (w .client .machine .state) ≡ false

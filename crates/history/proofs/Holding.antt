@@ -4,14 +4,14 @@ use Prim.Native.Nat.{ℕ, zero, suc, _+_, _*_, _<_, _≤_}
 use mathlib.Core.Bool.{Bool, true, false, false≢true, true≢false}
 use mathlib.Core.List.{List, [], _++_}
 use mathlib.Core.Logic.{_⊎_, inl, inr}
-use mathlib.Core.Path.{_≡_, refl, sym, ap, _∙_}
+use mathlib.Core.Path.{_≡_, refl, sym, ap, subst, _∙_}
 use native.Mathlib.Omega.{arith}
 use lib.Dec.{eqb}
 use lib.ListN.{length, drop, take-append-drop, getD, List·getD-eq-default}
 use native.Mathlib.Decide.{decLt}
 use borrow.Author.Tests.{eqb-true, eqb-false, eq-eqb, ltb-true, lt-ltb, le-ltb}
 use Rattle.words.specs.Choice.{choose, both, either}
-use Rattle.words.specs.Sizes.{bodySize, windowSize, slotsSize, lastNumber}
+use Rattle.words.specs.Sizes.{bodySize, windowSize, slotsSize}
 use Rattle.words.proofs.Tests.{both-hold, either-false}
 use Rattle.flags.specs.Flags.{lastFragment, fragment, idempotent, hasFlag, withFlag}
 use Rattle.incoming.specs.declared.Slot.{Slot}
@@ -26,7 +26,7 @@ use Rattle.fragments.specs.Joined.{Leads}
 use Rattle.fragments.specs.Judgement.{held, anyHeld, heldAbove, aboveLast, otherLast, lastBelowHeld, contradicts}
 use Rattle.fragments.specs.Slots.{bytesOf, filled}
 use Rattle.fragments.proofs.BufferLaws.{handedBelow, joined, joined-front, Carries, filled-here, filled-other, joined-whole}
-use Rattle.fragments.proofs.PutLaws.{none-held, stored-length, filled-length, stored-sound, stored-slot-same, stored-slot-other, stored-held-same, stored-held-other, held-told, none-above}
+use Rattle.fragments.proofs.PutLaws.{none-held, stored-length, filled-length, CanPut, stored-slot-same, stored-slot-other, stored-held-same, stored-held-other, held-told, none-above}
 use Rattle.grounds.specs.Fragment.{isLast}
 
 -- The sizes: a slot buffer, the slots of a record, the body of a PDU.
@@ -49,12 +49,6 @@ slotAt m f = getD (m .slots) (slotOf f) missing
 -- No fragment is held.
 abbrev pub Unheld : Incoming → Type 0
 Unheld m = (f : ℕ) → held m f ≡ false
-
--- A fragment that may be put: it passed 12, 16 and 17.
-pub record CanPut (m : Incoming) (flags1 f : ℕ) : Type 0 where
-  pub number : f < windowSize
-  pub new : held m f ≡ false
-  pub fits : contradicts m f (isLast flags1) ≡ false
 
 -- A fragment of a message: one of its numbers, marked last where it is the last, with its bytes.
 pub record PartOf (message : List ℕ) (flags1 f : ℕ) (body : List ℕ) : Type 0 where
@@ -92,19 +86,6 @@ none-sound m last none =
 pub cleared-empty : Empty cleared
 unfolding cleared either choose
 cleared-empty = record { none = none-unheld cleared refl; last = refl }
-
--- A fragment that the judgement let pass may be put, and so in a cleared record.
-pub can-put : (m : Incoming) (flags1 f : ℕ) → f ≤ lastNumber → held m f ≡ false → contradicts m f (isLast flags1) ≡ false → CanPut m flags1 f
-can-put m flags1 f number new fits = record { number = omega arith; new = new; fits = fits }
-
-pub can-begin : (flags1 f : ℕ) → f ≤ lastNumber → contradicts cleared f (isLast flags1) ≡ false → CanPut cleared flags1 f
-can-begin flags1 f number fits = can-put cleared flags1 f number (cleared-empty .none f) fits
-
--- What it leaves keeps the rules of what is held.
-pub put-sound : (m : Incoming) (flags1 f : ℕ) (body : List ℕ) → sound m ≡ true → Short body → CanPut m flags1 f
-    → sound (stored m f (length body) (isLast flags1)) ≡ true
-put-sound m flags1 f body kept short can =
-    stored-sound m f (length body) (isLast flags1) kept (omega (arith, can .number)) short (can .fits)
 
 -- Where nothing is held, none is contiguous,
 pub unheld-none : (m : Incoming) → Unheld m → contiguous m ≡ 0
@@ -164,14 +145,15 @@ held-short m g kept h = by-place (decLt (slotOf g) (length (m .slots)))
     by-place (no past) =
         absurd (false≢true (sym (ap (λ (s : Slot). s .held) (List·getD-eq-default (m .slots) missing (omega arith))) ∙ h))
 
--- A put of a fragment of the message that is missing.
+-- A put of a fragment of the message that may be put.
 module _ (m : Incoming) (slots message : List ℕ) (flags1 f : ℕ) (body : List ℕ) (holds : Holding m slots message)
-    (kept : sound m ≡ true) (long : Slotted m) (part : PartOf message flags1 f body) (can : CanPut m flags1 f) where
+    (kept : sound m ≡ true) (long : Slotted m) (part : PartOf message flags1 f body)
+    (can : CanPut m f (isLast flags1)) where
   short : Short body
   short = rw (part .bytes) (fragment-most message f)
 
   number : f < windowSize
-  number = can .number
+  number = omega (arith, can .number)
 
   put-carries : Carries (stored m f (length body) (isLast flags1)) (filled f body slots) message
   put-carries g h = by-number (eqb g f) refl
@@ -279,10 +261,10 @@ module _ (m : Incoming) (slots message : List ℕ) (holds : Holding m slots mess
       unknown Unknown e = refl
       unknown (At k) e = absurd (false≢true (sym (none k) ∙ holds .known k e))
 
-  -- So a fragment that passes 16 and 17 comes to nothing held.
-  single-held : Single message → (f : ℕ) (last : Bool) → held m f ≡ false → contradicts m f last ≡ false → Empty m
+  -- So a fragment that may be put comes to nothing held.
+  single-held : Single message → (f : ℕ) (last : Bool) → CanPut m f last → Empty m
   unfolding contradicts aboveLast
-  single-held one f last new fits = by-held (held m 0) refl
+  single-held one f last can = by-held (held m 0) refl
     where
       by-held : (t : Bool) → held m 0 ≡ t → Empty m
       by-held false e = single-empty one e
@@ -292,19 +274,19 @@ module _ (m : Incoming) (slots message : List ℕ) (holds : Holding m slots mess
           known = holds .end 0 (sym one) e
 
           by-number : (t : Bool) → eqb f 0 ≡ t → ⊥
-          by-number true z = false≢true (sym new ∙ ap (held m) (eqb-true f 0 z) ∙ e)
+          by-number true z = false≢true (sym (can .new) ∙ ap (held m) (eqb-true f 0 z) ∙ e)
           by-number false z =
               let apart = eqb-false f 0 z in
               let above : aboveLast (m .last) f ≡ true = ap (λ (l : Last). aboveLast l f) known ∙ lt-ltb 0 f (omega arith) in
-              true≢false (sym above ∙ either-false (aboveLast (m .last) f) _ fits .0)
+              true≢false (sym above ∙ either-false (aboveLast (m .last) f) _ (can .fits) .0)
 
-  -- A last fragment 0 that passes 16 and 17 comes to nothing held.
-  first-last : held m 0 ≡ false → contradicts m 0 true ≡ false → Empty m
+  -- A last fragment 0 that may be put comes to nothing held.
+  first-last : CanPut m 0 true → Empty m
   unfolding contradicts lastBelowHeld both choose
-  first-last new fits = record { none = none; last = unknown (m .last) refl }
+  first-last can = record { none = none; last = unknown (m .last) refl }
     where
       above : heldAbove m 0 ≡ false
-      above = either-false (otherLast (m .last) 0 true) _ (either-false (aboveLast (m .last) 0) _ fits .1) .1
+      above = either-false (otherLast (m .last) 0 true) _ (either-false (aboveLast (m .last) 0) _ (can .fits) .1) .1
 
       none : (f : ℕ) → held m f ≡ false
       none f = by-held (held m f) refl
@@ -313,23 +295,23 @@ module _ (m : Incoming) (slots message : List ℕ) (holds : Holding m slots mess
           by-held true e =
               let most : f ≤ 0 = none-above m 0 f above e in
               let zero-is : f ≡ 0 = omega arith in
-              absurd (false≢true (sym new ∙ ap (held m) (sym zero-is) ∙ e))
+              absurd (false≢true (sym (can .new) ∙ ap (held m) (sym zero-is) ∙ e))
           by-held false e = refl
 
       unknown : (l : Last) → m .last ≡ l → l ≡ Unknown
       unknown Unknown e = refl
       unknown (At k) e = absurd (false≢true (sym (none k) ∙ holds .known k e))
 
--- Of two messages of which one has a single fragment: where a fragment of the other passes 16 and 17, nothing was
--- held.
+-- Of two messages of which one has a single fragment: where a fragment of the other may be put, nothing was held.
 pub other-empty : (m : Incoming) (slots message other : List ℕ) (flags1 f : ℕ) (body : List ℕ) → Holding m slots message
-    → PartOf other flags1 f body → CanPut m flags1 f → Single message ⊎ Single other → Empty m
-other-empty m slots message other flags1 f body holds part can (inl one) = single-held m slots message holds one f (isLast flags1) (can .new) (can .fits)
+    → PartOf other flags1 f body → CanPut m f (isLast flags1) → Single message ⊎ Single other → Empty m
+other-empty m slots message other flags1 f body holds part can (inl one) =
+    single-held m slots message holds one f (isLast flags1) can
 other-empty m slots message other flags1 f body holds part can (inr one) =
     let zero-is : f ≡ 0 = omega (arith, one, part .below) in
     let ends : isLast flags1 ≡ true = part .last ∙ eq-eqb (f + 1) (fragments (length other)) (omega (arith, one)) in
-    first-last m slots message holds (ap (held m) (sym zero-is) ∙ can .new)
-    (sym (ap (λ (t : Bool). contradicts m 0 t) ends) ∙ ap (λ (k : ℕ). contradicts m k (isLast flags1)) (sym zero-is) ∙ can .fits)
+    first-last m slots message holds
+    (subst (λ (t : Bool). CanPut m 0 t) ends (subst (λ (k : ℕ). CanPut m k (isLast flags1)) zero-is can))
 
 -- The flags of a fragment, with the idempotent bit or without, mark the last and no other.
 pub flags-last : (count f : ℕ) (mark : Bool) → f < count → isLast (withFlag idempotent mark (flagsOf count f)) ≡ eqb (f + 1) count

@@ -58,7 +58,7 @@ use Rattle.history.specs.Lists.{In}
 use Rattle.history.specs.World.{callNumber, SentPdu, World}
 use Rattle.history.specs.Steps.{lastStart, standingAfter, Subject, ofArrival}
 use Rattle.history.specs.Fairness.{Typed}
-use Rattle.history.proofs.Holding.{Buffer, Short, can-put, can-begin}
+use Rattle.history.proofs.Holding.{Buffer, Short}
 use Rattle.history.proofs.Network.{Request, Response, read-sized}
 use Rattle.history.proofs.Invariant.{unanswered, hasData, NewTo, ServerInv, Inv, serverStep}
 use Rattle.history.proofs.Types.{IsRequest, kind-request, request-kind, no-ping}
@@ -172,12 +172,11 @@ module _ (w : World) (inv : Inv w) (o : ℕ) (h : Header) (body : List ℕ) (j :
   unfolding beginPlan requestPlan putPlan storing choose begun
   begin-inv e =
       let b = begins e in
-      let fits = begin-fits s h j e in
       let request = known (b .0) in
       subst (λ (n : ℕ). Inv (AfterAt (beginPlan s h (bodyLength body)) n)) (sym (stands-at (b .0)))
       (put-inv w inv (begun s h) o
       (begun-inv s (w .books .standing) (w .server .slots) (w .books .starts) (w .books .dispatches) (w .books .replies) (inv .server) whole o h body request (b .1)) refl h body request short
-      (can-begin (h .flags1) (h .fragment) (fits .0) (fits .1)) out room)
+      (begin-fits s h j e) out room)
 
   -- Put: the request is of the call that is collected.
   put-row-inv : rowFor s h ≡ Put
@@ -185,13 +184,12 @@ module _ (w : World) (inv : Inv w) (o : ℕ) (h : Header) (body : List ℕ) (j :
   unfolding requestPlan putPlan storing choose rowFor
   put-row-inv e =
       let told = put-told (eventOf (h .kind)) (orderFor s h) (s .state) (hasFlag idempotent (h .flags1)) (s .call .idempotent) e in
-      let fits = put-fits s h j e in
       let is = request-kind (h .kind) (told .0) in
       let request = known is in
       subst (λ (n : ℕ). Inv (AfterAt (requestPlan s (h .flags1) (h .serial) (h .fragment) (bodyLength body)) n)) (sym (stands-at is))
       (put-inv w inv s o
       (subst (λ (n : ℕ). ServerInv s n (w .server .slots) (w .books .starts) (w .books .dispatches) (w .books .replies)) (equal-ordinal request (told .1)) (inv .server))
-      (told .2) h body request short (can-put (s .incoming) (h .flags1) (h .fragment) (fits .0) (fits .1) (fits .2)) out room)
+      (told .2) h body request short (put-fits s h j e) out room)
 
   -- Replay: data is sent again by transmit, a fault at once.
   replay-inv : (reply : Reply) → s .state ≡ Held reply → sound (replayHeld s reply .server) ≡ true

@@ -14,6 +14,7 @@ use Rattle.calls.specs.declared.Call.{Call}
 use Rattle.flags.specs.Flags.{idempotent, hasFlag}
 use Rattle.fragments.specs.Slots.{filled}
 use Rattle.fragments.specs.Joined.{parts}
+use Rattle.fragments.proofs.PutLaws.{CanPut, stored-sound}
 use Rattle.fragments.proofs.PartLaws.{parts-joined}
 use Rattle.incoming.specs.declared.Incoming.{Incoming}
 use Rattle.incoming.specs.Slots.{complete, cleared, stored, sound as incomingSound}
@@ -31,7 +32,7 @@ use Rattle.server_record.specs.Rules.{sound, outgoingSound, messageRule}
 use Rattle.server_record.specs.Record.{unarmed, withIncoming}
 use Rattle.server_record.proofs.RuleLaws.{rules-told, rules-hold}
 use Rattle.server_arrivals.specs.Rows.{callOf, begun, putState, putNotice, fackFor, putPlan, requestPlan}
-use Rattle.server_arrivals.proofs.ArrivalLaws.{put-sound as put-plan-sound}
+use Rattle.server_arrivals.proofs.ArrivalLaws.{put-sound}
 use Rattle.server.specs.HandUp.{handsUp}
 use Rattle.server.specs.Machine.{outcomeOf, sending}
 use Rattle.server_steps.specs.declared.Send.{Send}
@@ -40,7 +41,7 @@ use Rattle.history.specs.World.{callNumber, Started, Dispatched, Replied
 use Rattle.history.specs.Steps.{dispatchesAfter, Subject, dispatchEntry}
 use Rattle.history.specs.Claim.{times}
 use Rattle.history.proofs.ListLaws.{within-grown, added-last, in-added, all-grown, last-dispatched, times-same, times-other, times-none}
-use Rattle.history.proofs.Holding.{Buffer, Short, CanPut, cleared-empty, PartOf, Holding, Single, empty-holding, put-holding, put-sound, put-slotted, holding-whole}
+use Rattle.history.proofs.Holding.{Buffer, Short, cleared-empty, PartOf, Holding, Single, empty-holding, put-holding, put-slotted, holding-whole}
 use Rattle.history.proofs.Network.{Request, Response, Known}
 use Rattle.history.proofs.More.{more-dispatches, called-on}
 use Rattle.history.proofs.Types.{IsResponse}
@@ -124,7 +125,7 @@ module _ (s : Server) (standing : ℕ) (slots : List ℕ) (starts : List Started
 module _ (s : Server) (o : ℕ) (slots : List ℕ) (starts : List Started) (dispatches : List Dispatched) (replies : List Replied)
     (inv : ServerInv s o slots starts dispatches replies) (calls : CallInv starts dispatches replies) (state : s .state ≡ Collect)
     (h : Header) (body : List ℕ) (request : Request starts o h body)
-    (short : Short body) (can : CanPut (s .incoming) (h .flags1) (h .fragment)) where
+    (short : Short body) (can : CanPut (s .incoming) (h .fragment) (isLast (h .flags1))) where
   collecting : Collecting s o slots starts dispatches
   collecting = inv .collecting state
 
@@ -136,7 +137,9 @@ module _ (s : Server) (o : ℕ) (slots : List ℕ) (starts : List Started) (disp
   after = stored (s .incoming) (h .fragment) (length body) (isLast (h .flags1))
 
   after-sound : incomingSound after ≡ true
-  after-sound = put-sound (s .incoming) (h .flags1) (h .fragment) body (rules-told s (inv .kept) .incoming) short can
+  after-sound =
+      stored-sound (s .incoming) (h .fragment) (length body) (isLast (h .flags1))
+      (rules-told s (inv .kept) .incoming) short can
 
   -- so what is held then is of that message,
   after-holds : Holding after (filled (h .fragment) body slots) (collecting .start .message)
@@ -308,7 +311,8 @@ ofRequest o h = record { ordinal = o; number = h .number; standing = o }
 
 -- A world whose server put a request.
 pub put-inv : (w : World) → Inv w → (s : Server) (o : ℕ) → ServerInv s o (w .server .slots) (w .books .starts) (w .books .dispatches) (w .books .replies) → s .state ≡ Collect
-    → (h : Header) (body : List ℕ) → Request (w .books .starts) o h body → Short body → CanPut (s .incoming) (h .flags1) (h .fragment)
+    → (h : Header) (body : List ℕ) → Request (w .books .starts) o h body → Short body
+    → CanPut (s .incoming) (h .fragment) (isLast (h .flags1))
     → (out : List ℕ) → length out ≡ pduSize
     → Inv
     (serverStep w (sending (requestPlan s (h .flags1) (h .serial) (h .fragment) (bodyLength body)) h [] out .outcome)
@@ -349,8 +353,9 @@ put-inv w inv s o server state h body request short can out room =
     kept : sound (putServer-of (complete m)) ≡ true
     kept =
         unfold putPlan in
-        put-plan-sound s (server .kept) m (h .flags1) (h .serial) state
-        (put-sound (s .incoming) (h .flags1) (h .fragment) body (rules-told s (server .kept) .incoming) short can)
+        put-sound s (server .kept) m (h .flags1) (h .serial) state
+        (stored-sound (s .incoming) (h .fragment) (length body) (isLast (h .flags1))
+        (rules-told s (server .kept) .incoming) short can)
 
     dispatches : List Dispatched
     dispatches =

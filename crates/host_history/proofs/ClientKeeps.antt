@@ -22,7 +22,6 @@ use Rattle.reader.specs.Reading.{reading}
 use Rattle.grounds.specs.Entry.{lentGround}
 use Rattle.grounds.specs.Fragment.{isLast, bodyLength}
 use Rattle.grounds.specs.Fack.{acknowledgedBy}
-use Rattle.grounds.proofs.GroundLaws.{fragment-passes}
 use Rattle.client_record.specs.declared.State.the-variants.{SendFrags, Dispatched, ReceiveFrags, Complete, Fault as FaultState}
 use Rattle.client_record.specs.declared.TimerKind.{TimerKind}
 use Rattle.client_record.specs.declared.TimerKind.the-variants.{Wait, Ack}
@@ -40,7 +39,7 @@ use Rattle.client_steps.specs.Rows.{nextNumber, started, startPlan, transmitted
 use Rattle.client_arrivals.specs.Rows.{acknowledged, fackPlan, putRecord, putPlan, responsePlan, workingPlan, resent, nocallPlan}
 use Rattle.client_arrivals.specs.Table.{arrivalRow, arrivalPlan}
 use Rattle.client.specs.Machine.{outcomeOf, starting, sending, transmitting, timing, planOf, acted, arriving}
-use Rattle.client.proofs.Judging.{CanArrive, arrival-passes}
+use Rattle.client.proofs.Judging.{CanArrive, response-can, arrival-passes}
 use Rattle.history.specs.World.{Side}
 use Rattle.history.specs.Events.{ClientEvent, Start, ClientTransmit, ClientArrive, ClientTimer}
 use Rattle.history.specs.Steps.{bytesLent, clientTurn}
@@ -153,8 +152,7 @@ module _ (c : Client) (fits : FitsClient c) where
       → FitsClient (arrivalRow event c h n status .client)
   unfolding arrivalRow workingPlan fackPlan acknowledged accepted refused byEvent
   row-fits Response h n status j short =
-      response-fits (h .flags1) (h .serial) (h .fragment) n (fragment-passes (h .flags1) (h .fragment) (j .number))
-      short
+      response-fits (h .flags1) (h .serial) (h .fragment) n (response-can c h n j .number) short
   row-fits Fault h n status j short = failed-fits (FaultNotice status)
   row-fits Reject h n status j short = failed-fits (RejectNotice status)
   row-fits Working h n status j short = waiting-fits (withWaits c 0) (waits-fits c fits 0 (omega arith)) Dispatched

@@ -177,8 +177,8 @@ module _ (s : Server) (fits : FitsServer s) (h : Header) (carried : FitsHeader h
   by-row Repeat e j = fits
   by-row Begin e j =
       request-fits (begun s h) (begun-fits s fits h carried) (h .flags1) (h .serial) (h .fragment) n
-      (begin-fits s h j e .0) short
-  by-row Put e j = request-fits s fits (h .flags1) (h .serial) (h .fragment) n (put-fits s h j e .0) short
+      (begin-fits s h j e .number) short
+  by-row Put e j = request-fits s fits (h .flags1) (h .serial) (h .fragment) n (put-fits s h j e .number) short
   by-row Working e j = fits
   by-row Nocall e j = fits
   by-row Replay e j = replay-fits s fits (s .state)

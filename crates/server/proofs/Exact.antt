@@ -142,7 +142,7 @@ module _ (s : Server) (datagram slots out : List ℕ) (done : arriving s datagra
   pub put-is-held : rowFor s h ≡ Put → length (s .incoming .slots) ≡ windowSize
       → held (arriving s datagram slots out .outcome .server .incoming) (h .fragment) ≡ true
   put-is-held row long =
-      let number = put-fits s h (accepted-so .can) row .0 in
+      let number = put-fits s h (accepted-so .can) row .number in
       ap (λ (m : Incoming). held m (h .fragment)) (put-length row)
       ∙ stored-held-same (s .incoming) (h .fragment) (length (bodyOf datagram)) (isLast (h .flags1)) (omega arith)
 
@@ -151,7 +151,7 @@ module _ (s : Server) (datagram slots out : List ℕ) (done : arriving s datagra
   unfolding arrivalRow requestPlan putPlan
   put-bytes row =
       let a = accepted-so in
-      a .stores Put row ∙ placed-whole a (put-fits s h (a .can) row .0)
+      a .stores Put row ∙ placed-whole a (put-fits s h (a .can) row .number)
 
   -- so it is after one that begins.
   pub begin-length : rowFor s h ≡ Begin
@@ -166,7 +166,7 @@ module _ (s : Server) (datagram slots out : List ℕ) (done : arriving s datagra
 
   pub begin-is-held : rowFor s h ≡ Begin → held (arriving s datagram slots out .outcome .server .incoming) (h .fragment) ≡ true
   begin-is-held row =
-      let number = begin-fits s h (accepted-so .can) row .0 in
+      let number = begin-fits s h (accepted-so .can) row .number in
       ap (λ (m : Incoming). held m (h .fragment)) (begin-length row)
       ∙ stored-held-same cleared (h .fragment) (length (bodyOf datagram)) (isLast (h .flags1)) (omega (arith, cleared-length))
 
@@ -174,4 +174,4 @@ module _ (s : Server) (datagram slots out : List ℕ) (done : arriving s datagra
   unfolding arrivalRow beginPlan requestPlan putPlan
   begin-bytes row =
       let a = accepted-so in
-      a .stores Begin row ∙ placed-whole a (begin-fits s h (a .can) row .0)
+      a .stores Begin row ∙ placed-whole a (begin-fits s h (a .can) row .number)
