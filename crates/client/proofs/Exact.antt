@@ -9,7 +9,7 @@ use lib.Dec.{eqb}
 use lib.ListN.{length}
 use Rattle.words.specs.Choice.{choose}
 use Rattle.words.specs.Place.{putAt}
-use Rattle.words.specs.Sizes.{bodySize, windowSize, slotsSize}
+use Rattle.words.specs.Sizes.{bodySize, slotsSize}
 use Rattle.words.proofs.Place.{placed-fits}
 use Rattle.answers.specs.declared.Answer.the-variants.{Done}
 use Rattle.answers.specs.declared.Ground.{Ground}
@@ -19,7 +19,7 @@ use Rattle.incoming.specs.declared.Incoming.{Incoming}
 use Rattle.incoming.specs.Slots.{stored}
 use Rattle.fragments.specs.Judgement.{held}
 use Rattle.fragments.specs.Slots.{storing}
-use Rattle.fragments.proofs.PutLaws.{stored-held-same}
+use Rattle.fragments.proofs.PutLaws.{stored-held}
 use Rattle.fragments.proofs.BufferLaws.{filled-placed}
 use Rattle.outgoing.specs.Message.{fragments}
 use Rattle.outgoing.specs.Sending.{started as startedMessage, sendsLast}
@@ -39,6 +39,7 @@ use Rattle.client_record.specs.Rules.{sound}
 use Rattle.client_record.specs.Record.{withOutgoing, withIncoming, withWaits}
 use Rattle.client_record.proofs.StateLaws.{active-state}
 use Rattle.client_record.proofs.RecordLaws.{untimed-told}
+use Rattle.client_record.proofs.RuleLaws.{rules-told}
 use Rattle.client_table.specs.declared.Event.{Event}
 use Rattle.client_table.specs.declared.Event.the-variants.{Response, Fack}
 use Rattle.client_table.specs.Events.{serverEvent, eventOf, byEvent, hasRow}
@@ -139,14 +140,14 @@ module _ (c : Client) (datagram slots out : List ℕ) (done : arriving c datagra
       ∙ ap (λ (k : ℕ). stored (c .incoming) (h .fragment) k (isLast (h .flags1))) (body-length (bodyOf datagram) (a .short))
 
   -- and is held,
-  pub response-held : h .kind ≡ 2 → length (c .incoming .slots) ≡ windowSize
+  pub response-held : h .kind ≡ 2
       → held (arriving c datagram slots out .outcome .client .incoming) (h .fragment) ≡ true
   unfolding eventOf serverEvent choose
-  response-held typed long =
+  response-held typed =
       let a = accepted-as Response (ap eventOf typed) in
-      let number = response-can c h n (a .can) .number in
       ap (λ (m : Incoming). held m (h .fragment)) (response-length typed)
-      ∙ stored-held-same (c .incoming) (h .fragment) (length (bodyOf datagram)) (isLast (h .flags1)) (omega arith)
+      ∙ stored-held (c .incoming) (h .fragment) (length (bodyOf datagram)) (isLast (h .flags1))
+      (rules-told c (a .kept) .incoming) (response-can c h n (a .can))
 
   -- and its body lies in its place of the slot buffer.
   pub response-bytes : h .kind ≡ 2 → arriving c datagram slots out .slots ≡ putAt (bodySize * h .fragment) (bodyOf datagram) slots

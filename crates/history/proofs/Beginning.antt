@@ -59,12 +59,11 @@ client-fresh c slots starts replies f none = record {
         outgoing =
             subst (λ (s : ClientState). clientOutgoing s (c .outgoing) ≡ true) (sym (f .state))
             (both-hold (bounded (c .outgoing)) (hasNothing (c .outgoing)) (sent-bounded (c .outgoing) (f .outgoing)) (sent-none (c .outgoing) (f .outgoing)));
-        incoming = none-sound (c .incoming) (f .incoming .last) (f .incoming .none);
+        incoming = none-sound (c .incoming) (f .incoming .slots) (f .incoming .last) (f .incoming .none);
         timers =
             both-hold _ _ (off-kept (isWaiting (c .state)) (c .wait) (c .tickets) (f .wait)) (off-kept (isAckPending (c .state)) (c .ack) (c .tickets) (f .ack));
       });
   activity = f .activity;
-  slotted = f .incoming .slots;
   unbegun = λ e. none;
   current = λ e. absurd (false≢true (sym e ∙ ap isQueued (f .state)));
   unasked = λ e. none-unheld (c .incoming) (f .incoming .none);
@@ -84,12 +83,11 @@ server-fresh s standing slots starts dispatches replies f none unanswered-yet = 
         outgoing =
             subst (λ (x : ServerState). serverOutgoing x (s .outgoing) ≡ true) (sym (f .state))
             (both-hold (bounded (s .outgoing)) (hasNothing (s .outgoing)) (sent-bounded (s .outgoing) (f .outgoing)) (sent-none (s .outgoing) (f .outgoing)));
-        incoming = none-sound (s .incoming) (f .incoming .last) (f .incoming .none);
+        incoming = none-sound (s .incoming) (f .incoming .slots) (f .incoming .last) (f .incoming .none);
         timer = off-kept (isHeld (s .state)) (s .resend) (s .tickets) (f .resend);
       });
   activity = f .activity;
   boot = f .boot;
-  slotted = f .incoming .slots;
   takes = λ k new. record { first = λ t m e i d x. absurd (subst (In d) none x); single = λ r m. absurd (subst (In r) unanswered-yet m) };
   called = λ e. absurd (false≢true (sym e ∙ ap isFresh (f .state)));
   collecting = λ e. absurd (false≢true (sym (ap unanswered (f .state)) ∙ ap unanswered e));

@@ -47,7 +47,7 @@ use Rattle.history.specs.Lists.{In}
 use Rattle.history.specs.World.{Started, Completed, Replied, SentPdu, World}
 use Rattle.history.specs.Steps.{lastStart, completionsAfter, completionEntry}
 use Rattle.history.specs.Claim.{WholeReply, hasReply}
-use Rattle.history.proofs.Holding.{Buffer, Slotted, Short, PartOf, unheld-unfinished, holding-whole, Holding, Single, empty-holding, put-holding, put-slotted, other-empty}
+use Rattle.history.proofs.Holding.{Buffer, Short, PartOf, unheld-unfinished, holding-whole, Holding, Single, empty-holding, put-holding, other-empty}
 use Rattle.history.proofs.Types.{IsResponse, response-kind}
 use Rattle.history.proofs.Network.{Request, Response}
 use Rattle.history.proofs.Ordinals.{equal-start}
@@ -61,7 +61,7 @@ use Rattle.calls.specs.declared.Notice.{Notice}
 
 -- The client's holdings after a response that passed 16 and 17: fragments of one reply.
 module _ (ordinal : ℕ) (m : Incoming) (slots : List ℕ) (replies : List Replied) (flags1 f : ℕ) (body : List ℕ)
-    (kept : incomingSound m ≡ true) (long : Slotted m) (whole : Buffer slots)
+    (kept : incomingSound m ≡ true) (whole : Buffer slots)
     (alike : (r t : Replied) → In r replies → In t replies → r .ordinal ≡ t .ordinal → (r ≡ t) ⊎ (Single (r .message) ⊎ Single (t .message)))
     (r : Replied) (given : In r replies) (mine : r .ordinal ≡ ordinal) (part : PartOf (r .message) flags1 f body)
     (can : CanPut m f (isLast flags1)) where
@@ -77,7 +77,7 @@ module _ (ordinal : ℕ) (m : Incoming) (slots : List ℕ) (replies : List Repli
 
   -- and so it is after the put.
   put-holds : ClientHolds ordinal m slots replies → ClientHolds ordinal (stored m f (length body) (isLast flags1)) (filled f body slots) replies
-  put-holds h = fragments-of r given mine (put-holding m slots (r .message) flags1 f body (same-reply h) kept long part can)
+  put-holds h = fragments-of r given mine (put-holding m slots (r .message) flags1 f body (same-reply h) kept part can)
 
 -- Where all is held, what is handed up is the whole of one reply,
 pub whole-handed : (c : Client) (slots : List ℕ) (starts : List Started) (replies : List Replied) → ClientInv c slots starts replies → complete (c .incoming) ≡ true
@@ -173,7 +173,6 @@ module _ (w : World) (inv : Inv w) (o : ℕ) (h : Header) (body : List ℕ) (sta
       record {
         kept = row-sound c h (bodyLength body) status kept (omega arith) ResponseEvent j;
         activity = rw (same .activity) (inv .client .activity);
-        slotted = put-slotted (c .incoming) (h .fragment) (bodyLength body) (isLast (h .flags1)) (inv .client .slotted);
         unbegun = λ q. absurd (false≢true (sym (put-started (complete m) (c .call .idempotent) c m) ∙ q));
         current =
             λ q.
@@ -185,7 +184,7 @@ module _ (w : World) (inv : Inv w) (o : ℕ) (h : Header) (body : List ℕ) (sta
             λ q.
             rw (body-length body short)
             (put-holds (lastStart (w .books .starts)) (c .incoming) (w .client .slots) (w .books .replies) (h .flags1) (h .fragment) body (rules-told c kept .incoming)
-            (inv .client .slotted) whole (inv .calls .alike) (from .reply) (from .given) (mine from begun (j .mine)) (from .part)
+            whole (inv .calls .alike) (from .reply) (from .given) (mine from begun (j .mine)) (from .part)
             (response-can c h (bodyLength body) j) (inv .client .holds begun));
       }
 

@@ -7,34 +7,31 @@ use mathlib.Core.Logic.{_⊎_, inl, inr}
 use mathlib.Core.Path.{_≡_, refl, sym, ap, subst, _∙_}
 use native.Mathlib.Omega.{arith}
 use lib.Dec.{eqb}
-use lib.ListN.{length, drop, take-append-drop, getD, List·getD-eq-default}
-use native.Mathlib.Decide.{decLt}
+use lib.ListN.{length, drop, take-append-drop, getD}
 use borrow.Author.Tests.{eqb-true, eqb-false, eq-eqb, ltb-true, lt-ltb, le-ltb}
 use Rattle.words.specs.Choice.{choose, both, either}
 use Rattle.words.specs.Sizes.{bodySize, windowSize, slotsSize}
-use Rattle.words.proofs.Tests.{both-hold, either-false}
+use Rattle.words.proofs.Tests.{either-false}
 use Rattle.flags.specs.Flags.{lastFragment, fragment, idempotent, hasFlag, withFlag}
 use Rattle.incoming.specs.declared.Slot.{Slot}
 use Rattle.incoming.specs.declared.Last.{Last}
 use Rattle.incoming.specs.declared.Last.the-variants.{Unknown, At}
 use Rattle.incoming.specs.declared.Incoming.{Incoming}
-use Rattle.incoming.specs.Slots.{missing, cleared, allTo, lastSound, soundFrom, sound, contiguousFrom, contiguous, complete, lastWith, stored}
+use Rattle.incoming.specs.Slots.{missing, cleared, allTo, lastSound, sound, contiguousFrom, contiguous, complete, lastWith, stored}
 use Rattle.incoming.proofs.SlotLaws.{count-held, sound-all}
+use Rattle.incoming.proofs.RuleLaws.{kept-by, sound-by}
 use Rattle.outgoing.specs.Message.{fragments, fragmentOf, flagsOf}
 use Rattle.outgoing.proofs.OutgoingLaws.{fragments-reach, fragment-most}
 use Rattle.fragments.specs.Joined.{Leads}
 use Rattle.fragments.specs.Judgement.{held, anyHeld, heldAbove, aboveLast, otherLast, lastBelowHeld, contradicts}
 use Rattle.fragments.specs.Slots.{bytesOf, filled}
 use Rattle.fragments.proofs.BufferLaws.{handedBelow, joined, joined-front, Carries, filled-here, filled-other, joined-whole}
-use Rattle.fragments.proofs.PutLaws.{none-held, stored-length, filled-length, CanPut, stored-slot-same, stored-slot-other, stored-held-same, stored-held-other, held-told, none-above}
+use Rattle.fragments.proofs.PutLaws.{none-held, filled-length, CanPut, stored-slot-same, stored-slot-other, stored-held, stored-held-other, held-told, none-above}
 use Rattle.grounds.specs.Fragment.{isLast}
 
--- The sizes: a slot buffer, the slots of a record, the body of a PDU.
+-- The sizes: a slot buffer, the body of a PDU.
 abbrev pub Buffer : List ℕ → Type 0
 Buffer slots = length slots ≡ slotsSize
-
-abbrev pub Slotted : Incoming → Type 0
-Slotted m = length (m .slots) ≡ windowSize
 
 abbrev pub Short : List ℕ → Type 0
 Short body = length body ≤ bodySize
@@ -76,11 +73,16 @@ unfolding held
 none-unheld m none f = none-held (m .slots) f none
 
 -- It keeps the rules of what is held.
-pub none-sound : (m : Incoming) → lastSound (m .last) ≡ true → anyHeld (m .slots) ≡ false → sound m ≡ true
-unfolding sound
-none-sound m last none =
-    both-hold (lastSound (m .last)) (soundFrom (m .last) 0 (m .slots)) last
-    (sound-all (m .last) 0 (m .slots) missing (λ g below h. absurd (false≢true (sym (none-held (m .slots) g none) ∙ h))))
+pub none-sound : (m : Incoming) → length (m .slots) ≡ windowSize → lastSound (m .last) ≡ true
+    → anyHeld (m .slots) ≡ false → sound m ≡ true
+none-sound m long last none =
+    sound-by m (record {
+      slotted = long;
+      last = last;
+      slots =
+          sound-all (m .last) 0 (m .slots) missing
+          (λ g below h. absurd (false≢true (sym (none-held (m .slots) g none) ∙ h)));
+    })
 
 -- So it is in a cleared record.
 pub cleared-empty : Empty cleared
@@ -138,16 +140,11 @@ empty-holding m slots message buffer e = record {
 -- A held fragment of a sound record is at most 1,392 long.
 held-short : (m : Incoming) (g : ℕ) → sound m ≡ true → slotAt m g .held ≡ true → slotAt m g .length ≤ bodySize
 unfolding held
-held-short m g kept h = by-place (decLt (slotOf g) (length (m .slots)))
-  where
-    by-place : Dec (slotOf g < length (m .slots)) → slotAt m g .length ≤ bodySize
-    by-place (yes here) = held-told m g kept here h .0
-    by-place (no past) =
-        absurd (false≢true (sym (ap (λ (s : Slot). s .held) (List·getD-eq-default (m .slots) missing (omega arith))) ∙ h))
+held-short m g kept h = held-told m g kept h .0
 
 -- A put of a fragment of the message that may be put.
 module _ (m : Incoming) (slots message : List ℕ) (flags1 f : ℕ) (body : List ℕ) (holds : Holding m slots message)
-    (kept : sound m ≡ true) (long : Slotted m) (part : PartOf message flags1 f body)
+    (kept : sound m ≡ true) (part : PartOf message flags1 f body)
     (can : CanPut m f (isLast flags1)) where
   short : Short body
   short = rw (part .bytes) (fragment-most message f)
@@ -155,13 +152,17 @@ module _ (m : Incoming) (slots message : List ℕ) (flags1 f : ℕ) (body : List
   number : f < windowSize
   number = omega (arith, can .number)
 
+  here : f < length (m .slots)
+  here = omega (arith, can .number, kept-by m kept .slotted)
+
   put-carries : Carries (stored m f (length body) (isLast flags1)) (filled f body slots) message
   put-carries g h = by-number (eqb g f) refl
     where
       by-number : (t : Bool) → eqb g f ≡ t → bytesOf (stored m f (length body) (isLast flags1) .slots) g (filled f body slots) ≡ fragmentOf message g
       by-number true e =
           let same : g ≡ f = eqb-true g f e in
-          rw (same, stored-slot-same m f (length body) (isLast flags1) (omega arith)) (filled-here f body slots (holds .buffer) short number ∙ part .bytes)
+          rw (same, stored-slot-same m f (length body) (isLast flags1) here)
+          (filled-here f body slots (holds .buffer) short number ∙ part .bytes)
       by-number false e =
           let apart = eqb-false g f e in
           let other = stored-slot-other m f (length body) (isLast flags1) g apart in
@@ -181,7 +182,10 @@ module _ (m : Incoming) (slots message : List ℕ) (flags1 f : ℕ) (body : List
   unfolding lastWith choose
   put-last true e k h =
       let same : f ≡ k = ap lastOr h in
-      rw (← same) (eqb-true (f + 1) (fragments (length message)) (sym (part .last) ∙ e), stored-held-same m f (length body) (isLast flags1) (omega arith))
+      rw (← same) (
+        eqb-true (f + 1) (fragments (length message)) (sym (part .last) ∙ e),
+        stored-held m f (length body) (isLast flags1) kept can,
+      )
   put-last false e k h =
       let end = holds .last k h in
       let apart : k ≡ f → ⊥ = λ (same : k ≡ f).
@@ -211,10 +215,6 @@ module _ (m : Incoming) (slots message : List ℕ) (flags1 f : ℕ) (body : List
     known = λ k h. put-last (isLast flags1) refl k h .1;
     end = put-end (isLast flags1) refl;
   }
-
--- A put leaves the record its slots.
-pub put-slotted : (m : Incoming) (f n : ℕ) (last : Bool) → Slotted m → Slotted (stored m f n last)
-put-slotted m f n last long = stored-length m f n last ∙ long
 
 -- What is handed up is a leading part of the message,
 pub holding-leads : (m : Incoming) (slots message : List ℕ) → Holding m slots message → sound m ≡ true → Leads (joined m slots) message

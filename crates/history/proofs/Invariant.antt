@@ -26,7 +26,7 @@ use Rattle.history.specs.World.{callNumber, Started, Dispatched, Replied
 use Rattle.history.specs.Steps.{dispatchEntry, lastStart, lastDispatched, clientTurnOf, serverTurnOf, startedAfter, repliedAfter, Subject, ofRecord, clientWorld, serverWorld}
 use Rattle.history.specs.Fairness.{OfLastStart, OfLastReply, Typed}
 use Rattle.history.specs.Claim.{times, DispatchOf, WholeReply, hasReply}
-use Rattle.history.proofs.Holding.{Slotted, Unheld, Holding, Empty, Single}
+use Rattle.history.proofs.Holding.{Unheld, Holding, Empty, Single}
 use Rattle.history.proofs.Types.{IsRequest, IsAck, IsResponse}
 use Rattle.history.proofs.Network.{Request, Response, Known}
 
@@ -51,7 +51,6 @@ pub data ClientHolds (ordinal : ℕ) (m : Incoming) (slots : List ℕ) (replies 
 pub record ClientInv (c : Client) (slots : List ℕ) (starts : List Started) (replies : List Replied) : Type 0 where
   pub kept : clientSound c ≡ true
   pub activity : length (c .activity) ≡ 16
-  pub slotted : Slotted (c .incoming)
   pub unbegun : isQueued (c .state) ≡ true → starts ≡ []
   pub current : isQueued (c .state) ≡ false → CurrentStart c starts
   pub unasked : isQueued (c .state) ≡ true → Unheld (c .incoming)
@@ -135,7 +134,6 @@ pub record ServerInv (s : Server) (standing : ℕ) (slots : List ℕ) (starts : 
   pub kept : serverSound s ≡ true
   pub activity : length (s .activity) ≡ 16
   pub boot : s .boot < 4294967296
-  pub slotted : Slotted (s .incoming)
   pub takes : (k : ℕ) → NewTo s standing k → Open starts dispatches replies k
   pub called : isFresh (s .state) ≡ false → CalledStart s standing starts
   pub collecting : s .state ≡ Collect → Collecting s standing slots starts dispatches

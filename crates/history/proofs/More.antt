@@ -64,7 +64,6 @@ module _ (starts more : List Started) (within : Within starts more) where
     kept = old .kept;
     activity = old .activity;
     boot = old .boot;
-    slotted = old .slotted;
     takes = takes;
     called = λ e. called-more s standing (old .called e);
     collecting = λ e. collecting-more s standing slots dispatches (old .collecting e);
@@ -93,7 +92,6 @@ module _ (replies more : List Replied) (within : Within replies more) where
   more-replies c slots starts old = record {
     kept = old .kept;
     activity = old .activity;
-    slotted = old .slotted;
     unbegun = old .unbegun;
     current = old .current;
     unasked = old .unasked;

@@ -175,7 +175,6 @@ module _ (w : World) (inv : Inv w) (n : ℕ) (message : List ℕ) (can : CanRepl
         kept = replied-sound (w .server .machine) (can .kept) n (can .short);
         activity = old .activity;
         boot = old .boot;
-        slotted = old .slotted;
         takes =
             λ k new.
             let before = old .takes k (new-on (w .server .machine) (answered (w .server .machine) n) (w .books .standing) refl k new) in

@@ -18,7 +18,7 @@ use Rattle.fragments.proofs.PutLaws.{CanPut, stored-sound}
 use Rattle.fragments.proofs.PartLaws.{parts-joined}
 use Rattle.incoming.specs.declared.Incoming.{Incoming}
 use Rattle.incoming.specs.Slots.{complete, cleared, stored, sound as incomingSound}
-use Rattle.incoming.proofs.SlotLaws.{cleared-sound, cleared-length}
+use Rattle.incoming.proofs.SlotLaws.{cleared-sound}
 use Rattle.outgoing.specs.Sending.{noMessage, bounded, hasNothing}
 use Rattle.pdu.specs.declared.Header.{Header}
 use Rattle.timers.proofs.TimerLaws.{off-sound}
@@ -41,7 +41,7 @@ use Rattle.history.specs.World.{callNumber, Started, Dispatched, Replied
 use Rattle.history.specs.Steps.{dispatchesAfter, Subject, dispatchEntry}
 use Rattle.history.specs.Claim.{times}
 use Rattle.history.proofs.ListLaws.{within-grown, added-last, in-added, all-grown, last-dispatched, times-same, times-other, times-none}
-use Rattle.history.proofs.Holding.{Buffer, Short, cleared-empty, PartOf, Holding, Single, empty-holding, put-holding, put-slotted, holding-whole}
+use Rattle.history.proofs.Holding.{Buffer, Short, cleared-empty, PartOf, Holding, Single, empty-holding, put-holding, holding-whole}
 use Rattle.history.proofs.Network.{Request, Response, Known}
 use Rattle.history.proofs.More.{more-dispatches, called-on}
 use Rattle.history.proofs.Types.{IsResponse}
@@ -88,7 +88,6 @@ module _ (s : Server) (standing : ℕ) (slots : List ℕ) (starts : List Started
     kept = begun-sound s h;
     activity = inv .activity;
     boot = inv .boot;
-    slotted = cleared-length;
     takes = λ k new. inv .takes k (newer-on begins k new);
     called =
         λ e.
@@ -145,7 +144,7 @@ module _ (s : Server) (o : ℕ) (slots : List ℕ) (starts : List Started) (disp
   after-holds : Holding after (filled (h .fragment) body slots) (collecting .start .message)
   after-holds =
       put-holding (s .incoming) slots (collecting .start .message) (h .flags1) (h .fragment) body (collecting .holding) (rules-told s (inv .kept) .incoming)
-      (inv .slotted) (subst (λ (x : Started). PartOf (x .message) (h .flags1) (h .fragment) body) same-start (request .part)) can
+      (subst (λ (x : Started). PartOf (x .message) (h .flags1) (h .fragment) body) same-start (request .part)) can
 
   -- and where all to the last is held it is handed up whole.
   handed-whole : (t : Server) → sound t ≡ true → t .incoming ≡ after → complete after ≡ true
@@ -170,7 +169,6 @@ module _ (s : Server) (o : ℕ) (slots : List ℕ) (starts : List Started) (disp
         kept = kept;
         activity = inv .activity;
         boot = inv .boot;
-        slotted = put-slotted (s .incoming) (h .fragment) (length body) (isLast (h .flags1)) (inv .slotted);
         takes = λ n new. inv .takes n (new-on s (putServer false) o refl n new);
         called = λ e. called-on s (putServer false) o starts refl refl k;
         collecting =
@@ -217,7 +215,6 @@ module _ (s : Server) (o : ℕ) (slots : List ℕ) (starts : List Started) (disp
         kept = kept;
         activity = inv .activity;
         boot = inv .boot;
-        slotted = put-slotted (s .incoming) (h .fragment) (length body) (isLast (h .flags1)) (inv .slotted);
         takes =
             λ n new.
             let old = inv .takes n (new-on s (putServer true) o refl n new) in

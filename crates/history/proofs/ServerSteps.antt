@@ -72,7 +72,6 @@ goes-on s t standing slots starts dispatches replies inv called kept g =
       kept = kept;
       activity = rw (g .activity) (inv .activity);
       boot = rw (g .boot) (inv .boot);
-      slotted = rw (g .incoming) (inv .slotted);
       takes = λ n new. inv .takes n (new-on s t standing later n new);
       called = λ e. called-on s t standing starts (g .number) (g .call) k;
       collecting = λ e. absurd (false≢true (sym (ap past e) ∙ g .after));

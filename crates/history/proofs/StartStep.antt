@@ -12,7 +12,6 @@ use Rattle.answers.specs.declared.Ground.{Ground}
 use Rattle.answers.specs.declared.Ground.the-variants.{Pass}
 use Rattle.calls.specs.declared.Call.{Call}
 use Rattle.calls.specs.declared.Sent.the-variants.{Nothing as Unsent}
-use Rattle.incoming.proofs.SlotLaws.{cleared-length}
 use Rattle.outgoing.specs.Sending.{started as startedMessage, messageOf}
 use Rattle.pdu.specs.declared.Header.{Header}
 use Rattle.client_record.specs.declared.Client.{Client}
@@ -92,7 +91,6 @@ module _ (w : World) (inv : Inv w) (call : Call) (n : ℕ) (message : List ℕ) 
   client-started = record {
     kept = started-sound (w .client .machine) call n (can .short);
     activity = inv .client .activity;
-    slotted = cleared-length;
     unbegun = λ e. absurd (false≢true e);
     current =
         λ e.

@@ -253,9 +253,9 @@ module _ (message reply clientSlots serverSlots out : List ℕ) (asks : length m
       (put message 2785 1 asks (s2 bodySize .machine .incoming) v2 4
       (put message 2785 0 asks (s1 1 .machine .incoming) v1 4
       (put message 2785 2 asks cleared serverSlots 6 (empty-holding cleared serverSlots message serverRoom cleared-empty)
-      refl refl (record { number = omega arith; new = refl; fits = refl }) (omega arith) refl)
-      refl refl (record { number = omega arith; new = refl; fits = refl }) (omega arith) refl)
-      refl refl (record { number = omega arith; new = refl; fits = refl }) (omega arith) refl)
+      refl (record { number = omega arith; new = refl; fits = refl }) (omega arith) refl)
+      refl (record { number = omega arith; new = refl; fits = refl }) (omega arith) refl)
+      refl (record { number = omega arith; new = refl; fits = refl }) (omega arith) refl)
       refl refl
 
   -- and what the client does, the reply: where "last" is told,
@@ -266,9 +266,9 @@ module _ (message reply clientSlots serverSlots out : List ℕ) (asks : length m
       (put reply 2786 2 replies (k12 bodySize .machine .incoming) u2 6
       (put reply 2786 0 replies (k11 bodySize .machine .incoming) u1 4
       (put reply 2786 1 replies cleared clientSlots 4 (empty-holding cleared clientSlots reply clientRoom cleared-empty)
-      refl refl (record { number = omega arith; new = refl; fits = refl }) (omega arith) refl)
-      refl refl (record { number = omega arith; new = refl; fits = refl }) (omega arith) refl)
-      refl refl (record { number = omega arith; new = refl; fits = refl }) (omega arith) refl)
+      refl (record { number = omega arith; new = refl; fits = refl }) (omega arith) refl)
+      refl (record { number = omega arith; new = refl; fits = refl }) (omega arith) refl)
+      refl (record { number = omega arith; new = refl; fits = refl }) (omega arith) refl)
       refl refl
 
   reply-told : clientHandsUp (k14 2 .machine) u3 ≡ reply

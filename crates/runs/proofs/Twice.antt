@@ -171,7 +171,7 @@ module _ (clientSlots serverSlots out : List ℕ) (clientRoom : length clientSlo
   question-whole slots long =
       parts-joined (serverSound (s1 .machine)) (s1 .machine .incoming) (filled 0 question slots) refl
       ∙ holding-whole (s1 .machine .incoming) (filled 0 question slots) question
-      (put question 3 0 refl cleared slots 0 (empty-holding cleared slots question long cleared-empty) refl refl
+      (put question 3 0 refl cleared slots 0 (empty-holding cleared slots question long cleared-empty) refl
       (record { number = omega arith; new = refl; fits = refl }) (omega arith) refl)
       refl refl
 
@@ -183,7 +183,7 @@ module _ (clientSlots serverSlots out : List ℕ) (clientRoom : length clientSlo
       ∙ holding-whole (k7 .machine .incoming) u1 secondReply
       (put secondReply 2 0 refl cleared clientSlots 0
       (empty-holding cleared clientSlots secondReply clientRoom cleared-empty)
-      refl refl (record { number = omega arith; new = refl; fits = refl }) (omega arith) refl)
+      refl (record { number = omega arith; new = refl; fits = refl }) (omega arith) refl)
       refl refl
 
   -- The story, stage by stage.
@@ -280,7 +280,7 @@ module _ (clientSlots serverSlots out : List ℕ) (clientRoom : length clientSlo
   next-whole =
       parts-joined (serverSound (s8 .machine)) (one 3) v3 refl
       ∙ holding-whole (one 3) v3 question
-      (put question 3 0 refl cleared v2 0 (empty-holding cleared v2 question v2-long cleared-empty) refl refl
+      (put question 3 0 refl cleared v2 0 (empty-holding cleared v2 question v2-long cleared-empty) refl
       (record { number = omega arith; new = refl; fits = refl }) (omega arith) refl)
       refl refl
 
@@ -290,7 +290,7 @@ module _ (clientSlots serverSlots out : List ℕ) (clientRoom : length clientSlo
   next-reply =
       hands-joined (k10 .machine) u2 refl
       ∙ holding-whole (one 3) u2 nextReply
-      (put nextReply 3 0 refl cleared u1 0 (empty-holding cleared u1 nextReply u1-long cleared-empty) refl refl
+      (put nextReply 3 0 refl cleared u1 0 (empty-holding cleared u1 nextReply u1-long cleared-empty) refl
       (record { number = omega arith; new = refl; fits = refl }) (omega arith) refl)
       refl refl
 

@@ -9,16 +9,16 @@ use lib.Dec.{eqb}
 use lib.ListN.{length}
 use Rattle.words.specs.Choice.{choose}
 use Rattle.words.specs.Place.{putAt}
-use Rattle.words.specs.Sizes.{bodySize, windowSize, slotsSize, lastNumber}
+use Rattle.words.specs.Sizes.{bodySize, slotsSize, lastNumber}
 use Rattle.words.proofs.Place.{placed-fits}
 use Rattle.answers.specs.declared.Answer.the-variants.{Done}
 use Rattle.answers.specs.declared.Ground.{Ground}
 use Rattle.incoming.specs.Slots.{cleared, stored}
 use Rattle.fragments.specs.Judgement.{held}
 use Rattle.fragments.specs.Slots.{storing}
-use Rattle.fragments.proofs.PutLaws.{stored-held-same}
+use Rattle.fragments.proofs.PutLaws.{stored-held}
 use Rattle.incoming.specs.declared.Incoming.{Incoming}
-use Rattle.incoming.proofs.SlotLaws.{cleared-length}
+use Rattle.incoming.proofs.SlotLaws.{cleared-sound}
 use Rattle.fragments.proofs.BufferLaws.{filled-placed}
 use Rattle.outgoing.specs.Message.{fragments}
 use Rattle.outgoing.specs.Sending.{replied, sendsLast}
@@ -139,12 +139,13 @@ module _ (s : Server) (datagram slots out : List ℕ) (done : arriving s datagra
       ∙ ap (λ (k : ℕ). stored (s .incoming) (h .fragment) k (isLast (h .flags1))) (body-length (bodyOf datagram) (a .short))
 
   -- it is held,
-  pub put-is-held : rowFor s h ≡ Put → length (s .incoming .slots) ≡ windowSize
+  pub put-is-held : rowFor s h ≡ Put
       → held (arriving s datagram slots out .outcome .server .incoming) (h .fragment) ≡ true
-  put-is-held row long =
-      let number = put-fits s h (accepted-so .can) row .number in
+  put-is-held row =
+      let a = accepted-so in
       ap (λ (m : Incoming). held m (h .fragment)) (put-length row)
-      ∙ stored-held-same (s .incoming) (h .fragment) (length (bodyOf datagram)) (isLast (h .flags1)) (omega arith)
+      ∙ stored-held (s .incoming) (h .fragment) (length (bodyOf datagram)) (isLast (h .flags1))
+      (rules-told s (a .kept) .incoming) (put-fits s h (a .can) row)
 
   -- and its body lies in its place;
   pub put-bytes : rowFor s h ≡ Put → arriving s datagram slots out .slots ≡ putAt (bodySize * h .fragment) (bodyOf datagram) slots
@@ -166,9 +167,9 @@ module _ (s : Server) (datagram slots out : List ℕ) (done : arriving s datagra
 
   pub begin-is-held : rowFor s h ≡ Begin → held (arriving s datagram slots out .outcome .server .incoming) (h .fragment) ≡ true
   begin-is-held row =
-      let number = begin-fits s h (accepted-so .can) row .number in
       ap (λ (m : Incoming). held m (h .fragment)) (begin-length row)
-      ∙ stored-held-same cleared (h .fragment) (length (bodyOf datagram)) (isLast (h .flags1)) (omega (arith, cleared-length))
+      ∙ stored-held cleared (h .fragment) (length (bodyOf datagram)) (isLast (h .flags1)) cleared-sound
+      (begin-fits s h (accepted-so .can) row)
 
   pub begin-bytes : rowFor s h ≡ Begin → arriving s datagram slots out .slots ≡ putAt (bodySize * h .fragment) (bodyOf datagram) slots
   unfolding arrivalRow beginPlan requestPlan putPlan

@@ -1,24 +1,21 @@
 -- `fragments::hand_up` meets its contract. What is handed up lies within the buffer, because the record is sound.
 use Prim.Native.Nat.{_+_, _*_}
-use mathlib.Core.Path.{_≡_, refl, sym, ap, _∙_}
+use mathlib.Core.Path.{refl, sym, ap, _∙_}
 use native.Mathlib.Omega.{arith}
 use borrow.Author.Needs.{needs}
-use lib.ListN.{length, length-map}
-use Rattle.words.specs.Sizes.{bodySize, windowSize}
+use lib.ListN.{length}
+use Rattle.words.specs.Sizes.{bodySize}
 use Rattle.incoming.specs.declared.Slot.{Slot}
 use Rattle.fragments.proofs.FragmentLaws.{handed-within, handed-part, handed-none}
 use Rattle.fragments.proofs.hand_up.Statement.{statement}
 use Rattle.fragments.proofs.hand_up.Tie as tie
 
-long : (c : tie.Start) → length (c .args .m .slots) ≡ windowSize
-long c = simp length-map at (c .good .0 .1 .1 .0 .1 .0 .1)
-
 part-result-end : tie.Need-part-result-end
 part-result-end c =
-    let start = c .before .before .before .before .before .before in
-    let a = start .args in
+    let a = c .before .before .before .before .before .before .args in
     let size = ap (λ (s : Slot). s .length) (c .before .before .before .slot-of .ensures) in
-    let room = handed-within (a .m) (a .f) (length (a .buffer .now)) (long start) (sym (c .before .is-handed-up .ensures) ∙ c .if1 .taken) in
+    let room =
+    handed-within (a .m) (a .f) (length (a .buffer .now)) (sym (c .before .is-handed-up .ensures) ∙ c .if1 .taken) in
     omega arith
 
 returns : tie.Need-returns
