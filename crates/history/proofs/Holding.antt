@@ -17,9 +17,9 @@ use Rattle.incoming.specs.declared.Slot.{Slot}
 use Rattle.incoming.specs.declared.Last.{Last}
 use Rattle.incoming.specs.declared.Last.the-variants.{Unknown, At}
 use Rattle.incoming.specs.declared.Incoming.{Incoming}
-use Rattle.incoming.specs.Slots.{missing, cleared, allTo, lastSound, sound, contiguousFrom, contiguous, complete, lastWith, stored}
-use Rattle.incoming.proofs.SlotLaws.{count-held, sound-all}
-use Rattle.incoming.proofs.RuleLaws.{kept-by, sound-by}
+use Rattle.incoming.specs.Slots.{missing, window, cleared, allTo, lastSound, sound, ready, contiguous, complete, lastWith, stored}
+use Rattle.incoming.proofs.SlotLaws.{sound-all}
+use Rattle.incoming.proofs.RuleLaws.{kept-by, sound-by, ready-held}
 use Rattle.outgoing.specs.Message.{fragments, fragmentOf, flagsOf}
 use Rattle.outgoing.proofs.OutgoingLaws.{fragments-reach, fragment-most}
 use Rattle.fragments.specs.Joined.{Leads}
@@ -70,7 +70,7 @@ pub record Empty (m : Incoming) : Type 0 where
 -- Nothing is held where no slot is.
 pub none-unheld : (m : Incoming) → anyHeld (m .slots) ≡ false → Unheld m
 unfolding held
-none-unheld m none f = none-held (m .slots) f none
+none-unheld m none f = none-held (window m) f none
 
 -- It keeps the rules of what is held.
 pub none-sound : (m : Incoming) → length (m .slots) ≡ windowSize → lastSound (m .last) ≡ true
@@ -80,8 +80,8 @@ none-sound m long last none =
       slotted = long;
       last = last;
       slots =
-          sound-all (m .last) 0 (m .slots) missing
-          (λ g below h. absurd (false≢true (sym (none-held (m .slots) g none) ∙ h)));
+          sound-all (m .last) 0 (window m) missing
+          (λ g below h. absurd (false≢true (sym (none-held (window m) g none) ∙ h)));
     })
 
 -- So it is in a cleared record.
@@ -92,11 +92,11 @@ cleared-empty = record { none = none-unheld cleared refl; last = refl }
 -- Where nothing is held, none is contiguous,
 pub unheld-none : (m : Incoming) → Unheld m → contiguous m ≡ 0
 unfolding contiguous held
-unheld-none m none = by-count (contiguousFrom (m .slots)) refl
+unheld-none m none = by-count (ready m) refl
   where
-    by-count : (n : ℕ) → contiguousFrom (m .slots) ≡ n → contiguousFrom (m .slots) ≡ 0
+    by-count : (n : ℕ) → ready m ≡ n → ready m ≡ 0
     by-count zero k = k
-    by-count (suc n) k = absurd (false≢true (sym (none 0) ∙ count-held (m .slots) 0 missing (omega (arith, k))))
+    by-count (suc n) k = absurd (false≢true (sym (none 0) ∙ ready-held m 0 (omega (arith, k))))
 
 -- not all is held,
 pub unheld-unfinished : (m : Incoming) → Unheld m → complete m ≡ false

@@ -26,15 +26,20 @@ returns c =
     let slots = d .before .before .args .t1 in
     let last = d .before .before .args .last in
     let l = d .before .loop in
-    sym (l .inv .2 ∙ sound-fails last slots (l .i) _ (omega arith) (sym (c .before .slot-is-sound .ensures) ∙ not-true _ (c .if1 .taken)))
+    sym (l .inv .2 ∙ sound-fails last slots (l .i) (l .i) _ (omega arith)
+    (sym (c .before .slot-is-sound .ensures) ∙ not-true _ (c .if1 .taken)))
 
 loop-again : tie.Need-loop-again Inv-loop μ-loop
 loop-again c =
     let d = c .before .before .before in
     let slots = d .before .before .args .t1 in
     let last = d .before .before .args .last in
-    let l = d .before .loop in
-    (omega arith, l .inv .1, l .inv .2 ∙ sound-on last slots (l .i) _ (omega arith) (sym (c .before .slot-is-sound .ensures) ∙ not-false _ (c .if1 .left)))
+    let l = d .before .loop in (
+      omega arith,
+      l .inv .1,
+      l .inv .2 ∙ sound-on last slots (l .i) (l .i) _ (omega arith)
+          (sym (c .before .slot-is-sound .ensures) ∙ not-false _ (c .if1 .left)),
+    )
 
 returns-2 : tie.Need-returns-2 Inv-loop μ-loop
 returns-2 c =
