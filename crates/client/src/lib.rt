@@ -47,12 +47,12 @@ fn header(kind: u8, flags1: u8, fragment: u16, c: Client) -> Header
 }
 
 // Sends the request's fragment f.
-fn send_request(f: u8, c: Client, message: &[u8], out: &mut [u8]) -> Sent
+fn send_request(f: u16, c: Client, message: &[u8], out: &mut [u8]) -> Sent
     ensures { λ r. ⌜ Posted (requestSent f c (now (message .entry)) (now (out .entry))) r (now (out .exit)) ⌝ }
 {
     let o = c.outgoing;
-    let h = header(0, outgoing::flags(o.count, f), f as u16, c);
-    calls::post(h, outgoing::fragment(message, f as u16), out)
+    let h = header(0, outgoing::flags(o.count, f), f, c);
+    calls::post(h, outgoing::fragment(message, f), out)
 }
 
 // Sends a PDU that has no body.

@@ -78,12 +78,12 @@ fn echo_header(kind: u8, fragment: u16, s: Server, h: Header) -> Header
 }
 
 // Sends the response's fragment f.
-fn send_response(f: u8, s: Server, message: &[u8], out: &mut [u8]) -> Sent
+fn send_response(f: u16, s: Server, message: &[u8], out: &mut [u8]) -> Sent
     ensures { λ r. ⌜ Posted (responseSent f s (now (message .entry)) (now (out .entry))) r (now (out .exit)) ⌝ }
 {
     let o = s.outgoing;
-    let h = reply_header(2, outgoing::flags(o.count, f), f as u16, s);
-    calls::post(h, outgoing::fragment(message, f as u16), out)
+    let h = reply_header(2, outgoing::flags(o.count, f), f, s);
+    calls::post(h, outgoing::fragment(message, f), out)
 }
 
 // Sends a fault with its status.
