@@ -16,9 +16,9 @@ use Rattle.client.specs.Machine.{starting}
 use Rattle.client.proofs.Growing.{transmit-grows, timer-grows, arrive-grows}
 use Rattle.history.specs.Lists.{andThen}
 use Rattle.history.specs.World.{Started, World}
-use Rattle.history.specs.Events.{Lent, ClientEvent, Event, Start, ClientTransmit, ClientArrive, ClientTimer, ServerArrive, ServerTransmit, ServerTimer, Reply, Fault, OfClient, OfServer}
+use Rattle.history.specs.Events.{Lent, ClientEvent, ServerEvent, Event, Start, ClientTransmit, ClientArrive, ClientTimer, ServerArrive, ServerTransmit, ServerTimer, Reply, Fault, OfClient, OfServer}
 use Rattle.history.specs.Steps.{isDone, bytesLent, ownAfter, happens, answerTo, step, run}
-use Rattle.history.specs.Fairness.{Premise, Fair}
+use Rattle.history.specs.Fairness.{ClientPremise, ServerPremise, Premise, Fair}
 use Rattle.history.specs.Claim.{replyHandedUp}
 use Rattle.history.proofs.Invariant.{Inv, startStep}
 use Rattle.history.proofs.Refused.{refused-same}
@@ -28,22 +28,30 @@ use Rattle.history.proofs.StartStep.{started-inv}
 use Rattle.history.proofs.ServerEvents.{server-transmit-inv, server-fault-inv, server-timer-inv, replied-inv}
 use Rattle.history.proofs.ServerArrivals.{server-arrive-inv}
 
--- An event that is answered 0 and keeps its premise,
-accepted-inv : (w : World) (e : Event) → Inv w → answerTo w e ≡ Done → Premise w e → Inv (step w e)
+-- An event of the client that is answered 0 and keeps its premise,
+client-accepted : (w : World) (e : ClientEvent) → Inv w → answerTo w (OfClient e) ≡ Done → ClientPremise w e → Inv (step w (OfClient e))
 unfolding step answerTo happens bytesLent ownAfter
-accepted-inv w (OfClient (Start call n message)) inv done fair = started-inv w call n message inv done fair
-accepted-inv w (OfClient (ClientTransmit message out)) inv done fair = client-transmit-inv w message out inv done fair
-accepted-inv w (OfClient (ClientArrive p lent out)) inv done fair =
+client-accepted w (Start call n message) inv done fair = started-inv w call n message inv done fair
+client-accepted w (ClientTransmit message out) inv done fair = client-transmit-inv w message out inv done fair
+client-accepted w (ClientArrive p lent out) inv done fair =
     subst (λ (l : Lent). answerTo w (OfClient (ClientArrive p l out)) ≡ Done → Inv (step w (OfClient (ClientArrive p l out)))) (sym (fair .own))
     (λ d. client-arrive-inv w p out inv d (fair .earlier)) done
-accepted-inv w (OfClient (ClientTimer kind ticket out)) inv done fair = client-timer-inv w kind ticket out inv done
-accepted-inv w (OfServer (ServerArrive p lent out)) inv done fair =
+client-accepted w (ClientTimer kind ticket out) inv done fair = client-timer-inv w kind ticket out inv done
+
+-- one of the server,
+server-accepted : (w : World) (e : ServerEvent) → Inv w → answerTo w (OfServer e) ≡ Done → ServerPremise w e → Inv (step w (OfServer e))
+unfolding step answerTo happens bytesLent ownAfter
+server-accepted w (ServerArrive p lent out) inv done fair =
     subst (λ (l : Lent). answerTo w (OfServer (ServerArrive p l out)) ≡ Done → Inv (step w (OfServer (ServerArrive p l out)))) (sym (fair .own))
     (λ d. server-arrive-inv w p out inv d (fair .earlier)) done
-accepted-inv w (OfServer (ServerTransmit message out)) inv done fair = server-transmit-inv w message out inv done fair
-accepted-inv w (OfServer (ServerTimer ticket out)) inv done fair = server-timer-inv w ticket out inv done
-accepted-inv w (OfServer (Reply n message)) inv done fair = replied-inv w n message inv done fair
-accepted-inv w (OfServer (Fault status out)) inv done fair = server-fault-inv w status out inv done
+server-accepted w (ServerTransmit message out) inv done fair = server-transmit-inv w message out inv done fair
+server-accepted w (ServerTimer ticket out) inv done fair = server-timer-inv w ticket out inv done
+server-accepted w (Reply n message) inv done fair = replied-inv w n message inv done fair
+server-accepted w (Fault status out) inv done fair = server-fault-inv w status out inv done
+
+accepted-inv : (w : World) (e : Event) → Inv w → answerTo w e ≡ Done → Premise w e → Inv (step w e)
+accepted-inv w (OfClient e) inv done fair = client-accepted w e inv done fair
+accepted-inv w (OfServer e) inv done fair = server-accepted w e inv done fair
 
 -- and so every event, keeps what is known.
 pub step-inv : (w : World) (e : Event) → Inv w → (answerTo w e ≡ Done → Premise w e) → Inv (step w e)

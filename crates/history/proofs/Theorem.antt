@@ -171,6 +171,16 @@ gone-tickets w events inv fair before between after split timer ticket armed gon
     run-gone (run w (before ++ between)) after timer ticket (subst (λ (v : World). ticket ≤ counterOf v timer) (sym middle) (omega arith)) gone
     (subst (λ (v : World). timerIn v timer ≡ Armed ticket) end now)
 
+-- A call that is not idempotent is dispatched at most once.
+at-most-once : (w : World) → Inv w → AtMostOnce w
+unfolding AtMostOnce
+at-most-once w inv = inv .calls .once
+
+-- A late timer changes nothing.
+late-timers : (w : World) → LateTimers w
+unfolding LateTimers
+late-timers w = late-nothing w
+
 -- While no start is accepted, what was handed up leads what is handed up.
 only-grows : (w : World) (events : List Event) → Fair w events → OnlyGrows w events
 unfolding OnlyGrows
@@ -182,12 +192,12 @@ only-grows w events fair before after split same =
 
 -- After every fair list of events of a fresh world the claim holds.
 pub theorem : (w : World) → Fresh w → (events : List Event) → Fair w events → Claim w events
-unfolding AtMostOnce WholeWhereRunning RepliesToDispatches WholeReplies WholeWhereAnswered LateTimers
+unfolding WholeWhereRunning RepliesToDispatches WholeReplies WholeWhereAnswered
 theorem w fresh events fair =
     let start = fresh-inv w fresh in
     let inv = run-inv w events start fair in
     record {
-      once = inv .calls .once;
+      once = at-most-once (run w events) inv;
       whole = whole-messages (run w events) inv;
       running = λ e. let r = inv .server .running (running-is (run w events .server .machine .state) e) in record { ran = r .ran; last = r .entry };
       undisturbed = undisturbed (run w events);
@@ -196,7 +206,7 @@ theorem w fresh events fair =
       complete = inv .completed;
       answered = λ e. let v = run w events in whole-handed (v .client .machine) (v .client .slots) (v .books .starts) (v .books .replies) (inv .client) (inv .client .whole e);
       grows = only-grows w events fair;
-      late = late-nothing (run w events);
+      late = late-timers (run w events);
       gone = gone-tickets w events start fair;
       acts = acts-once (run w events);
       afresh = armed-afresh (run w events);
