@@ -46,13 +46,13 @@ fn header(kind: u8, flags1: u8, fragment: u16, c: Client) -> Header
     )
 }
 
-// Sends the request's fragment f.
-fn send_request(f: u8, c: Client, message: &[u8], out: &mut [u8]) -> Sent
-    ensures { λ r. ⌜ Posted (requestSent f c (now (message .entry)) (now (out .entry))) r (now (out .exit)) ⌝ }
+// Sends the request's fragment f, whose bytes are lent.
+fn send_request(f: u16, c: Client, lent: &[u8], out: &mut [u8]) -> Sent
+    ensures { λ r. ⌜ Posted (requestSent f c (now (lent .entry)) (now (out .entry))) r (now (out .exit)) ⌝ }
 {
     let o = c.outgoing;
-    let h = header(0, outgoing::flags(o.count, f), f as u16, c);
-    calls::post(h, outgoing::fragment(message, f as u16), out)
+    let h = header(0, outgoing::flags(o.count, f), f, c);
+    calls::post(h, lent, out)
 }
 
 // Sends a PDU that has no body.
@@ -75,12 +75,12 @@ fn send_fack(serial: u16, c: Client, out: &mut [u8]) -> Sent
 }
 
 // Sends what a plan says, from the record after the step.
-fn send_out(send: Send, c: Client, message: &[u8], out: &mut [u8]) -> Sent
-    ensures { λ r. ⌜ Posted (sentOut send c (now (message .entry)) (now (out .entry))) r (now (out .exit)) ⌝ }
+fn send_out(send: Send, c: Client, lent: &[u8], out: &mut [u8]) -> Sent
+    ensures { λ r. ⌜ Posted (sentOut send c (now (lent .entry)) (now (out .entry))) r (now (out .exit)) ⌝ }
 {
     match send {
         Send::Nothing => Sent::Nothing,
-        Send::Request(f) => send_request(f, c, message, out),
+        Send::Request(f) => send_request(f, c, lent, out),
         Send::Ping => send_empty(1, c, out),
         Send::Ack => send_empty(7, c, out),
         Send::Fack(serial) => send_fack(serial, c, out),
@@ -118,7 +118,9 @@ pub fn transmit(c: Client, message: &[u8], out: &mut [u8]) -> Outcome
     let plan = client_steps::transmit(ground, c);
     let client = plan.client;
     let send = plan.send;
-    outcome_of(plan, send_out(send, client, message, out))
+    let o = c.outgoing;
+    let fragment = outgoing::fragment(message, o.sent);
+    outcome_of(plan, send_out(send, client, fragment, out))
 }
 
 // A timer of that kind and ticket.

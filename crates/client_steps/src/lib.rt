@@ -19,7 +19,7 @@ ghost use Rattle.client_steps.specs.Rows.{nextNumber, started as started
 // the serial answered.
 pub enum Send {
     Nothing,
-    Request(u8),
+    Request(u16),
     Ping,
     Ack,
     Fack(u16),

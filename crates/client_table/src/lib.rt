@@ -149,7 +149,7 @@ fn row_ground(
     event: Event,
     row: bool,
     m: Incoming,
-    count: u8,
+    count: u16,
     f: u16,
     last: bool,
     finishes: bool,

@@ -147,11 +147,11 @@ pub fn acknowledged_by(g: u16) -> u16
 }
 
 // 17, of a fack for a message of `count` fragments.
-pub fn fack(count: u8, g: u16) -> Ground
+pub fn fack(count: u16, g: u16) -> Ground
     ensures { λ r. ⌜ r ≡ fackCountGround count g ⌝ }
 {
     let acknowledged = acknowledged_by(g);
-    refuse_if((count as u16) < acknowledged, Answer::Contradiction)
+    refuse_if(count < acknowledged, Answer::Contradiction)
 }
 
 // 14, of a fack.

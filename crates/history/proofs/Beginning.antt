@@ -38,7 +38,8 @@ use Rattle.history.proofs.Invariant.{ClientInv, unanswered, hasData, Se
 
 -- No message out keeps the rules of what is sent.
 sent-bounded : (o : Outgoing) → NothingSent o → bounded o ≡ true
-sent-bounded o n = bounded-holds o (omega (arith, n .sent)) (omega (arith, n .acknowledged))
+sent-bounded o n =
+    bounded-holds o (record { sent = omega (arith, n .sent); acknowledged = omega (arith, n .acknowledged) })
 
 sent-none : (o : Outgoing) → NothingSent o → hasNothing o ≡ true
 unfolding hasNothing

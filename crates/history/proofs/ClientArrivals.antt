@@ -320,7 +320,7 @@ client-arrive-inv w p out inv done sent =
     (sym pass)
     (planned w (arrivalRow event c (r .header) n status) [] out
     (storing (arrivalRow event c (r .header) n status .put) (r .header .fragment) body (w .client .slots)) inv next
-    (still event c (r .header) n status begun) (buffers .1) (λ idle. absurd (false≢true (sym idle ∙ active)))
+    (still event c (r .header) n status begun) (omega arith) (buffers .1) (λ idle. absurd (false≢true (sym idle ∙ active)))
     (λ e. absurd (false≢true (sym (sends .1) ∙ e))) (completed-known w inv (arrivalRow event c (r .header) n status .client)
     (storing (arrivalRow event c (r .header) n status .put) (r .header .fragment) body (w .client .slots)) next (arrivalRow event c (r .header) n status .notice)
     (row-tells event c (r .header) n status))

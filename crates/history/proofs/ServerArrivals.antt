@@ -151,7 +151,7 @@ module _ (w : World) (inv : Inv w) (o : ℕ) (h : Header) (body : List ℕ) (j :
       (sym unput)
       (planned w plan h [] out (w .server .slots) of inv untold
       (subst (λ (n : ℕ). ServerInv (plan .server) n (w .server .slots) (w .books .starts) (w .books .dispatches) (w .books .replies)) (settles equal) server)
-      (pdu-uuids (plan .send) (plan .server) h (server .activity) sized typed) room
+      (pdu-uuids (plan .send) (plan .server) h (server .activity) sized typed) (omega arith) room
       (others-known (Response (w .books .replies)) o (plan .send) (plan .server) h [] none))
 
   -- Begin: the request is newer, or repeats an idempotent call.

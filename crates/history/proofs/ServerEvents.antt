@@ -14,6 +14,8 @@ use Rattle.answers.specs.declared.Ground.{Ground}
 use Rattle.answers.specs.declared.Ground.the-variants.{Pass}
 use Rattle.calls.specs.declared.Notice.the-variants.{Nothing as Untold}
 use Rattle.calls.specs.declared.Sent.the-variants.{Nothing as Unsent}
+use Rattle.outgoing.proofs.OutgoingLaws.{fragment-most}
+use Rattle.outgoing.specs.Message.{fragmentOf}
 use Rattle.outgoing.specs.Sending.{sendsLast, replied, messageOf}
 use Rattle.pdu.specs.Header.{blank}
 use Rattle.server_record.specs.declared.Idle.the-variants.{Spent}
@@ -67,12 +69,14 @@ server-transmit-inv w message out inv done lent =
     let next =
     goes-on s (transmitted last s) (w .books .standing) (w .server .slots) (w .books .starts) (w .books .dispatches) (w .books .replies) (inv .server) called
     (transmitted-sound s (j .kept) (j .row) (j .free)) g in
+    let part = fragmentOf message (s .outgoing .sent) in
     subst
     (λ (x : Ground).
-    Inv (serverStep w (sending (transmitPlan x s) blank message out .outcome) (sending (transmitPlan x s) blank message out .out) (w .server .slots) (ofRecord w)))
+    Inv (serverStep w (sending (transmitPlan x s) blank part out .outcome) (sending (transmitPlan x s) blank part out .out) (w .server .slots) (ofRecord w)))
     (sym pass)
-    (planned w (transmitPlan Pass s) blank message out (w .server .slots) (ofRecord w) inv refl next
-    (record-uuids (SendResponse (s .outgoing .sent)) (transmitted last s) (next .activity) (rw (g .call) (k .typed))) (j .buffer)
+    (planned w (transmitPlan Pass s) blank part out (w .server .slots) (ofRecord w) inv refl next
+    (record-uuids (SendResponse (s .outgoing .sent)) (transmitted last s) (next .activity) (rw (g .call) (k .typed)))
+    (fragment-most message (s .outgoing .sent)) (j .buffer)
     (response-sent s (w .books .standing) (w .books .starts) (w .books .replies) message k now (inv .server .activity) (inv .server .boot) (j .kept) (j .row) lent
     (transmitted last s) g (transmitted-counts last s .0) (transmitted-counts last s .1) blank))
 
@@ -96,7 +100,7 @@ server-fault-inv w status out inv done =
     Inv (serverStep w (sending (faultPlan x s status) blank [] out .outcome) (sending (faultPlan x s status) blank [] out .out) (w .server .slots) (ofRecord w)))
     (sym pass)
     (planned w (faultPlan Pass s status) blank [] out (w .server .slots) (ofRecord w) inv refl next
-    (record-uuids (SendFault status) t (next .activity) (rw (g .call) (inv .server .called called .typed))) (j .buffer)
+    (record-uuids (SendFault status) t (next .activity) (rw (g .call) (inv .server .called called .typed))) (omega arith) (j .buffer)
     (others-known (Response (w .books .replies)) (w .books .standing) (SendFault status) t blank [] refl))
 
 -- RESEND sends no response, and tells nothing.
@@ -135,7 +139,7 @@ server-timer-inv w ticket out inv done =
     (λ (x : State). Inv (serverStep w (sending (timerRow x s) blank [] out .outcome) (sending (timerRow x s) blank [] out .out) (w .server .slots) (ofRecord w)))
     (sym (held .is))
     (planned w plan blank [] out (w .server .slots) (ofRecord w) inv (quiet .1) next
-    (record-uuids (plan .send) (plan .server) (next .activity) (rw (g .call) (inv .server .called called .typed))) (j .buffer)
+    (record-uuids (plan .send) (plan .server) (next .activity) (rw (g .call) (inv .server .called called .typed))) (omega arith) (j .buffer)
     (others-known (Response (w .books .replies)) (w .books .standing) (plan .send) (plan .server) blank [] (quiet .0))))
 
 -- A reply that goes on the books.

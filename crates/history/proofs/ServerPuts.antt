@@ -333,7 +333,7 @@ put-inv w inv s o server state h body request short can out room =
       responses =
           sends-known (Known IsResponse (Response (w .books .replies))) send (putServer-of (complete m)) h [] out (w .server .sent) o
           (pdu-uuids send (putServer-of (complete m)) h (known .0 .activity) (request .sized)
-          (λ e. absurd (false≢true (sym (fack-sends (wantsFack (h .flags1)) (h .serial) .1) ∙ e)))) room (inv .responses)
+          (λ e. absurd (false≢true (sym (fack-sends (wantsFack (h .flags1)) (h .serial) .1) ∙ e)))) (omega arith) room (inv .responses)
           (others-known (Response (w .books .replies)) o send (putServer-of (complete m)) h [] (fack-sends (wantsFack (h .flags1)) (h .serial) .0));
     })
   where

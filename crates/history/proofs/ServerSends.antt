@@ -47,7 +47,7 @@ use Rattle.history.specs.World.{Started, Replied, SentPdu, World}
 use Rattle.history.specs.Steps.{sentAfter, dispatchesAfter, Subject, dispatchEntry}
 use Rattle.history.specs.Fairness.{OfLastReply, Typed}
 use Rattle.history.proofs.ListLaws.{All, all-appended}
-use Rattle.history.proofs.Holding.{PartOf, Single, flags-last}
+use Rattle.history.proofs.Holding.{Short, PartOf, Single, flags-last}
 use Rattle.history.proofs.Network.{Response, Known, pduOf, other-known, same-known, Uuids, typed-uuids, posted, call-fits}
 use Rattle.history.proofs.Types.{IsResponse}
 use Rattle.history.proofs.Invariant.{CalledStart, CurrentReply, ServerInv, Inv, serverStep}
@@ -74,12 +74,12 @@ ofCall (Fack serial) = false
 -- What the server sends, as it stands among what it has sent: nothing, or one PDU of that start; h is the header of
 -- the PDU answered.
 abbrev pub serverPdus : ℕ → Send → Server → Header → List ℕ → List SentPdu
-serverPdus o Nothing s h message = []
-serverPdus o (SendResponse f) s h message = pduOf o (datagram (replyHeader 2 (flagsOf (s .outgoing .count) f) f s) (fragmentOf message f)) ∷ []
-serverPdus o (SendFault status) s h message = pduOf o (datagram (replyHeader 3 0 0 s) (statusBytes status)) ∷ []
-serverPdus o Working s h message = pduOf o (datagram (echoHeader 4 0 s h) []) ∷ []
-serverPdus o Nocall s h message = pduOf o (datagram (echoHeader 5 0 s h) []) ∷ []
-serverPdus o (Fack serial) s h message =
+serverPdus o Nothing s h lent = []
+serverPdus o (SendResponse f) s h lent = pduOf o (datagram (replyHeader 2 (flagsOf (s .outgoing .count) f) f s) lent) ∷ []
+serverPdus o (SendFault status) s h lent = pduOf o (datagram (replyHeader 3 0 0 s) (statusBytes status)) ∷ []
+serverPdus o Working s h lent = pduOf o (datagram (echoHeader 4 0 s h) []) ∷ []
+serverPdus o Nocall s h lent = pduOf o (datagram (echoHeader 5 0 s h) []) ∷ []
+serverPdus o (Fack serial) s h lent =
     pduOf o (datagram (echoHeader 9 (lastContiguous (contiguous (s .incoming))) s h) (fackBytes (fackFields serial (maskOf (s .incoming))))) ∷ []
 
 -- The UUIDs that it speaks of: those of the record's call, or those of the PDU answered.
@@ -98,25 +98,25 @@ pub record-uuids : (send : Send) (s : Server) → length (s .activity) ≡ 16 �
 unfolding blank
 record-uuids send s a typed = pdu-uuids send s blank a (record { object = refl; interface = refl; activity = refl }) (λ e. typed)
 
-pub server-sent : (send : Send) (s : Server) (h : Header) (message out : List ℕ) (before : List SentPdu) (o : ℕ) → SentUuids send s h → length out ≡ pduSize
-    → sentAfter before (sentOut send s h message out .sent) (sentOut send s h message out .out) o ≡ before ++ serverPdus o send s h message
+pub server-sent : (send : Send) (s : Server) (h : Header) (lent out : List ℕ) (before : List SentPdu) (o : ℕ) → SentUuids send s h → Short lent → length out ≡ pduSize
+    → sentAfter before (sentOut send s h lent out .sent) (sentOut send s h lent out .out) o ≡ before ++ serverPdus o send s h lent
 unfolding sentOut responseSent faultSent emptySent fackSent replyHeader echoHeader sentAfter fackBytes
-server-sent Nothing s h message out before o z room = sym (append-nil before)
-server-sent (SendResponse f) s h message out before o z room =
-    posted 2 _ _ _ _ _ _ _ (fragmentOf message f) out before o (omega arith) (fragment-most message f) (z .0 refl) room
-server-sent (SendFault status) s h message out before o z room =
+server-sent Nothing s h lent out before o z short room = sym (append-nil before)
+server-sent (SendResponse f) s h lent out before o z short room =
+    posted 2 _ _ _ _ _ _ _ lent out before o (omega arith) short (z .0 refl) room
+server-sent (SendFault status) s h lent out before o z short room =
     posted 3 _ _ _ _ _ _ _ (statusBytes status) out before o (omega arith) (omega arith) (z .0 refl) room
-server-sent Working s h message out before o z room = posted 4 _ _ _ _ _ _ _ [] out before o (omega arith) (omega arith) (z .1) room
-server-sent Nocall s h message out before o z room = posted 5 _ _ _ _ _ _ _ [] out before o (omega arith) (omega arith) (z .1) room
-server-sent (Fack serial) s h message out before o z room =
+server-sent Working s h lent out before o z short room = posted 4 _ _ _ _ _ _ _ [] out before o (omega arith) (omega arith) (z .1) room
+server-sent Nocall s h lent out before o z short room = posted 5 _ _ _ _ _ _ _ [] out before o (omega arith) (omega arith) (z .1) room
+server-sent (Fack serial) s h lent out before o z short room =
     posted 9 _ _ _ _ _ _ _ (fackBytes (fackFields serial (maskOf (s .incoming)))) out before o (omega arith) (omega arith) (z .1) room
 
 -- So what is known of all before and of that is known of all then.
-pub sends-known : (K : SentPdu → Type 0) (send : Send) (s : Server) (h : Header) (message out : List ℕ) (before : List SentPdu) (o : ℕ) → SentUuids send s h
-    → length out ≡ pduSize → ((d : SentPdu) → In d before → K d) → All K (serverPdus o send s h message) → (d : SentPdu)
-    → In d (sentAfter before (sentOut send s h message out .sent) (sentOut send s h message out .out) o) → K d
-sends-known K send s h message out before o z room known own d m =
-    all-appended K before (serverPdus o send s h message) known own d (subst (In d) (server-sent send s h message out before o z room) m)
+pub sends-known : (K : SentPdu → Type 0) (send : Send) (s : Server) (h : Header) (lent out : List ℕ) (before : List SentPdu) (o : ℕ) → SentUuids send s h
+    → Short lent → length out ≡ pduSize → ((d : SentPdu) → In d before → K d) → All K (serverPdus o send s h lent) → (d : SentPdu)
+    → In d (sentAfter before (sentOut send s h lent out .sent) (sentOut send s h lent out .out) o) → K d
+sends-known K send s h lent out before o z short room known own d m =
+    all-appended K before (serverPdus o send s h lent) known own d (subst (In d) (server-sent send s h lent out before o z short room) m)
 
 -- Whatever is sent but a response is known not to be one.
 pub others-known : (P : ℕ → Header → List ℕ → Type 0) (o : ℕ) (send : Send) (s : Server) (h : Header) (message : List ℕ) → answers send ≡ false
@@ -182,7 +182,7 @@ module _ (s : Server) (standing : ℕ) (starts : List Started) (replies : List R
 
   -- So what a server that goes on with the call sends is a response of it.
   pub response-sent : (t : Server) → GoesOn s t standing replies → t .outgoing .count ≡ s .outgoing .count → t .outgoing .serial < 65536 → (h : Header)
-      → All (Known IsResponse (Response replies)) (serverPdus standing (SendResponse (s .outgoing .sent)) t h message)
+      → All (Known IsResponse (Response replies)) (serverPdus standing (SendResponse (s .outgoing .sent)) t h (fragmentOf message (s .outgoing .sent)))
   unfolding replyHeader sentHeader
   response-sent t g count fits h =
       let header : responseHeader (t .outgoing .serial) ≡ replyHeader 2 (flagsOf (t .outgoing .count) (s .outgoing .sent)) (s .outgoing .sent) t =
@@ -208,12 +208,12 @@ unfolding afterSend nextSerial
 transmitted-counts last s = rw (transmitted-sent last s) (refl, omega arith)
 
 -- A world whose server made a step by a plan that tells nothing.
-pub planned : (w : World) (plan : Plan) (h : Header) (message out slots : List ℕ) (of : Subject) → Inv w → plan .notice ≡ Untold
+pub planned : (w : World) (plan : Plan) (h : Header) (lent out slots : List ℕ) (of : Subject) → Inv w → plan .notice ≡ Untold
     → ServerInv (plan .server) (of .standing) slots (w .books .starts) (w .books .dispatches) (w .books .replies) → SentUuids (plan .send) (plan .server) h
-    → length out ≡ pduSize → All (Known IsResponse (Response (w .books .replies))) (serverPdus (of .ordinal) (plan .send) (plan .server) h message)
-    → Inv (serverStep w (sending plan h message out .outcome) (sending plan h message out .out) slots of)
+    → Short lent → length out ≡ pduSize → All (Known IsResponse (Response (w .books .replies))) (serverPdus (of .ordinal) (plan .send) (plan .server) h lent)
+    → Inv (serverStep w (sending plan h lent out .outcome) (sending plan h lent out .out) slots of)
 unfolding sending outcomeOf dispatchesAfter
-planned w plan h message out slots of inv quiet server uuids room responses =
+planned w plan h lent out slots of inv quiet server uuids short room responses =
     let same : dispatchesAfter (w .books .dispatches) (plan .notice) (dispatchEntry of (plan .server) slots) ≡ w .books .dispatches =
     ap (λ (n : Notice). dispatchesAfter (w .books .dispatches) n (dispatchEntry of (plan .server) slots)) quiet in
     record {
@@ -223,7 +223,7 @@ planned w plan h message out slots of inv quiet server uuids room responses =
       requests = inv .requests;
       acks = inv .acks;
       responses =
-          sends-known (Known IsResponse (Response (w .books .replies))) (plan .send) (plan .server) h message out (w .server .sent) (of .ordinal) uuids room
+          sends-known (Known IsResponse (Response (w .books .replies))) (plan .send) (plan .server) h lent out (w .server .sent) (of .ordinal) uuids short room
           (inv .responses) responses;
       completed = inv .completed;
     }

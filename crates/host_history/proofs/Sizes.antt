@@ -64,14 +64,14 @@ server-sent-fits (FackOfServer serial) s h message out = posted-fits _ _ out
 pub client-turn-sent : (side : Side Client) (e : ClientEvent) → FitsSent (clientTurn side e .sent)
 unfolding starting clientTransmitting clientTiming clientArriving clientActed clientSending clientOutcome
 client-turn-sent side (Start call n message) = tt
-client-turn-sent side (ClientTransmit message out) = client-sent-fits _ _ message out
+client-turn-sent side (ClientTransmit message out) = client-sent-fits _ _ _ out
 client-turn-sent side (ClientArrive p lent out) = client-sent-fits _ _ [] out
 client-turn-sent side (ClientTimer kind ticket out) = client-sent-fits _ _ [] out
 
 pub server-turn-sent : (side : Side Server) (e : ServerEvent) → FitsSent (serverTurn side e .sent)
 unfolding replying serverTransmitting serverTiming faulting serverArriving serverActed serverSending serverOutcome
 server-turn-sent side (ServerArrive p lent out) = server-sent-fits _ _ _ [] out
-server-turn-sent side (ServerTransmit message out) = server-sent-fits _ _ _ message out
+server-turn-sent side (ServerTransmit message out) = server-sent-fits _ _ _ _ out
 server-turn-sent side (ServerTimer ticket out) = server-sent-fits _ _ _ [] out
 server-turn-sent side (Reply n message) = tt
 server-turn-sent side (FaultEvent status out) = server-sent-fits _ _ _ [] out

@@ -6,14 +6,14 @@ use words::MESSAGE_SIZE;
 ghost use mathlib.Core.Path.{_≡_};
 ghost use Prim.Native.Nat.{max};
 ghost use Rattle.outgoing.specs.Message.{fragments, fragmentOf, flagsOf};
-ghost use Rattle.outgoing.specs.Sending.{nextSerial, oneMore, inByte, afterSend, sendsLast, afterPing, acknowledgedTo, firstToSend, rewound, messageOf, started, replied, noMessage, bounded, hasMessage, hasNothing};
+ghost use Rattle.outgoing.specs.Sending.{nextSerial, oneMore, inField, afterSend, sendsLast, afterPing, acknowledgedTo, firstToSend, rewound, messageOf, started, replied, noMessage, bounded, hasMessage, hasNothing};
 
 // Length and fragment count of the message; sent is the next fragment to send, so also how many are sent.
 pub struct Outgoing {
     pub length: u32,
-    pub count: u8,
-    pub sent: u8,
-    pub acknowledged: u8,
+    pub count: u16,
+    pub sent: u16,
+    pub acknowledged: u16,
     pub serial: u16,
 }
 
@@ -44,13 +44,13 @@ pub fn fragment(message: &[u8], f: u16) -> &[u8]
 }
 
 // flags1 of fragment f of a message of `count` fragments.
-pub fn flags(count: u8, f: u8) -> u8
+pub fn flags(count: u16, f: u16) -> u8
     ensures { λ r. ⌜ r ≡ flagsOf count f ⌝ }
 {
     if count == 1 {
         return 0;
     }
-    flags::with(FRAGMENT, LAST_FRAGMENT, f as u16 + 1 == count as u16)
+    flags::with(FRAGMENT, LAST_FRAGMENT, f as u32 + 1 == count as u32)
 }
 
 // The serial of the next request, response or ping.
@@ -60,11 +60,11 @@ pub fn next_serial(serial: u16) -> u16
     std::num::wrapping_add_u16(serial, 1)
 }
 
-// One more is sent; 255, which no sound record has, stays.
-fn one_more(sent: u8) -> u8
+// One more is sent; 65535, which no sound record has, stays.
+fn one_more(sent: u16) -> u16
     ensures { λ r. ⌜ r ≡ oneMore sent ⌝ }
 {
-    if sent < 255 {
+    if sent < 65535 {
         return sent + 1;
     }
     sent
@@ -86,7 +86,7 @@ pub fn after_send(o: Outgoing) -> Outgoing
 pub fn sends_last(o: Outgoing) -> bool
     ensures { λ r. ⌜ r ≡ sendsLast o ⌝ }
 {
-    o.sent as u16 + 1 == o.count as u16
+    o.sent as u32 + 1 == o.count as u32
 }
 
 // The next ping is sent: the serial goes up.
@@ -100,7 +100,7 @@ pub fn after_ping(o: Outgoing) -> Outgoing
 }
 
 // The larger of two numbers.
-fn larger(a: u8, b: u8) -> u8
+fn larger(a: u16, b: u16) -> u16
     ensures { λ r. ⌜ r ≡ max a b ⌝ }
 {
     if a < b {
@@ -120,7 +120,7 @@ pub fn acknowledge(o: Outgoing, count: u16) -> Outgoing
 }
 
 // The first unacknowledged fragment, or 0 if none.
-fn first_to_send(acknowledged: u8, count: u8) -> u8
+fn first_to_send(acknowledged: u16, count: u16) -> u16
     ensures { λ r. ⌜ r ≡ firstToSend acknowledged count ⌝ }
 {
     if acknowledged < count {
@@ -139,14 +139,14 @@ pub fn rewind(o: Outgoing) -> Outgoing
     next
 }
 
-// A fragment count as the record keeps it; more than 255, which no message has, counts as 255.
-fn counted(count: u32) -> u8
-    ensures { λ r. ⌜ r ≡ inByte count ⌝ }
+// A fragment count as the record keeps it; more than 65535, which no message has, counts as 65535.
+fn counted(count: u32) -> u16
+    ensures { λ r. ⌜ r ≡ inField count ⌝ }
 {
-    if count < 255 {
-        return count as u8;
+    if count < 65535 {
+        return count as u16;
     }
-    255
+    65535
 }
 
 // A message of this length, of which nothing is sent or acknowledged.

@@ -177,13 +177,10 @@ module _ (Unjudged : ℕ → Type 0) (b c : List ℕ) (alike : SameButAt Unjudge
         front 1 (omega arith),
         back 64 (omega arith) (omega arith),
         back 65 (omega arith) (omega arith),
-        front 5 (omega arith),
-        front 7 (omega arith),
-        front 9 (omega arith),
         low-number 2 10 (omega arith),
         clear-alike 8 b c 56 (λ (k : ℕ) (low : 56 ≤ k) (high : k < 64). back k low (omega arith)),
         clear-alike 30 b c 66 (λ (k : ℕ) (low : 66 ≤ k) (high : k < 96). back k (omega arith) (omega arith)),
-        readable-alike (drop 144 b) (drop 144 c) mark-alike spare-alike 32,
+        readable-alike (drop 144 b) (drop 144 c) mark-alike spare-alike windowSize,
       )
 
   uuid-alike : (at : ℕ) → 56 ≤ at → at + 16 ≤ 144 → uuidIn c at ≡ uuidIn b at
@@ -219,13 +216,13 @@ module _ (Unjudged : ℕ → Type 0) (b c : List ℕ) (alike : SameButAt Unjudge
         };
         outgoing = record {
           length = low-number 4 24 (omega arith) i;
-          count = front 4 (omega arith) i;
-          sent = front 6 (omega arith) i;
-          acknowledged = front 8 (omega arith) i;
+          count = low-number 2 4 (omega arith) i;
+          sent = low-number 2 6 (omega arith) i;
+          acknowledged = low-number 2 8 (omega arith) i;
           serial = low-number 2 12 (omega arith) i;
         };
         incoming = record {
-          slots = slots-alike (drop 144 b) (drop 144 c) mark-alike lengths-alike 32 i;
+          slots = slots-alike (drop 144 b) (drop 144 c) mark-alike lengths-alike windowSize i;
           last = lastOf (low-number 2 10 (omega arith) i);
         };
         tickets = low-number 8 32 (omega arith) i;

@@ -6,7 +6,6 @@ use mathlib.Core.Path.{_≡_, refl, sym, ap, subst, _∙_}
 use native.Mathlib.Omega.{arith}
 use lib.Dec.{eqb, leb}
 use lib.ListN.{length, getD, drop, replicate, length-drop, take-append-drop}
-use borrow.Author.Tests.{eqb-true}
 use Rattle.words.specs.Number.{digits, part, number}
 use Rattle.words.proofs.Number.{digits-part, part-take, length-part}
 use Rattle.words.proofs.Tests.{both-true}
@@ -14,7 +13,7 @@ use Rattle.record_bytes.specs.Fits.{Octets, Uuid, FitsFields}
 use Rattle.record_bytes.specs.Canonical.{TicketClear, LengthsClear}
 use Rattle.record_bytes.specs.Parts.{markOf, timerWhere, isArmed, timerTicket, lastField, lastOf, uuidIn}
 use Rattle.record_bytes.specs.Held.{slotsBytes, slotsBelow, slotsIn, slotsReadable}
-use Rattle.record_bytes.specs.Layout.{lastReadable, marksReadable, countsReadable, sparesReadable, readable}
+use Rattle.record_bytes.specs.Layout.{lastReadable, marksReadable, sparesReadable, readable}
 use Rattle.record_bytes.specs.Layout.{callIn, outgoingIn, incomingIn, fieldsIn}
 use Rattle.record_bytes.specs.Layout.{frontBytes, numberBytes, backBytes, laidBytes, fieldBytes}
 use Rattle.record_bytes.proofs.ByteLaws.{octet-at, octets-part, octets-drop, number-below}
@@ -28,33 +27,24 @@ pub record Readable (b : List ℕ) : Type 0 where
   pub idempotent : leb (getD b 1 0) 1 ≡ true
   pub first : leb (getD b 64 0) 1 ≡ true
   pub second : leb (getD b 65 0) 1 ≡ true
-  pub count : getD b 5 0 ≡ 0
-  pub sent : getD b 7 0 ≡ 0
-  pub acknowledged : getD b 9 0 ≡ 0
   pub last : lastReadable (number 2 true b 10) ≡ true
   pub before : part 8 b 56 ≡ replicate 8 0
   pub behind : part 30 b 66 ≡ replicate 30 0
   pub slots : slotsReadable (drop 144 b) ≡ true
 
 pub known : (b : List ℕ) → readable b ≡ true → Readable b
-unfolding readable marksReadable countsReadable sparesReadable
+unfolding readable marksReadable sparesReadable
 known b e =
     let all = both-true _ _ e in
-    let others = both-true _ _ (all .1) in
-    let rest = both-true _ _ (others .1) in
+    let rest = both-true _ _ (all .1) in
     let end = both-true _ _ (rest .1) in
     let marks = both-true _ _ (all .0) in
     let armed = both-true _ _ (marks .1) in
-    let counts = both-true _ _ (others .0) in
-    let two = both-true _ _ (counts .1) in
     let spares = both-true _ _ (end .0) in
     record {
       idempotent = marks .0;
       first = armed .0;
       second = armed .1;
-      count = eqb-true _ _ (counts .0);
-      sent = eqb-true _ _ (two .0);
-      acknowledged = eqb-true _ _ (two .1);
       last = rest .0;
       before = clear-part 8 b 56 (spares .0);
       behind = clear-part 30 b 66 (spares .1);
@@ -87,9 +77,9 @@ module _ (b : List ℕ) (size : length b ≡ 272) (octets : Octets b) (allowed :
     };
     outgoing = record {
       length = number-below 4 true b 24 octets;
-      count = byte 4;
-      sent = byte 6;
-      acknowledged = byte 8;
+      count = number-below 2 true b 4 octets;
+      sent = number-below 2 true b 6 octets;
+      acknowledged = number-below 2 true b 8 octets;
       serial = number-below 2 true b 12 octets;
     };
     incoming = record {
@@ -119,13 +109,12 @@ module _ (b : List ℕ) (size : length b ≡ 272) (octets : Octets b) (allowed :
       ∷ (mark-again (getD b 1 0) (r .idempotent) i
       ∷ (getD b 2 0
       ∷ (getD b 3 0
-      ∷ (getD b 4 0
-      ∷ (sym (r .count) i
-      ∷ (getD b 6 0
-      ∷ (sym (r .sent) i
-      ∷ (getD b 8 0
-      ∷ (sym (r .acknowledged) i
-      ∷ (last i ++ (digits-at 2 12 i ++ digits-at 2 14 i)))))))))))
+      ∷ (digits-at 2 4 i
+      ++ (digits-at 2 6 i
+      ++ (digits-at 2 8 i
+      ++ (last i
+      ++ (digits-at 2 12 i
+      ++ digits-at 2 14 i))))))))
 
   numbers-again
       : numberBytes (number 4 true b 16) (number 4 true b 20) (number 4 true b 24) (number 4 true b 28) ≡ part 16 b 16

@@ -1,7 +1,7 @@
 -- What the bytes of a record hold, as bytes and back, is what it was; and those bytes are 272, and readable.
 use Prim.Native.Nat.{ℕ}
 use mathlib.Core.Bool.{true}
-use mathlib.Core.List.{List, _∷_}
+use mathlib.Core.List.{List, _∷_, _++_}
 use mathlib.Core.Path.{_≡_, subst}
 use native.Mathlib.Omega.{arith}
 use lib.ListN.{length, drop, replicate}
@@ -14,7 +14,7 @@ use Rattle.record_bytes.specs.Fits.{Octets, FitsFields}
 use Rattle.record_bytes.specs.Canonical.{TicketClear, LengthsClear}
 use Rattle.record_bytes.specs.Parts.{markOf, isArmed, timerTicket, lastField, clear}
 use Rattle.record_bytes.specs.Held.{slotsBytes}
-use Rattle.record_bytes.specs.Layout.{marksReadable, countsReadable, sparesReadable, readable}
+use Rattle.record_bytes.specs.Layout.{marksReadable, sparesReadable, readable}
 use Rattle.record_bytes.specs.Layout.{callIn, outgoingIn, incomingIn, fieldsIn}
 use Rattle.record_bytes.specs.Layout.{frontBytes, numberBytes, backBytes, fieldBytes}
 use Rattle.record_bytes.proofs.ByteLaws.{octets-joined, octets-three, octets-four, octets-digits, octets-zeros}
@@ -113,9 +113,9 @@ module _ (f : Fields) (fits : FitsFields f) where
     };
     outgoing = record {
       length = value-bytes 4 true (f .outgoing .length) (fits .outgoing .length) i;
-      count = f .outgoing .count;
-      sent = f .outgoing .sent;
-      acknowledged = f .outgoing .acknowledged;
+      count = value-bytes 2 true (f .outgoing .count) (fits .outgoing .count) i;
+      sent = value-bytes 2 true (f .outgoing .sent) (fits .outgoing .sent) i;
+      acknowledged = value-bytes 2 true (f .outgoing .acknowledged) (fits .outgoing .acknowledged) i;
       serial = value-bytes 2 true (f .outgoing .serial) (fits .outgoing .serial) i;
     };
     incoming = record {
@@ -129,7 +129,7 @@ module _ (f : Fields) (fits : FitsFields f) where
   }
 
   readable-spelled : readable (fieldBytes (spelled f)) ≡ true
-  unfolding readable marksReadable countsReadable sparesReadable clear both choose fieldBytes spelled number
+  unfolding readable marksReadable sparesReadable clear both choose fieldBytes spelled number
   readable-spelled =
       both-hold _ _
       (both-hold _ _ (mark-readable (f .call .idempotent))
@@ -145,11 +145,11 @@ module _ (f : Fields) (fits : FitsFields f) where
 
   octets-counts : Octets (countsOf f)
   octets-counts =
-      let o = fits .outgoing in
-      let shorts =
-      octets-three (digits 2 (lastField (f .incoming .last))) (digits 2 (f .outgoing .serial))
-      (digits 2 (f .call .operation)) (octets-digits 2 _) (octets-digits 2 _) (octets-digits 2 _) in
-      (o .count, (omega arith, (o .sent, (omega arith, (o .acknowledged, (omega arith, shorts))))))
+      octets-four (digits 2 (f .outgoing .count)) (digits 2 (f .outgoing .sent)) (digits 2 (f .outgoing .acknowledged))
+      (digits 2 (lastField (f .incoming .last)) ++ (digits 2 (f .outgoing .serial) ++ digits 2 (f .call .operation)))
+      (octets-digits 2 _) (octets-digits 2 _) (octets-digits 2 _)
+      (octets-three (digits 2 (lastField (f .incoming .last))) (digits 2 (f .outgoing .serial))
+      (digits 2 (f .call .operation)) (octets-digits 2 _) (octets-digits 2 _) (octets-digits 2 _))
 
   octets-front : Octets (frontOf f)
   octets-front = (fits .state, (mark-small (f .call .idempotent), (fits .count, (fits .extra, octets-counts))))

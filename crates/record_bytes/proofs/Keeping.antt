@@ -15,7 +15,7 @@ use Rattle.incoming.specs.declared.Incoming.{Incoming}
 use Rattle.incoming.specs.Slots.{cleared, slotsWith, lastWith, stored}
 use Rattle.outgoing.specs.declared.Outgoing.{Outgoing}
 use Rattle.outgoing.specs.Message.{fragments}
-use Rattle.outgoing.specs.Sending.{nextSerial, oneMore, afterSend, afterPing, inByte, acknowledgedTo, firstToSend, rewound, messageOf, started, replied, noMessage}
+use Rattle.outgoing.specs.Sending.{nextSerial, oneMore, afterSend, afterPing, inField, acknowledgedTo, firstToSend, rewound, messageOf, started, replied, noMessage}
 use Rattle.timers.specs.Tickets.{usedUp, nextTicket, armedAfresh}
 use Rattle.record_bytes.specs.Fits.{Uuid, FitsCall, FitsOutgoing, FitsLast, FitsSlots, FitsIncoming, FitsTimer}
 use Rattle.record_bytes.proofs.ByteLaws.{octets-zeros}
@@ -35,17 +35,17 @@ serial-fits : (serial : ℕ) → nextSerial serial < 65536
 unfolding nextSerial
 serial-fits serial = omega arith
 
-more-fits : (sent : ℕ) → sent < 256 → oneMore sent < 256
+more-fits : (sent : ℕ) → sent < 65536 → oneMore sent < 65536
 unfolding oneMore
 more-fits sent h =
-    choice-by (λ (n : ℕ). n < 256) (ltb sent 255) (sent + 1) sent
-    (λ (e : ltb sent 255 ≡ true). omega (arith, ltb-true sent 255 e)) (λ (e : ltb sent 255 ≡ false). h)
+    choice-by (λ (n : ℕ). n < 65536) (ltb sent 65535) (sent + 1) sent
+    (λ (e : ltb sent 65535 ≡ true). omega (arith, ltb-true sent 65535 e)) (λ (e : ltb sent 65535 ≡ false). h)
 
-byte-fits : (count : ℕ) → inByte count < 256
-unfolding inByte
-byte-fits count =
-    choice-by (λ (n : ℕ). n < 256) (ltb count 255) count 255
-    (λ (e : ltb count 255 ≡ true). omega (arith, ltb-true count 255 e)) (λ (e : ltb count 255 ≡ false). omega arith)
+field-fits : (count : ℕ) → inField count < 65536
+unfolding inField
+field-fits count =
+    choice-by (λ (n : ℕ). n < 65536) (ltb count 65535) count 65535
+    (λ (e : ltb count 65535 ≡ true). omega (arith, ltb-true count 65535 e)) (λ (e : ltb count 65535 ≡ false). omega arith)
 
 -- The message sent: after the next fragment,
 module _ (o : Outgoing) (fits : FitsOutgoing o) where
@@ -77,7 +77,7 @@ module _ (o : Outgoing) (fits : FitsOutgoing o) where
     length = fits .length;
     count = fits .count;
     sent = fits .sent;
-    acknowledged = omega (arith, fits .acknowledged, byte-fits number);
+    acknowledged = omega (arith, fits .acknowledged, field-fits number);
     serial = fits .serial;
   }
 
@@ -88,7 +88,7 @@ module _ (o : Outgoing) (fits : FitsOutgoing o) where
     length = fits .length;
     count = fits .count;
     sent =
-        choice-keeps (λ (n : ℕ). n < 256) (ltb (o .acknowledged) (o .count)) (o .acknowledged) 0 (fits .acknowledged)
+        choice-keeps (λ (n : ℕ). n < 65536) (ltb (o .acknowledged) (o .count)) (o .acknowledged) 0 (fits .acknowledged)
         (omega arith);
     acknowledged = fits .acknowledged;
     serial = fits .serial;
@@ -99,7 +99,7 @@ message-fits : (n serial : ℕ) → n < 4294967296 → serial < 65536 → FitsOu
 unfolding messageOf
 message-fits n serial short small = record {
   length = short;
-  count = byte-fits (fragments n);
+  count = field-fits (fragments n);
   sent = omega arith;
   acknowledged = omega arith;
   serial = small;

@@ -33,12 +33,12 @@ pub record FitsCall (call : Call) : Type 0 where
   pub version : call .version < 4294967296
   pub operation : call .operation < 65536
 
--- The message sent: its length in 4 bytes, its counts in one each, the serial in 2.
+-- The message sent: its length in 4 bytes, its counts and the serial in 2 each.
 pub record FitsOutgoing (o : Outgoing) : Type 0 where
   pub length : o .length < 4294967296
-  pub count : o .count < 256
-  pub sent : o .sent < 256
-  pub acknowledged : o .acknowledged < 256
+  pub count : o .count < 65536
+  pub sent : o .sent < 65536
+  pub acknowledged : o .acknowledged < 65536
   pub serial : o .serial < 65536
 
 -- A known last that can be read is below 256; 65535 stands for none.

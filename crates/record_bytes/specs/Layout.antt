@@ -21,10 +21,6 @@ lastReadable number = either (ltb number 256) (eqb number 65535)
 unfoldable pub marksReadable : ℕ → ℕ → ℕ → Bool
 marksReadable idempotent first second = both (leb idempotent 1) (both (leb first 1) (leb second 1))
 
--- The fragment count, sent and acknowledged are kept in a byte each: their high bytes are 0.
-unfoldable pub countsReadable : ℕ → ℕ → ℕ → Bool
-countsReadable count sent acknowledged = both (eqb count 0) (both (eqb sent 0) (eqb acknowledged 0))
-
 -- The bytes that are spare on both sides are 0: 56 to 63, and 66 to 95.
 unfoldable pub sparesReadable : List ℕ → Bool
 sparesReadable s = both (clear 8 (drop 56 s)) (clear 30 (drop 66 s))
@@ -33,10 +29,9 @@ sparesReadable s = both (clear 8 (drop 56 s)) (clear 30 (drop 66 s))
 unfoldable pub readable : List ℕ → Bool
 readable s =
     both (marksReadable (getD s 1 0) (getD s 64 0) (getD s 65 0))
-    (both (countsReadable (getD s 5 0) (getD s 7 0) (getD s 9 0))
     (both (lastReadable (number 2 true s 10))
     (both (sparesReadable s)
-    (slotsReadable (drop 144 s)))))
+    (slotsReadable (drop 144 s))))
 
 -- The call: idempotent at 1, object at 112, interface at 128, its version at 20, operation at 14.
 unfoldable pub callIn : List ℕ → Call
@@ -52,9 +47,9 @@ callIn s = record {
 unfoldable pub outgoingIn : List ℕ → Outgoing
 outgoingIn s = record {
   length = number 4 true s 24;
-  count = getD s 4 0;
-  sent = getD s 6 0;
-  acknowledged = getD s 8 0;
+  count = number 2 true s 4;
+  sent = number 2 true s 6;
+  acknowledged = number 2 true s 8;
   serial = number 2 true s 12;
 }
 
@@ -87,13 +82,12 @@ frontBytes state idempotent count extra outgoing last operation =
     ∷ (idempotent
     ∷ (count
     ∷ (extra
-    ∷ (outgoing .count
-    ∷ (0
-    ∷ (outgoing .sent
-    ∷ (0
-    ∷ (outgoing .acknowledged
-    ∷ (0
-    ∷ (digits 2 last ++ (digits 2 (outgoing .serial) ++ digits 2 operation)))))))))))
+    ∷ (digits 2 (outgoing .count)
+    ++ (digits 2 (outgoing .sent)
+    ++ (digits 2 (outgoing .acknowledged)
+    ++ (digits 2 last
+    ++ (digits 2 (outgoing .serial)
+    ++ digits 2 operation))))))))
 
 -- Bytes 16 to 31: number, interface version, message length, boot.
 abbrev pub numberBytes : ℕ → ℕ → ℕ → ℕ → List ℕ

@@ -14,7 +14,7 @@ ghost use Rattle.words.specs.Number.{digits, number};
 ghost use Rattle.words.specs.Place.{placed};
 ghost use Rattle.record_bytes.specs.Parts.{markOf, timerWhere, isArmed, timerTicket, lastField, lastOf, uuidIn, clear, countWhere};
 ghost use Rattle.record_bytes.specs.Held.{lengthWhere, slotBytes, slotsBytes, slotIn, slotsIn, slotReadable, slotsReadable};
-ghost use Rattle.record_bytes.specs.Layout.{lastReadable, marksReadable, countsReadable, sparesReadable, readable, callIn, outgoingIn, incomingIn, fieldsIn, frontBytes, numberBytes, backBytes, laidBytes, fieldBytes};
+ghost use Rattle.record_bytes.specs.Layout.{lastReadable, marksReadable, sparesReadable, readable, callIn, outgoingIn, incomingIn, fieldsIn, frontBytes, numberBytes, backBytes, laidBytes, fieldBytes};
 
 // How many bytes a record has.
 pub const SIZE: usize = 272;
@@ -271,13 +271,6 @@ fn are_marks_readable(idempotent: u8, first: u8, second: u8) -> bool
     words::both(idempotent <= 1, words::both(first <= 1, second <= 1))
 }
 
-// Whether the three counts of two bytes fit a byte each: their high bytes are 0.
-fn are_counts_readable(count: u8, sent: u8, acknowledged: u8) -> bool
-    ensures { λ r. ⌜ r ≡ countsReadable count sent acknowledged ⌝ }
-{
-    words::both(count == 0, words::both(sent == 0, acknowledged == 0))
-}
-
 // Whether the places that are spare on both sides are 0.
 fn are_spares_readable(s: &[u8]) -> bool
     ensures { λ r. ⌜ r ≡ sparesReadable (now (s .entry)) ⌝ }
@@ -296,18 +289,10 @@ pub fn is_readable(s: &[u8]) -> bool
         words::byte_at(s, 64),
         words::byte_at(s, 65),
     );
-    let counts = are_counts_readable(
-        words::byte_at(s, 5),
-        words::byte_at(s, 7),
-        words::byte_at(s, 9),
-    );
     let last = is_last_readable(words::number16(s, 10, true));
     let spares = are_spares_readable(s);
     let slots = are_slots_readable(words::behind(s, 144));
-    words::both(
-        marks,
-        words::both(counts, words::both(last, words::both(spares, slots))),
-    )
+    words::both(marks, words::both(last, words::both(spares, slots)))
 }
 
 // The call that stands in a record.
@@ -332,9 +317,9 @@ fn outgoing(s: &[u8]) -> Outgoing
 {
     Outgoing {
         length: words::number32(s, 24, true),
-        count: words::byte_at(s, 4),
-        sent: words::byte_at(s, 6),
-        acknowledged: words::byte_at(s, 8),
+        count: words::number16(s, 4, true),
+        sent: words::number16(s, 6, true),
+        acknowledged: words::number16(s, 8, true),
         serial: words::number16(s, 12, true),
     }
 }
@@ -387,6 +372,9 @@ fn front(
 ) -> [u8; 16]
     ensures { λ r. ⌜ r ≡ frontBytes state idempotent count extra outgoing last operation ⌝ }
 {
+    let fragments = words::split16(outgoing.count);
+    let sent = words::split16(outgoing.sent);
+    let acknowledged = words::split16(outgoing.acknowledged);
     let known = words::split16(last);
     let serial = words::split16(outgoing.serial);
     let called = words::split16(operation);
@@ -395,12 +383,12 @@ fn front(
         idempotent,
         count,
         extra,
-        outgoing.count,
-        0,
-        outgoing.sent,
-        0,
-        outgoing.acknowledged,
-        0,
+        fragments[0],
+        fragments[1],
+        sent[0],
+        sent[1],
+        acknowledged[0],
+        acknowledged[1],
         known[0],
         known[1],
         serial[0],

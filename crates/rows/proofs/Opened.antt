@@ -34,7 +34,7 @@ unfolding Choice.choose Choice.both Choice.either
     Slots.slotSound Slots.sound Slots.contiguous Slots.cleared Slots.slotsWith Slots.stored
     Mask.lastContiguous Mask.maskOf
     Message.fragments
-    Sending.nextSerial Sending.oneMore Sending.afterSend Sending.inByte Sending.messageOf Sending.started Sending.noMessage
+    Sending.nextSerial Sending.oneMore Sending.afterSend Sending.inField Sending.messageOf Sending.started Sending.noMessage
     Sending.bounded Sending.hasMessage Sending.hasNothing
     Tickets.usedUp Tickets.armedWith Tickets.off Tickets.sound Tickets.timerSound
     Order.first Order.refuseIf

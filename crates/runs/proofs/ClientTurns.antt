@@ -1,14 +1,17 @@
 -- What each event of the client makes of a world in which every PDU is one that the writer wrote: after these laws
 -- only records are left to compute.
-use Prim.Native.Nat.{ℕ}
+use Prim.Native.Nat.{ℕ, _≤_}
 use mathlib.Core.List.{List, [], _++_}
 use mathlib.Core.Path.{_≡_, _∙_}
+use native.Mathlib.Omega.{arith}
 use lib.ListN.{length}
-use Rattle.words.specs.Sizes.{pduSize, slotsSize}
+use Rattle.words.specs.Sizes.{bodySize, pduSize, slotsSize}
 use Rattle.answers.specs.Number.{numberOf}
 use Rattle.pdu.specs.declared.Header.{Header}
 use Rattle.pdu.specs.Header.{datagram}
 use Rattle.writer.proofs.RoundTrip.{accepted, read-written, body-written}
+use Rattle.outgoing.specs.Message.{fragmentOf}
+use Rattle.outgoing.proofs.OutgoingLaws.{fragment-most}
 use Rattle.fragments.specs.Slots.{storing}
 use Rattle.grounds.specs.Entry.{lentGround}
 use Rattle.client_record.specs.declared.Client.{Client}
@@ -28,29 +31,29 @@ use Rattle.runs.proofs.Stories.{Makes, Carried}
 
 -- The world after a plan of the client.
 abbrev pub clientLeft : World → Plan → List ℕ → List ℕ → World
-clientLeft w plan message slots = record {
+clientLeft w plan lent slots = record {
   client =
       record {
         machine = plan .client;
         slots = slots;
-        sent = w .client .sent ++ clientPdus (lastStart (w .books .starts)) (plan .send) (plan .client) message;
+        sent = w .client .sent ++ clientPdus (lastStart (w .books .starts)) (plan .send) (plan .client) lent;
       };
   server = w .server;
   books = clientStep w (outcomeOf plan Unsent) [] slots .books;
 }
 
 abbrev clientDone : World → Plan → List ℕ → List ℕ → List ℕ → World
-clientDone w plan message out slots = clientStep w (sending plan message out .outcome) (sending plan message out .out) slots
+clientDone w plan lent out slots = clientStep w (sending plan lent out .outcome) (sending plan lent out .out) slots
 
-client-left : (w : World) (plan : Plan) (message out slots : List ℕ) → Uuids (plan .client .activity) (plan .client .call) → length out ≡ pduSize
-    → clientDone w plan message out slots ≡ clientLeft w plan message slots
+client-left : (w : World) (plan : Plan) (lent out slots : List ℕ) → Uuids (plan .client .activity) (plan .client .call) → length lent ≤ bodySize → length out ≡ pduSize
+    → clientDone w plan lent out slots ≡ clientLeft w plan lent slots
 unfolding sending outcomeOf
-client-left w plan message out slots z room = λ i. record {
+client-left w plan lent out slots z short room = λ i. record {
   client =
       record {
         machine = plan .client;
         slots = slots;
-        sent = client-sent (plan .send) (plan .client) message out (w .client .sent) (lastStart (w .books .starts)) z room i;
+        sent = client-sent (plan .send) (plan .client) lent out (w .client .sent) (lastStart (w .books .starts)) z short room i;
       };
   server = w .server;
   books = clientStep w (outcomeOf plan Unsent) [] slots .books;
@@ -71,13 +74,14 @@ module _ (w : World) (out : List ℕ) (room : length out ≡ pduSize) where
   pub client-transmits : (message : List ℕ) (n : ℕ) → length message ≡ n
       → Uuids (clientTransmit (w .client .machine) n .client .activity) (clientTransmit (w .client .machine) n .client .call)
       → Makes w (OfClient (ClientTransmit message out)) (numberOf (clientTransmit (w .client .machine) n .answer))
-      (clientLeft w (clientTransmit (w .client .machine) n) message (w .client .slots))
+      (clientLeft w (clientTransmit (w .client .machine) n) (fragmentOf message (w .client .machine .outgoing .sent)) (w .client .slots))
   unfolding step answerTo happens transmitting sending outcomeOf
   client-transmits message n whole z = record {
     answered = λ i. numberOf (transmitPlan (transmitGround (w .client .machine) (whole i) (room i)) (w .client .machine) .answer);
     leaves =
-        (λ i. clientDone w (transmitPlan (transmitGround (w .client .machine) (whole i) (room i)) (w .client .machine)) message out (w .client .slots))
-        ∙ client-left w (clientTransmit (w .client .machine) n) message out (w .client .slots) z room;
+        (λ i. clientDone w (transmitPlan (transmitGround (w .client .machine) (whole i) (room i)) (w .client .machine)) (fragmentOf message (w .client .machine .outgoing .sent)) out (w .client .slots))
+        ∙ client-left w (clientTransmit (w .client .machine) n) (fragmentOf message (w .client .machine .outgoing .sent)) out (w .client .slots) z
+        (fragment-most message (w .client .machine .outgoing .sent)) room;
   }
 
   -- a timer event;
@@ -90,7 +94,7 @@ module _ (w : World) (out : List ℕ) (room : length out ≡ pduSize) where
     answered = λ i. numberOf (timerPlan (timerGround (w .client .machine) kind ticket (room i)) kind (w .client .machine) .answer);
     leaves =
         (λ i. clientDone w (timerPlan (timerGround (w .client .machine) kind ticket (room i)) kind (w .client .machine)) [] out (w .client .slots))
-        ∙ client-left w (clientTime (w .client .machine) kind ticket) [] out (w .client .slots) z room;
+        ∙ client-left w (clientTime (w .client .machine) kind ticket) [] out (w .client .slots) z (omega arith) room;
   }
 
   -- a PDU that arrives.
@@ -109,5 +113,5 @@ module _ (w : World) (out : List ℕ) (room : length out ≡ pduSize) where
             (λ i. clientDone w (planOf (w .client .machine) (lentGround (whole i) (room i)) (read i) (rest i)) [] out
             (storing (planOf (w .client .machine) (lentGround (whole i) (room i)) (read i) (rest i) .put) (read i .header .fragment) (rest i) (w .client .slots)))
             ∙ client-left w (clientArrival (w .client .machine) h body) [] out
-            (storing (clientArrival (w .client .machine) h body .put) (h .fragment) body (w .client .slots)) z room;
+            (storing (clientArrival (w .client .machine) h body .put) (h .fragment) body (w .client .slots)) z (omega arith) room;
       }

@@ -54,7 +54,7 @@ unfolding Choice.choose Choice.both Choice.either
     Slots.slotSound Slots.sound Slots.contiguous Slots.complete Slots.cleared Slots.slotsWith Slots.lastWith Slots.stored
     Message.fragments Message.flagsOf
     Sending.nextSerial Sending.oneMore Sending.afterSend Sending.sendsLast Sending.afterPing Sending.acknowledgedTo Sending.firstToSend
-    Sending.rewound Sending.inByte Sending.messageOf Sending.started Sending.replied Sending.noMessage Sending.bounded Sending.hasMessage
+    Sending.rewound Sending.inField Sending.messageOf Sending.started Sending.replied Sending.noMessage Sending.bounded Sending.hasMessage
     Sending.hasNothing
     Judgement.held Judgement.heldAbove Judgement.aboveLast Judgement.otherLast Judgement.lastBelowHeld Judgement.contradicts
     Buffer.storing

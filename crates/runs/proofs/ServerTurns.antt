@@ -1,9 +1,10 @@
 -- The same of the server.
-use Prim.Native.Nat.{ℕ}
+use Prim.Native.Nat.{ℕ, _≤_}
 use mathlib.Core.List.{List, [], _++_}
 use mathlib.Core.Path.{_≡_, refl, _∙_}
+use native.Mathlib.Omega.{arith}
 use lib.ListN.{length}
-use Rattle.words.specs.Sizes.{pduSize, slotsSize}
+use Rattle.words.specs.Sizes.{bodySize, pduSize, slotsSize}
 use Rattle.answers.specs.declared.Answer.{Answer}
 use Rattle.answers.specs.Number.{numberOf}
 use Rattle.pdu.specs.declared.Header.{Header}
@@ -16,6 +17,8 @@ use Rattle.server_steps.specs.declared.Plan.{Plan}
 use Rattle.server_steps.specs.Rows.{transmitPlan, timerPlan}
 use Rattle.server.specs.Sending.{echoed}
 use Rattle.server.specs.Machine.{outcomeOf, sending, transmitting, timing, planOf, acted, arriving}
+use Rattle.outgoing.specs.Message.{fragmentOf}
+use Rattle.outgoing.proofs.OutgoingLaws.{fragment-most}
 use Rattle.fragments.specs.Slots.{storing}
 use Rattle.calls.specs.declared.Sent.the-variants.{Nothing as Unsent}
 use Rattle.history.specs.World.{World}
@@ -28,31 +31,31 @@ use Rattle.runs.proofs.Stories.{Makes, Carried}
 
 -- The world after a plan of the server.
 abbrev pub serverLeft : World → Plan → Header → List ℕ → List ℕ → Subject → World
-serverLeft w plan h message slots of = record {
+serverLeft w plan h lent slots of = record {
   client = w .client;
   server =
       record {
         machine = plan .server;
         slots = slots;
-        sent = w .server .sent ++ serverPdus (of .ordinal) (plan .send) (plan .server) h message;
+        sent = w .server .sent ++ serverPdus (of .ordinal) (plan .send) (plan .server) h lent;
       };
   books = serverStep w (outcomeOf plan Unsent) [] slots of .books;
 }
 
 abbrev serverDone : World → Plan → Header → List ℕ → List ℕ → List ℕ → Subject → World
-serverDone w plan h message out slots of = serverStep w (sending plan h message out .outcome) (sending plan h message out .out) slots of
+serverDone w plan h lent out slots of = serverStep w (sending plan h lent out .outcome) (sending plan h lent out .out) slots of
 
-server-left : (w : World) (plan : Plan) (h : Header) (message out slots : List ℕ) (of : Subject) → Uuids (plan .server .activity) (plan .server .call)
-    → Uuids (plan .server .activity) (echoed h) → length out ≡ pduSize
-    → serverDone w plan h message out slots of ≡ serverLeft w plan h message slots of
+server-left : (w : World) (plan : Plan) (h : Header) (lent out slots : List ℕ) (of : Subject) → Uuids (plan .server .activity) (plan .server .call)
+    → Uuids (plan .server .activity) (echoed h) → length lent ≤ bodySize → length out ≡ pduSize
+    → serverDone w plan h lent out slots of ≡ serverLeft w plan h lent slots of
 unfolding sending outcomeOf
-server-left w plan h message out slots of z y room = λ i. record {
+server-left w plan h lent out slots of z y short room = λ i. record {
   client = w .client;
   server =
       record {
         machine = plan .server;
         slots = slots;
-        sent = server-sent (plan .send) (plan .server) h message out (w .server .sent) (of .ordinal) (λ e. z, y) room i;
+        sent = server-sent (plan .send) (plan .server) h lent out (w .server .sent) (of .ordinal) (λ e. z, y) short room i;
       };
   books = serverStep w (outcomeOf plan Unsent) [] slots of .books;
 }
@@ -76,14 +79,14 @@ module _ (w : World) (out : List ℕ) (room : length out ≡ pduSize) where
   pub server-transmits : (message : List ℕ) (n : ℕ) → length message ≡ n
       → Uuids (serverTransmit (w .server .machine) n .server .activity) (serverTransmit (w .server .machine) n .server .call)
       → Makes w (OfServer (ServerTransmit message out)) (numberOf (serverTransmit (w .server .machine) n .answer))
-      (serverLeft w (serverTransmit (w .server .machine) n) blank message (w .server .slots) (ofRecord w))
+      (serverLeft w (serverTransmit (w .server .machine) n) blank (fragmentOf message (w .server .machine .outgoing .sent)) (w .server .slots) (ofRecord w))
   unfolding step answerTo happens transmitting sending outcomeOf blank echoed
   server-transmits message n whole z = record {
     answered = λ i. numberOf (transmitPlan (transmitGround (w .server .machine) (whole i) (room i)) (w .server .machine) .answer);
     leaves =
-        (λ i. serverDone w (transmitPlan (transmitGround (w .server .machine) (whole i) (room i)) (w .server .machine)) blank message out (w .server .slots) (ofRecord w))
-        ∙ server-left w (serverTransmit (w .server .machine) n) blank message out (w .server .slots) (ofRecord w) z
-        (record { activity-16 = z .activity-16; object-16 = refl; interface-16 = refl }) room;
+        (λ i. serverDone w (transmitPlan (transmitGround (w .server .machine) (whole i) (room i)) (w .server .machine)) blank (fragmentOf message (w .server .machine .outgoing .sent)) out (w .server .slots) (ofRecord w))
+        ∙ server-left w (serverTransmit (w .server .machine) n) blank (fragmentOf message (w .server .machine .outgoing .sent)) out (w .server .slots) (ofRecord w) z
+        (record { activity-16 = z .activity-16; object-16 = refl; interface-16 = refl }) (fragment-most message (w .server .machine .outgoing .sent)) room;
   }
 
   -- a timer event;
@@ -96,7 +99,7 @@ module _ (w : World) (out : List ℕ) (room : length out ≡ pduSize) where
     leaves =
         (λ i. serverDone w (timerPlan (timerGround (w .server .machine) ticket (room i)) (w .server .machine)) blank [] out (w .server .slots) (ofRecord w))
         ∙ server-left w (serverTime (w .server .machine) ticket) blank [] out (w .server .slots) (ofRecord w) z
-        (record { activity-16 = z .activity-16; object-16 = refl; interface-16 = refl }) room;
+        (record { activity-16 = z .activity-16; object-16 = refl; interface-16 = refl }) (omega arith) room;
   }
 
   -- a PDU that arrives.
@@ -119,5 +122,5 @@ module _ (w : World) (out : List ℕ) (room : length out ≡ pduSize) where
             ∙ server-left w (serverArrival (w .server .machine) h body) h [] out
             (storing (serverArrival (w .server .machine) h body .put) (h .fragment) body (w .server .slots))
             (ofHeader w o h (serverArrival (w .server .machine) h body .answer)) z
-            (record { activity-16 = z .activity-16; object-16 = sized .object; interface-16 = sized .interface }) room;
+            (record { activity-16 = z .activity-16; object-16 = sized .object; interface-16 = sized .interface }) (omega arith) room;
       }

@@ -77,13 +77,13 @@ fn echo_header(kind: u8, fragment: u16, s: Server, h: Header) -> Header
     )
 }
 
-// Sends the response's fragment f.
-fn send_response(f: u8, s: Server, message: &[u8], out: &mut [u8]) -> Sent
-    ensures { λ r. ⌜ Posted (responseSent f s (now (message .entry)) (now (out .entry))) r (now (out .exit)) ⌝ }
+// Sends the response's fragment f, whose bytes are lent.
+fn send_response(f: u16, s: Server, lent: &[u8], out: &mut [u8]) -> Sent
+    ensures { λ r. ⌜ Posted (responseSent f s (now (lent .entry)) (now (out .entry))) r (now (out .exit)) ⌝ }
 {
     let o = s.outgoing;
-    let h = reply_header(2, outgoing::flags(o.count, f), f as u16, s);
-    calls::post(h, outgoing::fragment(message, f as u16), out)
+    let h = reply_header(2, outgoing::flags(o.count, f), f, s);
+    calls::post(h, lent, out)
 }
 
 // Sends a fault with its status.
@@ -115,12 +115,12 @@ fn send_fack(serial: u16, s: Server, h: Header, out: &mut [u8]) -> Sent
 }
 
 // Sends what a plan says, from the record after the step; h is the header of the PDU answered.
-fn send_out(send: Send, s: Server, h: Header, message: &[u8], out: &mut [u8]) -> Sent
-    ensures { λ r. ⌜ Posted (sentOut send s h (now (message .entry)) (now (out .entry))) r (now (out .exit)) ⌝ }
+fn send_out(send: Send, s: Server, h: Header, lent: &[u8], out: &mut [u8]) -> Sent
+    ensures { λ r. ⌜ Posted (sentOut send s h (now (lent .entry)) (now (out .entry))) r (now (out .exit)) ⌝ }
 {
     match send {
         Send::Nothing => Sent::Nothing,
-        Send::Response(f) => send_response(f, s, message, out),
+        Send::Response(f) => send_response(f, s, lent, out),
         Send::Fault(status) => send_fault(status, s, out),
         Send::Working => send_empty(4, s, h, out),
         Send::Nocall => send_empty(5, s, h, out),
@@ -159,7 +159,9 @@ pub fn transmit(s: Server, message: &[u8], out: &mut [u8]) -> Outcome
     let plan = server_steps::transmit(ground, s);
     let server = plan.server;
     let send = plan.send;
-    let sent = send_out(send, server, pdu::no_header(), message, out);
+    let o = s.outgoing;
+    let fragment = outgoing::fragment(message, o.sent);
+    let sent = send_out(send, server, pdu::no_header(), fragment, out);
     outcome_of(plan, sent)
 }
 

@@ -20,7 +20,7 @@ ghost use Rattle.server_steps.specs.Rows.{answered as answeredRecord, re
 // for the PDU answered working, nocall, or a fack.
 pub enum Send {
     Nothing,
-    Response(u8),
+    Response(u16),
     Fault(u32),
     Working,
     Nocall,

@@ -1,6 +1,6 @@
 -- `client::send_request` meets its contract.
 use Prim.Native.Nat.{ℕ}
-use mathlib.Core.Path.{ap, _∙_}
+use mathlib.Core.Path.{refl, ap, _∙_}
 use borrow.Author.Needs.{needs}
 use Rattle.client.specs.Sending.{pduHeader, requestSent}
 use Rattle.calls.proofs.PostLaws.{posted-as}
@@ -10,16 +10,15 @@ use Rattle.client.proofs.send_request.Tie as tie
 returns : tie.Need-returns
 unfolding requestSent
 returns c =
-    let a = c .before .before .before .before .before .before .before .before .before .before .args in
+    let a = c .before .before .before .before .before .before .before .before .before .args in
     posted-as _ _ _ _ _ _ _ (c .before .before .post .ensures)
-    (c .before .before .before .before .before .header .ensures ∙ ap (λ (n : ℕ). pduHeader 0 n (a .f) (a .c)) (c .before .before .before .before .before .before .flags .ensures))
-    (c .before .before .before .before .fragment .ensures)
+    (c .before .before .before .before .header .ensures ∙ ap (λ (n : ℕ). pduHeader 0 n (a .f) (a .c)) (c .before .before .before .before .before .flags .ensures))
+    refl
 
 pub send-request-spec : {M : Type 1} → statement M
 send-request-spec =
     tie.close
     (tie.spec
-    (λ c κs. search needs)
     (λ c κs. search needs)
     (λ c κs. search needs)
     (λ c κs. search needs)

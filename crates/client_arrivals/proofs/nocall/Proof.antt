@@ -5,6 +5,10 @@ use borrow.Author.Needs.{needs}
 use Rattle.client_arrivals.proofs.nocall.Statement.{statement}
 use Rattle.client_arrivals.proofs.nocall.Tie as tie
 
+returns : tie.Need-returns
+unfolding nocallPlan
+returns c = rw (c .accepted .ensures, c .before .resent .ensures) (search tests)
+
 pub nocall-spec : {M : Type 1} → statement M
 unfolding nocallPlan
 nocall-spec =
@@ -12,6 +16,6 @@ nocall-spec =
     (tie.spec
     (λ c κs. search needs)
     (λ c κs. search needs)
-    (λ c. rw (c .accepted .ensures, c .before .resent .ensures) (search tests))
+    returns
     (λ c κs. search needs)
     (λ c. search tests))

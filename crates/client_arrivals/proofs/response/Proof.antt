@@ -4,6 +4,9 @@ use borrow.Author.Needs.{needs}
 use Rattle.client_arrivals.proofs.response.Statement.{statement}
 use Rattle.client_arrivals.proofs.response.Tie as tie
 
-pub response-spec : {M : Type 1} → statement M
+returns : tie.Need-returns
 unfolding responsePlan
-response-spec = tie.close (tie.spec (λ c κs. search needs) (λ c κs. search needs) (λ c κs. search needs) (λ c. rw (c .put .ensures, c .before .with .ensures, c .before .before .is-last .ensures)))
+returns c = rw (c .put .ensures, c .before .with .ensures, c .before .before .is-last .ensures)
+
+pub response-spec : {M : Type 1} → statement M
+response-spec = tie.close (tie.spec (λ c κs. search needs) (λ c κs. search needs) (λ c κs. search needs) returns)

@@ -4,6 +4,10 @@ use borrow.Author.Needs.{needs}
 use Rattle.client_arrivals.proofs.row.Statement.{statement}
 use Rattle.client_arrivals.proofs.row.Tie as tie
 
+returns-3 : tie.Need-returns-3
+unfolding arrivalRow
+returns-3 c = rw (c .before .enum-told3 .given .1, c .failed2 .ensures)
+
 pub row-spec : {M : Type 1} → statement M
 unfolding arrivalRow
 row-spec =
@@ -25,7 +29,7 @@ row-spec =
     (λ c κs. search needs)
     (λ c. rw (c .before .enum-told .given .1, c .response .ensures))
     (λ c. rw (c .before .enum-told2 .given .1, c .failed .ensures))
-    (λ c. rw (c .before .enum-told3 .given .1, c .failed2 .ensures))
+    returns-3
     (λ c. rw (c .before .enum-told4 .given .1, c .working .ensures))
     (λ c. rw (c .before .enum-told5 .given .1, c .nocall .ensures))
     (λ c. rw (c .before .enum-told6 .given .1, c .fack .ensures))

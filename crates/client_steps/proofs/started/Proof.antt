@@ -4,8 +4,11 @@ use borrow.Author.Needs.{needs}
 use Rattle.client_steps.proofs.started.Statement.{statement}
 use Rattle.client_steps.proofs.started.Tie as tie
 
-pub started-spec : {M : Type 1} → statement M
+returns : tie.Need-returns
 unfolding started
+returns c = rw (c .with-call .ensures, c .before .start .ensures, c .before .before .next-number .ensures, c .before .before .before .is-queued .ensures)
+
+pub started-spec : {M : Type 1} → statement M
 started-spec =
     tie.close
     (tie.spec
@@ -13,4 +16,4 @@ started-spec =
     (λ c κs. search needs)
     (λ c κs. search needs)
     (λ c κs. search needs)
-    (λ c. rw (c .with-call .ensures, c .before .start .ensures, c .before .before .next-number .ensures, c .before .before .before .is-queued .ensures)))
+    returns)

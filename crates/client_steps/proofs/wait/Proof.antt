@@ -5,6 +5,10 @@ use borrow.Author.Needs.{needs}
 use Rattle.client_steps.proofs.wait.Statement.{statement}
 use Rattle.client_steps.proofs.wait.Tie as tie
 
+returns : tie.Need-returns
+unfolding waitPlan
+returns c = rw (c .accepted .ensures, c .before .pinged .ensures) (search tests)
+
 pub wait-spec : {M : Type 1} → statement M
 unfolding waitPlan
 wait-spec =
@@ -12,6 +16,6 @@ wait-spec =
     (tie.spec
     (λ c κs. search needs)
     (λ c κs. search needs)
-    (λ c. rw (c .accepted .ensures, c .before .pinged .ensures) (search tests))
+    returns
     (λ c κs. search needs)
     (λ c. rw (c .failed .ensures) (search tests)))

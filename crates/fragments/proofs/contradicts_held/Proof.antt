@@ -4,8 +4,11 @@ use borrow.Author.Needs.{needs}
 use Rattle.fragments.proofs.contradicts_held.Statement.{statement}
 use Rattle.fragments.proofs.contradicts_held.Tie as tie
 
-pub contradicts-held-spec : {M : Type 1} → statement M
+returns : tie.Need-returns
 unfolding contradicts lastBelowHeld heldAbove
+returns c = rw (c .either2 .ensures, c .before .either .ensures, c .before .before .both .ensures, c .before .before .before .held-from .ensures, c .before .before .before .before .other-last .ensures, c .before .before .before .before .before .above-last .ensures)
+
+pub contradicts-held-spec : {M : Type 1} → statement M
 contradicts-held-spec =
     tie.close
     (tie.spec
@@ -16,4 +19,4 @@ contradicts-held-spec =
     (λ c κs. search needs)
     (λ c κs. search needs)
     (λ c κs. search needs)
-    (λ c. rw (c .either2 .ensures, c .before .either .ensures, c .before .before .both .ensures, c .before .before .before .held-from .ensures, c .before .before .before .before .other-last .ensures, c .before .before .before .before .before .above-last .ensures)))
+    returns)

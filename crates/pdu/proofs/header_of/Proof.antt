@@ -5,8 +5,11 @@ use borrow.Author.Needs.{needs}
 use Rattle.pdu.proofs.header_of.Statement.{statement}
 use Rattle.pdu.proofs.header_of.Tie as tie
 
-pub header-of-spec : {M : Type 1} → statement M
+returns : tie.Need-returns
 unfolding headerOf
+returns c = search same-header
+
+pub header-of-spec : {M : Type 1} → statement M
 header-of-spec =
     tie.close
     (tie.spec
@@ -27,4 +30,4 @@ header-of-spec =
     (λ c κs. search needs)
     (λ c κs. search needs)
     (λ c. search needs)
-    (λ c. search same-header))
+    returns)

@@ -8,10 +8,10 @@ returns : tie.Need-returns
 unfolding outgoingIn
 returns c =
     rw (
-      c .number16 .ensures,
-      c .before .byte-at3 .ensures,
-      c .before .before .byte-at2 .ensures,
-      c .before .before .before .byte-at .ensures,
+      c .number164 .ensures,
+      c .before .number163 .ensures,
+      c .before .before .number162 .ensures,
+      c .before .before .before .number16 .ensures,
       c .before .before .before .before .number32 .ensures,
     )
 

@@ -5,6 +5,10 @@ use borrow.Author.Needs.{needs}
 use Rattle.server_arrivals.proofs.act.Statement.{statement}
 use Rattle.server_arrivals.proofs.act.Tie as tie
 
+returns-6 : tie.Need-returns-6
+unfolding arrivalRow workingPlan nocallPlan
+returns-6 c = rw (c .before .enum-told6 .given .1, c .accepted .ensures)
+
 pub act-spec : {M : Type 1} → statement M
 unfolding arrivalRow workingPlan nocallPlan
 act-spec =
@@ -35,7 +39,7 @@ act-spec =
     (λ c. rw (c .before .enum-told3 .given .1, c .refused3 .ensures))
     (λ c. rw (c .before .enum-told4 .given .1, c .begin .ensures))
     (λ c. rw (c .before .enum-told5 .given .1, c .request .ensures))
-    (λ c. rw (c .before .enum-told6 .given .1, c .accepted .ensures))
+    returns-6
     (λ c. rw (c .before .enum-told7 .given .1, c .accepted2 .ensures))
     (λ c. rw (c .before .enum-told8 .given .1, c .replay .ensures))
     (λ c. rw (c .before .enum-told9 .given .1, c .fack .ensures))

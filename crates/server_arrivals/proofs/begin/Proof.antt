@@ -4,11 +4,14 @@ use borrow.Author.Needs.{needs}
 use Rattle.server_arrivals.proofs.begin.Statement.{statement}
 use Rattle.server_arrivals.proofs.begin.Tie as tie
 
-pub begin-spec : {M : Type 1} → statement M
+returns : tie.Need-returns
 unfolding beginPlan
+returns c = rw (c .request .ensures, c .before .begun .ensures)
+
+pub begin-spec : {M : Type 1} → statement M
 begin-spec =
     tie.close
     (tie.spec
     (λ c κs. search needs)
     (λ c κs. search needs)
-    (λ c. rw (c .request .ensures, c .before .begun .ensures)))
+    returns)

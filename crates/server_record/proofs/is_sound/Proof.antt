@@ -4,8 +4,11 @@ use borrow.Author.Needs.{needs}
 use Rattle.server_record.proofs.is_sound.Statement.{statement}
 use Rattle.server_record.proofs.is_sound.Tie as tie
 
-pub is-sound-spec : {M : Type 1} → statement M
+returns : tie.Need-returns
 unfolding sound
+returns c = rw (c .both3 .ensures, c .before .both2 .ensures, c .before .before .both .ensures, c .before .before .before .before .is-sound-where .ensures, c .before .before .before .before .before .is-held .ensures, c .before .before .before .before .before .before .is-sound .ensures, c .before .before .before .before .before .before .before .outgoing-is-sound .ensures)
+
+pub is-sound-spec : {M : Type 1} → statement M
 is-sound-spec =
     tie.close
     (tie.spec
@@ -16,4 +19,4 @@ is-sound-spec =
     (λ c κs. search needs)
     (λ c κs. search needs)
     (λ c κs. search needs)
-    (λ c. rw (c .both3 .ensures, c .before .both2 .ensures, c .before .before .both .ensures, c .before .before .before .before .is-sound-where .ensures, c .before .before .before .before .before .is-held .ensures, c .before .before .before .before .before .before .is-sound .ensures, c .before .before .before .before .before .before .before .outgoing-is-sound .ensures)))
+    returns)

@@ -4,6 +4,10 @@ use borrow.Author.Needs.{needs}
 use Rattle.server_rows.proofs.row_of.Statement.{statement}
 use Rattle.server_rows.proofs.row_of.Tie as tie
 
+returns-3 : tie.Need-returns-3
+unfolding rowOf ackRow fackRow
+returns-3 c = rw (c .before .before .enum-told3 .given .1, c .acknowledgement-row .ensures, c .before .finish-row .ensures)
+
 pub row-of-spec : {M : Type 1} → statement M
 unfolding rowOf ackRow fackRow
 row-of-spec =
@@ -21,6 +25,6 @@ row-of-spec =
     (λ c. search needs)
     (λ c. rw (c .before .enum-told .given .1, c .request-row .ensures))
     (λ c. rw (c .before .enum-told2 .given .1, c .ping-row .ensures))
-    (λ c. rw (c .before .before .enum-told3 .given .1, c .acknowledgement-row .ensures, c .before .finish-row .ensures))
+    returns-3
     (λ c. rw (c .before .enum-told4 .given .1, c .acknowledgement-row2 .ensures))
     (λ c. rw (c .enum-told5 .given .1)))

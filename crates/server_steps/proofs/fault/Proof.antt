@@ -4,6 +4,10 @@ use borrow.Author.Needs.{needs}
 use Rattle.server_steps.proofs.fault.Statement.{statement}
 use Rattle.server_steps.proofs.fault.Tie as tie
 
+returns-2 : tie.Need-returns-2
+unfolding faultPlan
+returns-2 c = rw (c .before .before .enum-told .given .1, c .accepted .ensures, c .before .settled .ensures)
+
 pub fault-spec : {M : Type 1} → statement M
 unfolding faultPlan
 fault-spec =
@@ -15,4 +19,4 @@ fault-spec =
     (λ c κs. search needs)
     (λ c κs. search needs)
     (λ c. rw (c .before .before .ground .given .1, c .refused .ensures))
-    (λ c. rw (c .before .before .enum-told .given .1, c .accepted .ensures, c .before .settled .ensures)))
+    returns-2)

@@ -4,6 +4,10 @@ use borrow.Author.Needs.{needs}
 use Rattle.server_steps.proofs.replay_held.Statement.{statement}
 use Rattle.server_steps.proofs.replay_held.Tie as tie
 
+returns-2 : tie.Need-returns-2
+unfolding replayHeld
+returns-2 c = rw (c .before .before .reply .given .1, c .accepted2 .ensures)
+
 pub replay-held-spec : {M : Type 1} → statement M
 unfolding replayHeld
 replay-held-spec =
@@ -15,4 +19,4 @@ replay-held-spec =
     (λ c. search needs)
     (λ c κs. search needs)
     (λ c. rw (c .before .before .enum-told .given .1, c .accepted .ensures, c .before .rewinding .ensures))
-    (λ c. rw (c .before .before .reply .given .1, c .accepted2 .ensures)))
+    returns-2)

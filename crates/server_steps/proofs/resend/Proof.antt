@@ -5,13 +5,17 @@ use borrow.Author.Needs.{needs}
 use Rattle.server_steps.proofs.resend.Statement.{statement}
 use Rattle.server_steps.proofs.resend.Tie as tie
 
+returns : tie.Need-returns
+unfolding resendRow
+returns c = search tests
+
 pub resend-spec : {M : Type 1} → statement M
 unfolding resendRow
 resend-spec =
     tie.close
     (tie.spec
     (λ c κs. search needs)
-    (λ c. search tests)
+    returns
     (λ c κs. search needs)
     (λ c κs. search needs)
     (λ c. rw (c .accepted .ensures, c .before .to-unarmed .ensures) (search tests)))

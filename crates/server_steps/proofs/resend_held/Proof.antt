@@ -4,6 +4,10 @@ use borrow.Author.Needs.{needs}
 use Rattle.server_steps.proofs.resend_held.Statement.{statement}
 use Rattle.server_steps.proofs.resend_held.Tie as tie
 
+returns : tie.Need-returns
+unfolding resendHeld
+returns c = rw (c .before .before .enum-told .given .1, c .accepted .ensures, c .before .rewinding .ensures, c .before .before .before .before .with-resends .ensures)
+
 pub resend-held-spec : {M : Type 1} → statement M
 unfolding resendHeld
 resend-held-spec =
@@ -17,5 +21,5 @@ resend-held-spec =
     (λ c. search needs)
     (λ c κs. search needs)
     (λ c κs. search needs)
-    (λ c. rw (c .before .before .enum-told .given .1, c .accepted .ensures, c .before .rewinding .ensures, c .before .before .before .before .with-resends .ensures))
+    returns
     (λ c. rw (c .before .before .before .reply .given .1, c .accepted2 .ensures, c .before .to-holding .ensures, c .before .before .before .before .before .with-resends .ensures)))

@@ -6,6 +6,9 @@ use Rattle.timers.specs.Tickets.{armedAfresh}
 use Rattle.timers.proofs.armed_afresh.Statement.{statement}
 use Rattle.timers.proofs.armed_afresh.Tie as tie
 
-pub armed-afresh-spec : {M : Type 1} → statement M
+returns : tie.Need-returns
 unfolding armedAfresh
-armed-afresh-spec = tie.close (tie.spec (λ c κs. search needs) (λ c. ap Armed (c .next-ticket .ensures)))
+returns c = ap Armed (c .next-ticket .ensures)
+
+pub armed-afresh-spec : {M : Type 1} → statement M
+armed-afresh-spec = tie.close (tie.spec (λ c κs. search needs) returns)
