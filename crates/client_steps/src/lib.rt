@@ -134,7 +134,10 @@ fn pinged(c: Client) -> Client
     let state = c.state;
     let waits = c.waits + 1;
     client_record::with_waits(
-        client_record::to_waiting(client_record::with_outgoing(c, outgoing::after_ping(o)), state),
+        client_record::to_waiting(
+            client_record::with_outgoing(c, outgoing::after_ping(o)),
+            state,
+        ),
         waits,
     )
 }

@@ -116,7 +116,10 @@ pub fn fragment(flags1: u8, number: u16) -> Ground
 {
     let part = flags::is_fragment(flags1);
     let alone = words::both(!part, number != 0);
-    refuse_if(words::either(LAST_NUMBER < number, alone), Answer::WrongFragment)
+    refuse_if(
+        words::either(LAST_NUMBER < number, alone),
+        Answer::WrongFragment,
+    )
 }
 
 // 16 and 17, of a fragment that is to be put.

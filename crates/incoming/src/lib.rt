@@ -136,7 +136,11 @@ pub fn empty() -> Incoming
 }
 
 // The slots with fragment f held; a number beyond the window has no slot.
-fn slots_with(slots: [Slot; WINDOW_SIZE as usize], f: u16, length: u16) -> [Slot; WINDOW_SIZE as usize]
+fn slots_with(
+    slots: [Slot; WINDOW_SIZE as usize],
+    f: u16,
+    length: u16,
+) -> [Slot; WINDOW_SIZE as usize]
     ensures { λ r. ⌜ r ≡ slotsWith slots f length ⌝ }
 {
     let mut after = slots;

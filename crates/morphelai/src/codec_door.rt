@@ -1,7 +1,7 @@
 // The exported reader and writer.
 use pdu::Header;
-use writer::Written;
 use words::HEADER_SIZE;
+use writer::Written;
 ghost use mathlib.Core.Path.{_≡_};
 ghost use mathlib.Core.List.{[], _∷_};
 ghost use Rattle.words.specs.Place.{placed};

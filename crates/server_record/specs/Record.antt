@@ -99,7 +99,6 @@ withResends s resends = record {
   resend = s .resend;
 }
 
-
 -- Another call in place of the last one, of which nothing stays: its number and data; no message, counts 0, slots and
 -- known last forgotten, nothing armed.
 abbrev pub withCall : Server → State → ℕ → Call → Server

@@ -231,7 +231,10 @@ pub fn timer(s: Server, ticket: u64, out: usize) -> Ground
     let held = server_record::is_held(state);
     let row = grounds::refuse_if(!held, Answer::NoRow);
     let late = grounds::late(resend, ticket);
-    let fresh = grounds::tickets(server_record::arms_again(state, s.resends < RETRY_LIMIT), s.tickets);
+    let fresh = grounds::tickets(
+        server_record::arms_again(state, s.resends < RETRY_LIMIT),
+        s.tickets,
+    );
     let rest = grounds::first_of(row, grounds::first_of(late, fresh));
     grounds::first_of(lent, grounds::first_of(rules, rest))
 }
