@@ -1,6 +1,7 @@
 // The bodies of fack, fault and reject.
 use answers::Answer;
 use answers::Ground;
+use words::PDU_SIZE;
 ghost use mathlib.Core.Path.{_≡_};
 ghost use Rattle.bodies.specs.Fack.{fackGround, fackOf, blankFack, fackReading, fackBytes, fackSent};
 ghost use Rattle.bodies.specs.Status.{statusReading, statusBytes};
@@ -94,29 +95,30 @@ pub fn read_fack(body: &[u8], little: bool) -> FackReading
 pub fn write_fack(serial: u16, mask: u32) -> [u8; 20]
     ensures { λ r. ⌜ r ≡ fackBytes (fackSent serial mask) ⌝ }
 {
-    let a = words::split16(serial);
-    let b = words::split32(mask);
+    let answered = words::split16(serial);
+    let held = words::split32(mask);
+    let size = words::split32(PDU_SIZE as u32);
     [
         0,
         0,
         43,
         0,
-        192,
-        5,
-        0,
-        0,
-        192,
-        5,
-        0,
-        0,
-        a[0],
-        a[1],
+        size[0],
+        size[1],
+        size[2],
+        size[3],
+        size[0],
+        size[1],
+        size[2],
+        size[3],
+        answered[0],
+        answered[1],
         1,
         0,
-        b[0],
-        b[1],
-        b[2],
-        b[3],
+        held[0],
+        held[1],
+        held[2],
+        held[3],
     ]
 }
 

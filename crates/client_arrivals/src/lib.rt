@@ -12,7 +12,6 @@ use pdu::Header;
 use words::RETRY_LIMIT;
 ghost use mathlib.Core.Path.{_≡_};
 ghost use Prim.Native.Nat.{_<_};
-ghost use Rattle.client_record.specs.Record.{withIncoming, withResends};
 ghost use Rattle.words.specs.Sizes.{retryLimit};
 ghost use Rattle.client_arrivals.specs.Rows.{acknowledged as acknowledgedRecord, fackPlan, putRecord, received as receivedRecord, putNotice, fackFor, putPlan, responsePlan, workingPlan, resent as resentRecord, nocallPlan};
 ghost use Rattle.client_arrivals.specs.Table.{arrivalRow, arrivalPlan};

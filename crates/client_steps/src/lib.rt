@@ -10,7 +10,6 @@ use client_record::TimerKind;
 use words::RETRY_LIMIT;
 ghost use mathlib.Core.Path.{_≡_};
 ghost use Prim.Native.Nat.{_<_};
-ghost use Rattle.client_record.specs.Record.{withOutgoing, withWaits};
 ghost use Rattle.words.specs.Sizes.{retryLimit};
 ghost use Rattle.client_steps.specs.Plan.{refused as refusedPlan, accepted as acceptedPlan, failed as failedPlan};
 ghost use Rattle.client_steps.specs.Rows.{nextNumber, started as startedRecord, startPlan, transmitted as transmittedRecord, transmitPlan, pinged as pingedRecord, waitPlan, ackPlan, timerRow, timerPlan};

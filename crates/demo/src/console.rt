@@ -9,7 +9,8 @@ use calls::Notice;
 use client::Outcome;
 use client_record::Client;
 use client_record::TimerKind;
-use words::SLOTS_SIZE;
+use words::MESSAGE_SIZE;
+use words::WINDOW_SIZE;
 
 pub(crate) const REQUEST_SIZE: usize = 3500;
 
@@ -88,7 +89,7 @@ fn completed_after(completed: u32, notice: Notice) -> u32 {
 fn take_reply(client: Client, slots: &[u8], reply: &mut [u8]) -> usize {
     let mut length = 0;
     let mut f: u16 = 0;
-    while f < 32 {
+    while f < WINDOW_SIZE {
         length = lines::put_text(reply, length, client::hand_up(client, f, slots));
         f += 1;
     }
@@ -155,7 +156,7 @@ impl Console {
 
     // Prints what was handed up of the reply that was sent.
     pub(crate) fn report(self, sent: &[u8], slots: &[u8]) {
-        let mut reply = [0u8; SLOTS_SIZE];
+        let mut reply = [0u8; MESSAGE_SIZE as usize];
         let length = take_reply(self.client, slots, &mut reply);
         let taken = words::first(&reply, length);
         transcript::print_report(

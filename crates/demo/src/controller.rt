@@ -8,7 +8,8 @@ use crate::transcript;
 use calls::Notice;
 use server::Outcome;
 use server_record::Server;
-use words::SLOTS_SIZE;
+use words::MESSAGE_SIZE;
+use words::WINDOW_SIZE;
 
 pub(crate) const REPLY_SIZE: usize = 4500;
 
@@ -71,7 +72,7 @@ fn dispatched_after(dispatched: u32, notice: Notice) -> u32 {
 fn take_request(server: Server, slots: &[u8], request: &mut [u8]) -> usize {
     let mut length = 0;
     let mut f: u16 = 0;
-    while f < 32 {
+    while f < WINDOW_SIZE {
         length = lines::put_text(request, length, server::hand_up(server, f, slots));
         f += 1;
     }
@@ -134,7 +135,7 @@ impl Controller {
 
     // Prints what was handed up of the request that was sent.
     pub(crate) fn report(self, sent: &[u8], slots: &[u8]) {
-        let mut request = [0u8; SLOTS_SIZE];
+        let mut request = [0u8; MESSAGE_SIZE as usize];
         let length = take_request(self.server, slots, &mut request);
         let taken = words::first(&request, length);
         transcript::print_report(

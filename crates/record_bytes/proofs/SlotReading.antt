@@ -67,7 +67,7 @@ module _ (s : List ℕ) (octets : Octets s) where
     -- One slot's mark is 0 or 1, and its spare byte 0.
     marks : (f : ℕ) → f < windowSize → (leb (markAt s f) 1 ≡ true) × (eqb (getD s (4 * f + 3) 0) 0 ≡ true)
     unfolding slotsReadable readableBelow slotReadable
-    marks f h = both-true _ _ (each-of (readableBelow s) (slotReadable s) (λ (n : ℕ). refl) 32 readable f h)
+    marks f h = both-true _ _ (each-of (readableBelow s) (slotReadable s) (λ (n : ℕ). refl) windowSize readable f h)
 
     -- Its length is written as it stands.
     length-digits : (f : ℕ) → f < windowSize

@@ -1,5 +1,4 @@
 -- Document 01's "Bench rows": the cases marked *, in its order, each with the answer that it must have. A new row is a new line.
-use Prim.Native.Nat.{_+_}
 use mathlib.Core.List.{List, [], _∷_, List·Memᴰ}
 use mathlib.Core.Path.{_≡_}
 use Rattle.words.specs.Sizes.{headerSize, bodySize, pduSize, messageSize}
@@ -21,17 +20,17 @@ rows =
     ∷ Read (zeros headerSize) gives Answer 4
     ∷ Read (datagram headerSize (version 4 ∷ kind 11 ∷ [])) gives Answer 5
     ∷ Read (datagram headerSize (version 4 ∷ representation 32 0 0 ∷ [])) gives Answer 6
-    ∷ Read (datagram (pduSize + 1) (version 4 ∷ representation 16 0 0 ∷ bodyLength (bodySize + 1) ∷ [])) gives Answer 8
+    ∷ Read (datagram 1473 (version 4 ∷ representation 16 0 0 ∷ bodyLength 1393 ∷ [])) gives Answer 8
     ∷ SerialOf (datagram headerSize (version 4 ∷ serialHigh 1 ∷ serialLow 2 ∷ [])) gives Serial 258
     ∷ SerialAfter 65535 gives Serial 0
     ∷ Held (0 ∷ 1 ∷ 3 ∷ 4 ∷ []) gives Fack 2 1 6
     ∷ Held (1 ∷ 2 ∷ []) gives Fack 0 65535 6
     ∷ Message 0 gives Fragments 1
     ∷ Message bodySize gives Fragments 1
-    ∷ Message (bodySize + 1) gives Fragments 2
+    ∷ Message 1393 gives Fragments 2
     ∷ Message messageSize gives Fragments 32
-    ∷ Start (messageSize + 1) gives Answer 1
-    ∷ Reply (messageSize + 1) gives Answer 1
+    ∷ Start 44545 gives Answer 1
+    ∷ Reply 44545 gives Answer 1
     ∷ WaitTimer 7 6 gives Answer 18
     ∷ AckTimer 7 6 gives Answer 18
     ∷ ResendTimer 7 6 gives Answer 18

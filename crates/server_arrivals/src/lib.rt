@@ -12,7 +12,6 @@ use server_rows::Row;
 use server_steps::Plan;
 use server_steps::Send;
 ghost use mathlib.Core.Path.{_≡_};
-ghost use Rattle.server_record.specs.Record.{withIncoming};
 ghost use Rattle.server_arrivals.specs.Rows.{callOf, begun as begunRecord, putState, putNotice, fackFor, putPlan, requestPlan, beginPlan, fackPlan, ackPlan};
 ghost use Rattle.server_arrivals.specs.Table.{arrivalRow, arrivalPlan};
 

@@ -11,7 +11,6 @@ use server_record::State;
 use words::RETRY_LIMIT;
 ghost use mathlib.Core.Path.{_≡_};
 ghost use Prim.Native.Nat.{_<_};
-ghost use Rattle.server_record.specs.Record.{withOutgoing, withResends};
 ghost use Rattle.words.specs.Sizes.{retryLimit};
 ghost use Rattle.server_steps.specs.Plan.{refused as refusedPlan, accepted as acceptedPlan};
 ghost use Rattle.server_steps.specs.Rows.{answered as answeredRecord, replyPlan, settled as settledRecord, transmitted as transmittedRecord, transmitPlan, faultPlan, rewinding as rewindingRecord, replayHeld, replayPlan, resendHeld, resendRow, timerRow, timerPlan};

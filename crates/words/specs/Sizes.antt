@@ -5,7 +5,7 @@ use Prim.Native.Nat.{ℕ}
 abbrev pub headerSize : ℕ
 headerSize = 80
 
--- The bytes of a body at most. Every fragment of a message but the last has as many.
+-- The bytes of a body at most. Every fragment of a message that is sent but the last has as many.
 abbrev pub bodySize : ℕ
 bodySize = 1392
 
@@ -17,7 +17,7 @@ pduSize = 1472
 abbrev pub windowSize : ℕ
 windowSize = 32
 
--- The bytes of a slot buffer: room for a body in each slot.
+-- The bytes of a slot buffer, exactly: room for a body in each slot.
 abbrev pub slotsSize : ℕ
 slotsSize = 44544
 

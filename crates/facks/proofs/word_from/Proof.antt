@@ -19,7 +19,7 @@ abbrev μ-loop : tie.MeasureT-loop
 loop-holds : tie.Need-loop-holds Inv-loop μ-loop
 loop-holds c =
     let long : length (c .args .t1) ≡ windowSize = search needs in
-    let past : length (c .args .t1) ≤ 32 = omega arith in
+    let past : length (c .args .t1) ≤ windowSize = omega arith in
     (c .pre, omega arith, long, sym (ap heldWord (drop-of-length-le (c .args .t1) past)))
 
 loop-again : tie.Need-loop-again Inv-loop μ-loop
