@@ -9,11 +9,10 @@ use Rattle.calls.specs.declared.Notice.the-variants.{Nothing as Untold, Dispatc
 use Rattle.flags.specs.Flags.{idempotent, hasFlag}
 use Rattle.pdu.specs.declared.Header.{Header}
 use Rattle.incoming.specs.declared.Incoming.{Incoming}
-use Rattle.incoming.specs.Slots.{cleared, complete, stored}
-use Rattle.outgoing.specs.Sending.{noMessage, acknowledgedTo}
+use Rattle.incoming.specs.Slots.{complete, stored}
+use Rattle.outgoing.specs.Sending.{acknowledgedTo}
 use Rattle.grounds.specs.Fragment.{isLast, wantsFack}
 use Rattle.grounds.specs.Fack.{acknowledgedBy}
-use Rattle.timers.specs.declared.Timer.the-variants.{Off}
 use Rattle.server_record.specs.declared.Idle.the-variants.{Spent}
 use Rattle.server_record.specs.declared.State.{State}
 use Rattle.server_record.specs.declared.State.the-variants.{Idle as IdleState, Collect, Running}
