@@ -26,7 +26,7 @@ pub enum Event {
 }
 
 // The last call number.
-const LAST_CALL: u32 = 4294967295;
+const LAST_CALL_NUMBER: u32 = 4294967295;
 
 // What the server answers a call with: types 2 to 6.
 fn server_event(kind: u8) -> Event
@@ -209,7 +209,7 @@ pub fn start(c: Client, length: u32) -> Ground
     let may = client_record::may_start(state);
     let row = grounds::refuse_if(!may, Answer::NoRow);
     let queued = client_record::is_queued(state);
-    let up = words::both(!queued, c.number == LAST_CALL);
+    let up = words::both(!queued, c.number == LAST_CALL_NUMBER);
     let numbers = grounds::refuse_if(up, Answer::NumbersUsedUp);
     grounds::first_of(
         long,
