@@ -92,7 +92,7 @@ fn last(number: u16) -> Last
     Last::At(number)
 }
 
-fn last_field(last: Last) -> u16
+fn last_number(last: Last) -> u16
     ensures { λ r. ⌜ r ≡ lastField last ⌝ }
 {
     match last {
@@ -525,7 +525,7 @@ pub fn encode(fields: Fields, out: &mut [u8])
         fields.count,
         fields.extra,
         outgoing,
-        last_field(last),
+        last_number(last),
         call.operation,
     );
     let numbers = numbers(fields.number, call.version, outgoing.length, fields.boot);
