@@ -101,13 +101,13 @@ pub fn is_last(flags1: u8) -> bool
     words::either(last, !part)
 }
 
-// Whether a put fragment is answered by a fack.
+// Whether what is put is answered by a fack: a fragment whose sender did not ask for none.
 pub fn wants_fack(flags1: u8) -> bool
     ensures { λ r. ⌜ r ≡ wantsFack flags1 ⌝ }
 {
     let unwanted = flags::has_no_fack(flags1);
     let part = flags::is_fragment(flags1);
-    words::both(!unwanted, !part)
+    words::both(!unwanted, part)
 }
 
 // 12, of a request or response.

@@ -16,7 +16,7 @@ use Rattle.record_bytes.proofs.PartLaws.{mark-back, mark-readable, mark-small}
 use Rattle.client_record.specs.declared.State.{State as ClientState}
 use Rattle.client_record.specs.declared.TimerKind.the-variants.{Wait, Ack}
 use Rattle.server_record.specs.declared.State.{State as ServerState}
-use Rattle.history.specs.World.{Dispatched, Completed, World}
+use Rattle.history.specs.World.{Dispatched, Completed, SentPdu, World}
 use Rattle.history.specs.Events.{Event, Start, ClientTransmit, ClientArrive, ClientTimer, ServerArrive, ServerTransmit, ServerTimer, Reply, Fault, OfClient, OfServer}
 use Rattle.history.specs.Steps.{answerTo, step, run}
 use Rattle.history.specs.Fairness.{Fair}
@@ -121,11 +121,12 @@ answers-read h (e ∷ es) keeps fits =
     λ i. numberOf (answer-read h e keeps (fits .0) i) ∷ rest i
 
 -- A run of events that fit is a run of calls.
-pub host-ran : (h : HostWorld) (w : World) (story : Story) (client : ClientState) (server : ServerState)
-    (dispatches : List Dispatched) (completions : List Completed) (handed : List ℕ) → FreshHost h → worldOf h ≡ w
-    → All EventFits (storyEvents story) → Ran w story client server dispatches completions handed
-    → HostRan h (callsFor (storyEvents story)) (numbersOf story) dispatches completions handed
-host-ran h w story client server dispatches completions handed fresh is fits ran =
+pub host-ran : (h : HostWorld) (w : World) (story : Story) (clientPdus serverPdus : List SentPdu)
+    (client : ClientState) (server : ServerState) (dispatches : List Dispatched) (completions : List Completed)
+    (handed : List ℕ) → FreshHost h → worldOf h ≡ w → All EventFits (storyEvents story)
+    → Ran w story clientPdus serverPdus client server dispatches completions handed
+    → HostRan h (callsFor (storyEvents story)) (numbersOf story) clientPdus serverPdus dispatches completions handed
+host-ran h w story clientPdus serverPdus client server dispatches completions handed fresh is fits ran =
     let es = storyEvents story in
     let calls = callsFor es in
     let keeps = fresh-keeps h fresh in
@@ -138,6 +139,8 @@ host-ran h w story client server dispatches completions handed fresh is fits ran
       fair = host-fair h calls keeps small (subst (Fair (worldOf h)) (sym (calls-meant es fits))
           (subst (λ (v : World). Fair v es) (sym is) (ran .fair)));
       answers = answers-read h es keeps fits ∙ ap (λ (v : World). answersTo v es) is ∙ ran .answers;
+      client-sends = ap (λ (v : World). v .client .sent) ends ∙ ran .client-sends;
+      server-sends = ap (λ (v : World). v .server .sent) ends ∙ ran .server-sends;
       dispatched = ap (λ (v : World). v .books .dispatches) ends ∙ ran .dispatched;
       completed = ap (λ (v : World). v .books .completions) ends ∙ ran .completed;
       reads =

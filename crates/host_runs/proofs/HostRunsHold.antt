@@ -10,26 +10,27 @@ use Rattle.record_bytes.specs.Fits.{Octets}
 use Rattle.record_bytes.proofs.ByteLaws.{octets-three}
 use Rattle.host_history.specs.HostDemand.{HostDemand}
 use Rattle.host_history.proofs.HostDemanded.{host-demand}
-use Rattle.runs.specs.Runs.{eventsOf, numbersOf, called, lossy, exampleMessage, exampleReply, zeros}
+use Rattle.runs.specs.Runs.{eventsOf, numbersOf, called, lossy, lossyOfClient, lossyOfServer, exampleMessage, exampleReply, zeros}
 use Rattle.runs.proofs.RunsHold.{lossy-ran}
 use Rattle.host_runs.specs.HostRuns.{beginning, callsFor, HostRan}
 use Rattle.host_runs.proofs.PduOctets.{octets-same}
 use Rattle.host_runs.proofs.LossyFits.{lossy-fits}
 use Rattle.host_runs.proofs.AtTheDoor.{host-ran, begins, begins-there}
 
--- A host that begins with fresh records and makes the calls of the first run keeps every premise. It sees one dispatch,
--- of the whole request, is told complete once, and reads the whole reply.
+-- A host that begins with fresh records and makes the calls of the first run keeps every premise. It sends the PDUs of
+-- that run, facks among them, sees one dispatch, of the whole request, is told complete once, and reads the whole reply.
 pub host-lossy : (message reply clientMemory serverMemory clientSlots serverSlots out : List ℕ)
     → length message ≡ 2785 → length reply ≡ 2786 → length clientMemory ≡ 272 → length serverMemory ≡ 272
     → length clientSlots ≡ slotsSize → length serverSlots ≡ slotsSize → length out ≡ pduSize
     → Octets message → Octets reply → Octets out
     → HostRan (beginning clientMemory serverMemory clientSlots serverSlots)
     (callsFor (eventsOf (lossy message reply out))) (numbersOf (lossy message reply out))
+    (lossyOfClient message reply out) (lossyOfServer message reply out)
     (record { ordinal = 0; number = 0; call = called; bytes = message } ∷ [])
     (record { ordinal = 0; bytes = reply } ∷ []) reply
 host-lossy message reply clientMemory serverMemory clientSlots serverSlots out asks replies clientWhole serverWhole
     clientRoom serverRoom room askedBytes repliedBytes outBytes =
-    host-ran (beginning clientMemory serverMemory clientSlots serverSlots) _ (lossy message reply out) _ _ _ _ reply
+    host-ran (beginning clientMemory serverMemory clientSlots serverSlots) _ (lossy message reply out) _ _ _ _ _ _ reply
     (begins clientMemory serverMemory clientSlots serverSlots clientWhole serverWhole)
     (begins-there clientMemory serverMemory clientSlots serverSlots clientWhole serverWhole)
     (lossy-fits message reply out askedBytes repliedBytes outBytes)
@@ -60,6 +61,7 @@ pub host-example :
     HostRan (beginning (zeros 272) (zeros 272) (zeros slotsSize) (zeros slotsSize))
     (callsFor (eventsOf (lossy exampleMessage exampleReply (zeros pduSize))))
     (numbersOf (lossy exampleMessage exampleReply (zeros pduSize)))
+    (lossyOfClient exampleMessage exampleReply (zeros pduSize)) (lossyOfServer exampleMessage exampleReply (zeros pduSize))
     (record { ordinal = 0; number = 0; call = called; bytes = exampleMessage } ∷ [])
     (record { ordinal = 0; bytes = exampleReply } ∷ []) exampleReply
 host-example =

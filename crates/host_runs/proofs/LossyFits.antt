@@ -7,6 +7,7 @@ use lib.Dec.{eqb}
 use Rattle.words.specs.Choice.{choose}
 use Rattle.flags.specs.Flags.{withFlag}
 use Rattle.pdu.specs.Header.{datagram}
+use Rattle.bodies.specs.Fack.{fackBytes, fackSent}
 use Rattle.calls.specs.Sent.{sentHeader}
 use Rattle.outgoing.specs.Message.{fragmentOf, flagsOf}
 use Rattle.record_bytes.specs.Fits.{Octets, FitsCall}
@@ -15,7 +16,7 @@ use Rattle.client_record.specs.declared.TimerKind.the-variants.{Wait}
 use Rattle.history.specs.Events.{Event, Own, ClientTransmit, ClientTimer, ServerTransmit, OfClient, OfServer}
 use Rattle.history.proofs.ListLaws.{All}
 use Rattle.host_history.specs.Arguments.{EventFits}
-use Rattle.runs.specs.Runs.{Story, eventsOf, activity, clientGets, serverGets, called, request, ping, ack, response, working, nocall, asked, askedAgain, answered, answeredAgain, closed, lossy}
+use Rattle.runs.specs.Runs.{Story, eventsOf, activity, clientGets, serverGets, called, request, ping, ack, response, working, nocall, serverFack, clientFack, asked, askedAgain, answered, answeredAgain, closed, lossy}
 use Rattle.host_runs.proofs.PduOctets.{fragment-octets, pdu-octets}
 
 -- Every event of a story fits.
@@ -48,6 +49,13 @@ empty-octets : (kind serial boot : ℕ) → kind < 256
 empty-octets kind serial boot named =
     pdu-octets kind 0 serial activity boot 0 called 0 [] named (omega arith) (omega arith) called-fits tt
 
+fack-octets : (serial boot g mask answered : ℕ)
+    → Octets (datagram (sentHeader 9 0 serial activity boot 0 called g) (fackBytes (fackSent answered mask)))
+unfolding fackBytes
+fack-octets serial boot g mask answered =
+    pdu-octets 9 0 serial activity boot 0 called g (fackBytes (fackSent answered mask)) (omega arith) (omega arith)
+    (omega arith) called-fits (omega arith)
+
 part-octets : (kind boot : ℕ) (message : List ℕ) (f serial : ℕ) → kind < 256 → Octets message
     → Octets (datagram (sentHeader kind (flagsOf 3 f) serial activity boot 0 called f) (fragmentOf message f))
 part-octets kind boot message f serial named octets =
@@ -76,6 +84,13 @@ module _ (message reply out : List ℕ) (asks : Octets message) (answers : Octet
   acked : (serial : ℕ) → EventFits (serverGets (ack serial) Own out)
   acked serial = (empty-octets 7 serial 0 (omega arith), tt, room)
 
+  -- a fack of either side,
+  client-facked : (serial g mask answered : ℕ) → EventFits (serverGets (clientFack serial g mask answered) Own out)
+  client-facked serial g mask answered = (fack-octets serial 0 g mask answered, tt, room)
+
+  server-facked : (g mask answered : ℕ) → EventFits (clientGets (serverFack g mask answered) Own out)
+  server-facked g mask answered = (fack-octets 0 7 g mask answered, tt, room)
+
   -- a response, working or nocall,
   comes : (f serial : ℕ) → EventFits (clientGets (response reply f serial) Own out)
   comes f serial = (part-octets 2 7 reply f serial (omega arith) answers, tt, room)
@@ -89,22 +104,22 @@ module _ (message reply out : List ℕ) (asks : Octets message) (answers : Octet
   -- and so each part of the run.
   asked-fits : StoryFits (asked message reply out)
   asked-fits =
-      ((called-fits, omega arith), (sends, (sends, (sends, (gets 2 3, (gets 0 1, (gets 0 1, tt)))))))
+      ((called-fits, omega arith), (sends, (sends, (sends, (gets 2 3, (gets 0 1, (gets 0 1,
+      (server-facked 0 2 1, (server-facked 65535 4 3, tt)))))))))
 
   sent-again : StoryFits (askedAgain message reply out)
-  sent-again =
-      (waits, (waits, (pinged 4, (none, (sends, (sends, (sends, (gets 0 5, (gets 1 6, (gets 2 7, (worked, tt)))))))))))
+  sent-again = (waits, (waits, (pinged 4, (none, (sends, (sends, (gets 1 5, (gets 2 6, (worked, tt)))))))))
 
   answered-fits : StoryFits (answered message reply out)
   answered-fits =
-      (omega arith, (replies, (replies, (replies, (comes 1 2, (comes 0 1, ((omega arith, room), tt)))))))
+      (omega arith, (replies, (replies, (replies, (comes 1 2, (comes 0 1, (client-facked 6 1 0 1, ((omega arith, room), tt))))))))
 
   answered-again : StoryFits (answeredAgain message reply out)
   answered-again =
-      (pinged 8, (replies, (replies, (replies, ((omega arith, room), (comes 0 4, (comes 2 6, (comes 2 6, tt))))))))
+      (pinged 7, (replies, ((omega arith, room), (client-facked 6 65535 2 2, (comes 0 1, (comes 2 4, (comes 2 4, tt)))))))
 
   closed-fits : StoryFits (closed message reply out)
-  closed-fits = ((omega arith, room), (acked 8, (gets 0 1, (comes 1 5, tt))))
+  closed-fits = ((omega arith, room), (acked 7, (client-facked 7 2 0 4, (gets 0 1, (comes 1 2, tt)))))
 
   -- One behind the other, from the end.
   answers-fit : StoryFits (answered message reply out ++ (answeredAgain message reply out ++ closed message reply out))

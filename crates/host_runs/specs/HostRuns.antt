@@ -6,7 +6,7 @@ use mathlib.Core.Path.{_≡_}
 use Rattle.answers.specs.Number.{numberOf}
 use Rattle.record_bytes.specs.Parts.{markOf}
 use Rattle.client_record.specs.declared.TimerKind.the-variants.{Wait, Ack}
-use Rattle.history.specs.World.{Dispatched, Completed}
+use Rattle.history.specs.World.{Dispatched, Completed, SentPdu}
 use Rattle.history.specs.Events.{ClientEvent, ServerEvent, Event, Start, ClientTransmit as TransmitOfClient, ClientArrive as ArriveOfClient, ClientTimer as TimerOfClient, ServerArrive as ArriveOfServer, ServerTransmit as TransmitOfServer, ServerTimer as TimerOfServer, Reply, Fault, OfClient, OfServer}
 use Rattle.morphelai.specs.ClientDoor.{clientFresh}
 use Rattle.morphelai.specs.ServerDoor.{serverFresh}
@@ -55,13 +55,16 @@ answersRead h [] = []
 answersRead h (call ∷ calls) = numberOf (answerIn (exported h call .result)) ∷ answersRead (hostStep h call) calls
 
 -- What is proved of a run: it begins fresh, its arguments are what C's types allow, it keeps every premise, reads these
--- answers, and ends with these dispatches and calls told complete, where the host reads these bytes of the client.
-pub record HostRan (h : HostWorld) (calls : List HostCall) (numbers : List ℕ) (dispatches : List Dispatched)
-    (completions : List Completed) (handed : List ℕ) : Type 0 where
+-- answers, and ends with these PDUs sent by either side, these dispatches and calls told complete, where the host reads
+-- these bytes of the client.
+pub record HostRan (h : HostWorld) (calls : List HostCall) (numbers : List ℕ) (clientPdus serverPdus : List SentPdu)
+    (dispatches : List Dispatched) (completions : List Completed) (handed : List ℕ) : Type 0 where
   pub fresh : FreshHost h
   pub small : AllFit calls
   pub fair : FairHost h calls
   pub answers : answersRead h calls ≡ numbers
+  pub client-sends : hostRun h calls .client .sent ≡ clientPdus
+  pub server-sends : hostRun h calls .server .sent ≡ serverPdus
   pub dispatched : hostRun h calls .books .dispatches ≡ dispatches
   pub completed : hostRun h calls .books .completions ≡ completions
   pub reads : clientParts (hostRun h calls .client) ≡ handed

@@ -107,7 +107,7 @@ unfolding ServerStates.neverCalled ServerStates.isFresh ServerStates.isRunning S
     ServerRows.replayHeld ServerRows.replayPlan ServerRows.timerPlan
     ServerArrivalRows.callOf ServerArrivalRows.begun ServerArrivalRows.putState ServerArrivalRows.putNotice
     ServerArrivalRows.fackFor ServerArrivalRows.putPlan ServerArrivalRows.requestPlan ServerArrivalRows.beginPlan
-    ServerArrivalRows.workingPlan ServerArrivalRows.nocallPlan ServerArrivalRows.ackPlan
+    ServerArrivalRows.workingPlan ServerArrivalRows.nocallPlan ServerArrivalRows.fackPlan ServerArrivalRows.ackPlan
     ServerArrivalTable.arrivalRow ServerArrivalTable.arrivalPlan
 serverTables = tt
 

@@ -15,13 +15,8 @@ use Rattle.client_record.specs.declared.Client.{Client}
 use Rattle.client_record.specs.declared.State.{State as ClientState}
 use Rattle.server_record.specs.declared.Server.{Server}
 use Rattle.server_record.specs.declared.State.{State as ServerState}
-use Rattle.history.specs.World.{World, Started, Dispatched, Replied, Completed, SentPdu, Side, Books}
+use Rattle.history.specs.World.{World, Started, Dispatched, Replied, Completed, Side, Books}
 use Rattle.runs.specs.Runs.{activity}
-
--- PDUs of start 0.
-abbrev pub ofFirst : List (List ℕ) → List SentPdu
-ofFirst [] = []
-ofFirst (d ∷ ds) = record { ordinal = 0; bytes = d } ∷ ofFirst ds
 
 -- The books, where the server's record stands at that start,
 abbrev pub onBooksAt : ℕ → List Started → List Dispatched → List Replied → List Completed → Books

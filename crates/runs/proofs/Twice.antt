@@ -1,12 +1,10 @@
 -- The second run, event by event.
 use Prim.Native.Nat.{ℕ, _<_, _≤_}
-use mathlib.Core.List.{List, [], _∷_, _++_}
+use mathlib.Core.List.{List, [], _∷_}
 use mathlib.Core.Path.{_≡_, refl, _∙_}
 use native.Mathlib.Omega.{arith}
 use lib.ListN.{length, take}
-use Rattle.words.specs.Number.{number}
 use Rattle.words.specs.Sizes.{bodySize, pduSize, slotsSize}
-use Rattle.bodies.specs.Fack.{fackBytes, fackSent}
 use Rattle.calls.specs.Sent.{sentHeader}
 use Rattle.incoming.specs.declared.Incoming.{Incoming}
 use Rattle.incoming.specs.declared.Last.the-variants.{At}
@@ -26,10 +24,10 @@ use Rattle.server_record.specs.declared.State.the-variants.{Idle, Running, Repl
 use Rattle.server_record.specs.Rules.{sound as serverSound}
 use Rattle.server.specs.HandUp.{handsUp as serverHandsUp}
 use Rattle.history.specs.Fairness.{Typed}
-use Rattle.runs.specs.Runs.{before, activity, called, asking, question, firstReply, secondReply, questionPdu, pingPdu, clientFackPdu, fackPdu, replyPdu, nocallPdu, runOnce, runAgain, twice, nextReply, nextRequest, nextFack, nextResponse, nextClientFack, next, twiceAndNext}
+use Rattle.runs.specs.Runs.{before, activity, called, asking, question, firstReply, secondReply, runOnce, runAgain, twice, nextReply, next, twiceAndNext, twiceAndNextOfClient, twiceAndNextOfServer}
 use Rattle.history.proofs.Holding.{cleared-empty, empty-holding, holding-whole}
 use Rattle.history.specs.Lists.{andThen}
-use Rattle.history.proofs.Network.{pduOf, Uuids}
+use Rattle.history.proofs.Network.{Uuids}
 use Rattle.runs.proofs.Opened.{opened}
 use Rattle.runs.proofs.Stories.{Plays, told, came, over, then, refused, joined, Carried, carried}
 use Rattle.runs.proofs.Fragments.{put}
@@ -38,7 +36,7 @@ use Rattle.runs.proofs.ServerTurns.{server-transmits, server-arrives}
 use Rattle.client_record.specs.declared.Client.{Client}
 use Rattle.server_record.specs.declared.Server.{Server}
 use Rattle.history.specs.World.{SentPdu, Side, Books}
-use Rattle.runs.proofs.Sides.{ofFirst, onBooks, onBooksAt, world, held, holds, nothing, sends, clientIn, clientOf, serverIn, serverOf}
+use Rattle.runs.proofs.Sides.{onBooks, onBooksAt, world, held, holds, nothing, sends, clientIn, clientOf, serverIn, serverOf}
 
 uuids : Uuids activity asking
 uuids = record { activity-16 = refl; object-16 = refl; interface-16 = refl }
@@ -85,12 +83,10 @@ module _ (clientSlots serverSlots out : List ℕ) (clientRoom : length clientSlo
 
   -- The first n PDUs of all that the client has sent, and the server.
   abbrev clientSent : ℕ → List SentPdu
-  clientSent n = take n (ofFirst (questionPdu 1 ∷ pingPdu 2 ∷ questionPdu 3 ∷ clientFackPdu ∷ []) ++ (pduOf 1 nextRequest ∷ pduOf 1 nextClientFack ∷ []))
+  clientSent n = take n twiceAndNextOfClient
 
   abbrev serverSent : ℕ → List SentPdu
-  serverSent n =
-      take n
-      (ofFirst (fackPdu 1 ∷ replyPdu firstReply ∷ nocallPdu ∷ fackPdu 3 ∷ replyPdu secondReply ∷ []) ++ (pduOf 1 nextFack ∷ pduOf 1 nextResponse ∷ []))
+  serverSent n = take n twiceAndNextOfServer
 
   -- The client after each of its events.
   abbrev k0 : Side Client
@@ -103,44 +99,41 @@ module _ (clientSlots serverSlots out : List ℕ) (clientRoom : length clientSlo
   k2 = record { machine = clientIn asking Dispatched (sends 3 1 1 0 1) nothing 0 0 6 (Armed 6) Off; slots = clientSlots; sent = clientSent 1 }
 
   abbrev k3 : Side Client
-  k3 = record { machine = clientIn asking Dispatched (sends 3 1 1 1 1) nothing 0 0 6 (Armed 6) Off; slots = clientSlots; sent = clientSent 1 }
+  k3 = record { machine = clientIn asking Dispatched (sends 3 1 1 0 2) nothing 1 0 7 (Armed 7) Off; slots = clientSlots; sent = clientSent 2 }
 
   abbrev k4 : Side Client
-  k4 = record { machine = clientIn asking Dispatched (sends 3 1 1 1 2) nothing 1 0 7 (Armed 7) Off; slots = clientSlots; sent = clientSent 2 }
+  k4 = record { machine = clientIn asking SendFrags (sends 3 1 0 0 2) nothing 1 1 7 Off Off; slots = clientSlots; sent = clientSent 2 }
 
   abbrev k5 : Side Client
-  k5 = record { machine = clientIn asking SendFrags (sends 3 1 0 1 2) nothing 1 1 7 Off Off; slots = clientSlots; sent = clientSent 2 }
+  k5 = record { machine = clientIn asking Dispatched (sends 3 1 1 0 3) nothing 1 1 8 (Armed 8) Off; slots = clientSlots; sent = clientSent 3 }
 
   abbrev k6 : Side Client
-  k6 = record { machine = clientIn asking Dispatched (sends 3 1 1 1 3) nothing 1 1 8 (Armed 8) Off; slots = clientSlots; sent = clientSent 3 }
-
-  abbrev k7 : Side Client
-  k7 = record { machine = clientIn asking Complete (sends 3 1 1 1 3) (holds (held 2) missing missing (At 0)) 0 1 8 Off Off; slots = u1; sent = clientSent 4 }
+  k6 = record { machine = clientIn asking Complete (sends 3 1 1 0 3) (holds (held 2) missing missing (At 0)) 0 1 8 Off Off; slots = u1; sent = clientSent 3 }
 
   -- The server after each of its events.
   abbrev s0 : Side Server
   s0 = record { machine = before clientSlots serverSlots .server .machine; slots = serverSlots; sent = serverSent 0 }
 
   abbrev s1 : Side Server
-  s1 = record { machine = serverIn asking Running (sends 0 0 0 0 0) (holds (held 3) missing missing (At 0)) 100 Off; slots = v1; sent = serverSent 1 }
+  s1 = record { machine = serverIn asking Running (sends 0 0 0 0 0) (holds (held 3) missing missing (At 0)) 100 Off; slots = v1; sent = serverSent 0 }
 
   abbrev s2 : Side Server
-  s2 = record { machine = serverIn asking Replying (sends 1 1 0 0 0) (holds (held 3) missing missing (At 0)) 100 Off; slots = v1; sent = serverSent 1 }
+  s2 = record { machine = serverIn asking Replying (sends 1 1 0 0 0) (holds (held 3) missing missing (At 0)) 100 Off; slots = v1; sent = serverSent 0 }
 
   abbrev s3 : Side Server
-  s3 = record { machine = serverIn asking (Idle Repeatable) (sends 1 1 1 0 1) (holds (held 3) missing missing (At 0)) 100 Off; slots = v1; sent = serverSent 2 }
+  s3 = record { machine = serverIn asking (Idle Repeatable) (sends 1 1 1 0 1) (holds (held 3) missing missing (At 0)) 100 Off; slots = v1; sent = serverSent 1 }
 
   abbrev s4 : Side Server
-  s4 = record { machine = serverIn asking (Idle Repeatable) (sends 1 1 1 0 1) (holds (held 3) missing missing (At 0)) 100 Off; slots = v1; sent = serverSent 3 }
+  s4 = record { machine = serverIn asking (Idle Repeatable) (sends 1 1 1 0 1) (holds (held 3) missing missing (At 0)) 100 Off; slots = v1; sent = serverSent 2 }
 
   abbrev s5 : Side Server
-  s5 = record { machine = serverIn asking Running (sends 0 0 0 0 0) (holds (held 3) missing missing (At 0)) 100 Off; slots = v2; sent = serverSent 4 }
+  s5 = record { machine = serverIn asking Running (sends 0 0 0 0 0) (holds (held 3) missing missing (At 0)) 100 Off; slots = v2; sent = serverSent 2 }
 
   abbrev s6 : Side Server
-  s6 = record { machine = serverIn asking Replying (sends 2 1 0 0 0) (holds (held 3) missing missing (At 0)) 100 Off; slots = v2; sent = serverSent 4 }
+  s6 = record { machine = serverIn asking Replying (sends 2 1 0 0 0) (holds (held 3) missing missing (At 0)) 100 Off; slots = v2; sent = serverSent 2 }
 
   abbrev s7 : Side Server
-  s7 = record { machine = serverIn asking (Idle Repeatable) (sends 2 1 1 0 1) (holds (held 3) missing missing (At 0)) 100 Off; slots = v2; sent = serverSent 5 }
+  s7 = record { machine = serverIn asking (Idle Repeatable) (sends 2 1 1 0 1) (holds (held 3) missing missing (At 0)) 100 Off; slots = v2; sent = serverSent 3 }
 
   -- What is on the books: nothing, the start, the first dispatch of these bytes, its reply, the second dispatch, its
   -- reply, the completion with these bytes.
@@ -176,52 +169,48 @@ module _ (clientSlots serverSlots out : List ℕ) (clientRoom : length clientSlo
       refl refl
 
   -- and what the client does, the second reply.
-  pub reply-whole : clientHandsUp (k7 .machine) u1 ≡ secondReply
+  pub reply-whole : clientHandsUp (k6 .machine) u1 ≡ secondReply
   unfolding opened fragmentOf
   reply-whole =
-      hands-joined (k7 .machine) u1 refl
-      ∙ holding-whole (k7 .machine .incoming) u1 secondReply
+      hands-joined (k6 .machine) u1 refl
+      ∙ holding-whole (k6 .machine .incoming) u1 secondReply
       (put secondReply 2 0 refl cleared clientSlots 0
       (empty-holding cleared clientSlots secondReply clientRoom cleared-empty)
       refl (record { number = omega arith; new = refl; fits = refl }) (omega arith) refl)
       refl refl
 
   -- The story, stage by stage.
-  plays-once : Plays (world k0 s0 b0) (runOnce out) (world k3 s3 b3)
-  unfolding opened fackBytes number fragmentOf
+  plays-once : Plays (world k0 s0 b0) (runOnce out) (world k2 s3 b3)
+  unfolding opened fragmentOf
   plays-once =
       then {next = world k1 s0 b1} (record { answered = refl; leaves = refl }) (record { typed = typed; whole = refl })
       (then {next = world k2 s0 b1} (client-transmits _ out room question 3 refl uuids) refl
       (then {next = world k2 s1 (b2 question)}
       (told (λ (bytes : List ℕ). world k2 s1 (b2 bytes)) (question-whole serverSlots serverRoom)
       (server-arrives _ out room (came-with 0 0 32 1 question (omega arith) (omega arith)) serverRoom uuids)) (came 0 refl)
-      (then {next = world k3 s1 (b2 question)}
-      (client-arrives _ out room (came-with 7 9 0 0 (fackBytes (fackSent 1 0)) (omega arith) (omega arith)) clientRoom uuids) (came 0 refl)
-      (then {next = world k3 s2 b3} (record { answered = refl; leaves = refl }) refl
-      (then {next = world k3 s3 b3} (server-transmits _ out room firstReply 1 refl uuids) refl
-      over)))))
+      (then {next = world k2 s2 b3} (record { answered = refl; leaves = refl }) refl
+      (then {next = world k2 s3 b3} (server-transmits _ out room firstReply 1 refl uuids) refl
+      over))))
 
-  plays-again : Plays (world k3 s3 b3) (runAgain out) (world k7 s7 (b6 secondReply))
-  unfolding opened fackBytes number fragmentOf
+  plays-again : Plays (world k2 s3 b3) (runAgain out) (world k6 s7 (b6 secondReply))
+  unfolding opened fragmentOf
   plays-again =
-      then {next = world k4 s3 b3} (client-times _ out room Wait 6 uuids) tt
-      (then {next = world k4 s4 b3} (server-arrives _ out room (came-with 0 1 32 2 [] (omega arith) (omega arith)) v1-long uuids) (came 1 refl)
-      (then {next = world k5 s4 b3} (client-arrives _ out room (came-with 7 5 0 1 [] (omega arith) (omega arith)) clientRoom uuids) (came 2 refl)
-      (then {next = world k6 s4 b3} (client-transmits _ out room question 3 refl uuids) refl
-      (then {next = world k6 s5 (b4 question)}
-      (told (λ (bytes : List ℕ). world k6 s5 (b4 bytes)) (question-whole v1 v1-long)
+      then {next = world k3 s3 b3} (client-times _ out room Wait 6 uuids) tt
+      (then {next = world k3 s4 b3} (server-arrives _ out room (came-with 0 1 32 2 [] (omega arith) (omega arith)) v1-long uuids) (came 1 refl)
+      (then {next = world k4 s4 b3} (client-arrives _ out room (came-with 7 5 0 1 [] (omega arith) (omega arith)) clientRoom uuids) (came 1 refl)
+      (then {next = world k5 s4 b3} (client-transmits _ out room question 3 refl uuids) refl
+      (then {next = world k5 s5 (b4 question)}
+      (told (λ (bytes : List ℕ). world k5 s5 (b4 bytes)) (question-whole v1 v1-long)
       (server-arrives _ out room (came-with 0 0 32 3 question (omega arith) (omega arith)) v1-long uuids)) (came 2 refl)
-      (then {next = world k6 s6 b5} (record { answered = refl; leaves = refl }) refl
-      (then {next = world k6 s7 b5} (server-transmits _ out room secondReply 2 refl uuids) refl
-      (then {next = world k7 s7 (b6 secondReply)}
-      (told (λ (bytes : List ℕ). world k7 s7 (b6 bytes)) reply-whole
-      (client-arrives _ out room (came-with 7 2 0 1 secondReply (omega arith) (omega arith)) clientRoom uuids)) (came 4 refl)
-      (refused {next = world k7 s7 (b6 secondReply)} (client-times _ out room Wait 8 uuids) refl
-      (refused {next = world k7 s7 (b6 secondReply)}
-      (server-arrives _ out room (came-with 0 9 32 3 (fackBytes (fackSent 1 0)) (omega arith) (omega arith)) v2-long uuids) refl
-      over)))))))))
+      (then {next = world k5 s6 b5} (record { answered = refl; leaves = refl }) refl
+      (then {next = world k5 s7 b5} (server-transmits _ out room secondReply 2 refl uuids) refl
+      (then {next = world k6 s7 (b6 secondReply)}
+      (told (λ (bytes : List ℕ). world k6 s7 (b6 bytes)) reply-whole
+      (client-arrives _ out room (came-with 7 2 0 1 secondReply (omega arith) (omega arith)) clientRoom uuids)) (came 2 refl)
+      (refused {next = world k6 s7 (b6 secondReply)} (client-times _ out room Wait 8 uuids) refl
+      over))))))))
 
-  pub plays-twice : Plays (before clientSlots serverSlots) (twice out) (world k7 s7 (b6 secondReply))
+  pub plays-twice : Plays (before clientSlots serverSlots) (twice out) (world k6 s7 (b6 secondReply))
   plays-twice = joined (runOnce out) (runAgain out) plays-once plays-again
 
   -- The next call. The slot buffers after its puts,
@@ -235,27 +224,27 @@ module _ (clientSlots serverSlots out : List ℕ) (clientRoom : length clientSlo
   u2 = filled 0 nextReply u1
 
   -- the client after each of its events,
-  abbrev k8 : Side Client
-  k8 = record { machine = clientOf 1 called SendFrags (sends 3 1 0 0 0) nothing 0 0 8 Off Off; slots = u1; sent = clientSent 4 }
+  abbrev k7 : Side Client
+  k7 = record { machine = clientOf 1 called SendFrags (sends 3 1 0 0 0) nothing 0 0 8 Off Off; slots = u1; sent = clientSent 3 }
 
-  abbrev k9 : Side Client
-  k9 = record { machine = clientOf 1 called Dispatched (sends 3 1 1 0 1) nothing 0 0 9 (Armed 9) Off; slots = u1; sent = clientSent 5 }
+  abbrev k8 : Side Client
+  k8 = record { machine = clientOf 1 called Dispatched (sends 3 1 1 0 1) nothing 0 0 9 (Armed 9) Off; slots = u1; sent = clientSent 4 }
 
   abbrev one : ℕ → Incoming
   one n = holds (held n) missing missing (At 0)
 
-  abbrev k10 : Side Client
-  k10 = record { machine = clientOf 1 called AckPending (sends 3 1 1 0 1) (one 3) 0 0 10 Off (Armed 10); slots = u2; sent = clientSent 6 }
+  abbrev k9 : Side Client
+  k9 = record { machine = clientOf 1 called AckPending (sends 3 1 1 0 1) (one 3) 0 0 10 Off (Armed 10); slots = u2; sent = clientSent 4 }
 
   -- the server,
   abbrev s8 : Side Server
-  s8 = record { machine = serverOf 1 called Running (sends 0 0 0 0 0) (one 3) 100 Off; slots = v3; sent = serverSent 6 }
+  s8 = record { machine = serverOf 1 called Running (sends 0 0 0 0 0) (one 3) 100 Off; slots = v3; sent = serverSent 3 }
 
   abbrev s9 : Side Server
-  s9 = record { machine = serverOf 1 called Replying (sends 3 1 0 0 0) (one 3) 100 Off; slots = v3; sent = serverSent 6 }
+  s9 = record { machine = serverOf 1 called Replying (sends 3 1 0 0 0) (one 3) 100 Off; slots = v3; sent = serverSent 3 }
 
   abbrev s10 : Side Server
-  s10 = record { machine = serverOf 1 called (Held Data) (sends 3 1 1 0 1) (one 3) 101 (Armed 101); slots = v3; sent = serverSent 7 }
+  s10 = record { machine = serverOf 1 called (Held Data) (sends 3 1 1 0 1) (one 3) 101 (Armed 101); slots = v3; sent = serverSent 4 }
 
   -- and the books: the second start, the dispatch of these bytes, its reply, the completion with these bytes.
   abbrev b7 : Books
@@ -285,33 +274,33 @@ module _ (clientSlots serverSlots out : List ℕ) (clientRoom : length clientSlo
       refl refl
 
   -- and the client at "last".
-  pub next-reply : clientHandsUp (k10 .machine) u2 ≡ nextReply
+  pub next-reply : clientHandsUp (k9 .machine) u2 ≡ nextReply
   unfolding opened fragmentOf
   next-reply =
-      hands-joined (k10 .machine) u2 refl
+      hands-joined (k9 .machine) u2 refl
       ∙ holding-whole (one 3) u2 nextReply
       (put nextReply 3 0 refl cleared u1 0 (empty-holding cleared u1 nextReply u1-long cleared-empty) refl
       (record { number = omega arith; new = refl; fits = refl }) (omega arith) refl)
       refl refl
 
-  plays-next : Plays (world k7 s7 (b6 secondReply)) (next out) (world k10 s10 (b10 nextReply))
-  unfolding opened fackBytes number fragmentOf
+  plays-next : Plays (world k6 s7 (b6 secondReply)) (next out) (world k9 s10 (b10 nextReply))
+  unfolding opened fragmentOf
   plays-next =
-      then {next = world k8 s7 b7} (record { answered = refl; leaves = refl }) (record { typed = called-typed; whole = refl })
-      (then {next = world k9 s7 b7} (client-transmits _ out room question 3 refl called-uuids) refl
-      (then {next = world k9 s8 (b8 question)}
-      (told (λ (bytes : List ℕ). world k9 s8 (b8 bytes)) next-whole
-      (server-arrives _ out room (next-came 0 0 0 1 question (omega arith) (omega arith)) v2-long called-uuids)) (came 4 refl)
-      (refused {next = world k9 s8 (b8 question)}
+      then {next = world k7 s7 b7} (record { answered = refl; leaves = refl }) (record { typed = called-typed; whole = refl })
+      (then {next = world k8 s7 b7} (client-transmits _ out room question 3 refl called-uuids) refl
+      (then {next = world k8 s8 (b8 question)}
+      (told (λ (bytes : List ℕ). world k8 s8 (b8 bytes)) next-whole
+      (server-arrives _ out room (next-came 0 0 0 1 question (omega arith) (omega arith)) v2-long called-uuids)) (came 3 refl)
+      (refused {next = world k8 s8 (b8 question)}
       (server-arrives _ out room (came-with 0 0 32 3 question (omega arith) (omega arith)) v3-long called-uuids) refl
-      (refused {next = world k9 s8 (b8 question)}
+      (refused {next = world k8 s8 (b8 question)}
       (client-arrives _ out room (came-with 7 2 0 1 firstReply (omega arith) (omega arith)) u1-long called-uuids) refl
-      (then {next = world k9 s9 b9} (record { answered = refl; leaves = refl }) refl
-      (then {next = world k9 s10 b9} (server-transmits _ out room nextReply 3 refl called-uuids) refl
-      (then {next = world k10 s10 (b10 nextReply)}
-      (told (λ (bytes : List ℕ). world k10 s10 (b10 bytes)) next-reply
-      (client-arrives _ out room (next-came 7 2 0 1 nextReply (omega arith) (omega arith)) u1-long called-uuids)) (came 6 refl)
+      (then {next = world k8 s9 b9} (record { answered = refl; leaves = refl }) refl
+      (then {next = world k8 s10 b9} (server-transmits _ out room nextReply 3 refl called-uuids) refl
+      (then {next = world k9 s10 (b10 nextReply)}
+      (told (λ (bytes : List ℕ). world k9 s10 (b10 bytes)) next-reply
+      (client-arrives _ out room (next-came 7 2 0 1 nextReply (omega arith) (omega arith)) u1-long called-uuids)) (came 3 refl)
       over)))))))
 
-  pub plays-twice-and-next : Plays (before clientSlots serverSlots) (twiceAndNext out) (world k10 s10 (b10 nextReply))
+  pub plays-twice-and-next : Plays (before clientSlots serverSlots) (twiceAndNext out) (world k9 s10 (b10 nextReply))
   plays-twice-and-next = joined (twice out) (next out) plays-twice plays-next
