@@ -21,5 +21,4 @@ pub mod ServerArrivals
 pub mod Histories
 pub mod Tickets
 pub mod Undisturbed
-pub mod Facks
 pub mod Theorem

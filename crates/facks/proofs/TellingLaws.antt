@@ -1,0 +1,121 @@
+-- What one side tells the other by a fack.
+use Prim.Native.Nat.{ℕ, _+_, _-_, _^_, _<_, _≤_}
+use mathlib.Core.Bool.{Bool, true, false}
+use mathlib.Core.List.{List}
+use mathlib.Core.Path.{_≡_, refl, sym, ap, subst, _∙_}
+use native.Mathlib.Omega.{arith}
+use native.Mathlib.Nat.{lt-of-lt-of-le}
+use lib.Dec.{eqb}
+use lib.ListN.{length, drop, getD, length-drop}
+use lib.Pow.{pow-mono}
+use lib.Seq.{getD-drop}
+use borrow.Author.Tests.{eqb-true, eqb-false}
+use Rattle.words.specs.Bit.{bit}
+use Rattle.words.specs.Choice.{choose}
+use Rattle.words.specs.Sizes.{bodySize, windowSize}
+use Rattle.answers.specs.declared.Answer.the-variants.{Done}
+use Rattle.pdu.specs.declared.Header.{Header}
+use Rattle.pdu.specs.Header.{headerOf, datagram, bodyOf}
+use Rattle.reader.specs.declared.Reading.{Reading}
+use Rattle.reader.specs.Reading.{reading}
+use Rattle.writer.proofs.Returns.{Sized}
+use Rattle.writer.proofs.RoundTrip.{written-taken, header-kind, header-fragment, body-written}
+use Rattle.bodies.specs.declared.FackReading.{FackReading}
+use Rattle.bodies.specs.Fack.{fackBytes, fackSent, fackReading}
+use Rattle.bodies.proofs.RoundTrip.{read-written-fack}
+use Rattle.incoming.specs.declared.Slot.{Slot}
+use Rattle.incoming.specs.declared.Incoming.{Incoming}
+use Rattle.incoming.specs.Slots.{missing, contiguousFrom, contiguous}
+use Rattle.incoming.proofs.SlotLaws.{count-most, count-held}
+use Rattle.grounds.specs.Fack.{acknowledgedBy}
+use Rattle.facks.specs.Mask.{lastContiguous, heldBit, heldWord, maskOf}
+use Rattle.facks.specs.Telling.{acknowledgedIn, bodyIn, Tells}
+use Rattle.facks.proofs.MaskLaws.{word-below, word-bit}
+
+-- The number that one side sends acknowledges to the other the very contiguous count.
+pub count-acknowledged : (count : ℕ) → count ≤ 65535 → acknowledgedBy (lastContiguous count) ≡ count
+unfolding acknowledgedBy lastContiguous choose
+count-acknowledged count small = by-count (eqb count 0) refl
+  where
+    by-number : (t : Bool) → eqb (count - 1) 65535 ≡ t → (count ≡ 0 → ⊥) → choose t 0 (count - 1 + 1) ≡ count
+    by-number true e some = omega (arith, eqb-true (count - 1) 65535 e, some)
+    by-number false e some = omega (arith, some)
+
+    by-count : (t : Bool) → eqb count 0 ≡ t
+        → choose (eqb (choose t 65535 (count - 1)) 65535) 0 (choose t 65535 (count - 1) + 1) ≡ count
+    by-count true e = sym (eqb-true count 0 e)
+    by-count false e = by-number (eqb (count - 1) 65535) refl (eqb-false count 0 e)
+
+-- It fits its field.
+pub number-small : (count : ℕ) → count ≤ windowSize → lastContiguous count < 65536
+unfolding lastContiguous choose
+number-small count most = by-test (eqb count 0)
+  where
+    by-test : (t : Bool) → choose t 65535 (count - 1) < 65536
+    by-test true = omega arith
+    by-test false = omega arith
+
+-- So does the mask of a message that has its slots.
+pub mask-small : (m : Incoming) → length (m .slots) ≡ windowSize → maskOf m < 4294967296
+unfolding maskOf
+mask-small m long =
+    let size : length (drop (contiguous m) (m .slots)) ≤ 32 = omega (arith, length-drop (contiguous m) (m .slots)) in
+    lt-of-lt-of-le (word-below (drop (contiguous m) (m .slots))) (pow-mono size)
+
+-- Bit j of it is that of the j-th slot behind the contiguous ones.
+pub mask-behind : (m : Incoming) (j : ℕ) → bit j (maskOf m) ≡ heldBit (getD (m .slots) (contiguous m + j) missing .held)
+unfolding maskOf
+mask-behind m j =
+    word-bit (drop (contiguous m) (m .slots)) j
+    ∙ ap (λ (s : Slot). heldBit (s .held)) (getD-drop (contiguous m) (m .slots) j missing)
+
+-- Its body is short.
+pub fack-short : (serial mask : ℕ) → length (fackBytes (fackSent serial mask)) ≤ bodySize
+unfolding fackBytes
+fack-short serial mask = omega arith
+
+-- A fack as it is sent, whatever the other fields of its header are, tells its reader what is held and which serial it answers.
+module _ (h : Header) (m : Incoming) (serial : ℕ) (sized : Sized h) (typed : h .kind ≡ 9) (plain : h .authentication ≡ 0)
+    (named : h .fragment ≡ lastContiguous (contiguous m)) (small : serial < 65536) (long : length (m .slots) ≡ windowSize) where
+  abbrev body : List ℕ
+  body = fackBytes (fackSent serial (maskOf m))
+
+  abbrev pdu : List ℕ
+  pdu = datagram h body
+
+  most : contiguous m ≤ windowSize
+  unfolding contiguous
+  most = omega (arith, count-most (m .slots))
+
+  -- The reader accepts it,
+  taken : reading pdu ≡ record { answer = Done; little = true; header = headerOf true pdu }
+  taken = written-taken h body sized (rw typed (omega arith)) plain (fack-short serial (maskOf m))
+
+  -- takes it as acknowledging the contiguous count,
+  count-told : acknowledgedIn pdu ≡ contiguous m
+  count-told =
+      ap (λ (r : Reading). acknowledgedBy (r .header .fragment)) taken
+      ∙ ap acknowledgedBy (header-fragment h body sized (rw named (number-small (contiguous m) most)) ∙ named)
+      ∙ count-acknowledged (contiguous m) (omega (arith, most))
+
+  -- and reads the mask and the serial.
+  body-told : bodyIn pdu ≡ record { answer = Done; fack = fackSent serial (maskOf m) }
+  body-told =
+      ap (λ (r : Reading). fackReading (r .little) (bodyOf pdu)) taken
+      ∙ ap (fackReading true) (body-written h body sized)
+      ∙ read-written-fack serial (maskOf m) small (mask-small m long)
+
+  pub fack-tells : Tells m serial pdu
+  unfolding contiguous
+  fack-tells = record {
+    accepted = ap (λ (r : Reading). r .answer) taken;
+    kind = ap (λ (r : Reading). r .header .kind) taken ∙ header-kind h body ∙ typed;
+    formed = ap (λ (r : FackReading). r .answer) body-told;
+    counted = count-told;
+    below = λ f under. count-held (m .slots) f missing (rw (← count-told) under);
+    behind =
+        λ j few.
+        ap (λ (r : FackReading). bit j (r .fack .mask)) body-told ∙ mask-behind m j
+        ∙ ap (λ (n : ℕ). heldBit (getD (m .slots) (n + j) missing .held)) (sym count-told);
+    answers = ap (λ (r : FackReading). r .fack .serial) body-told;
+  }

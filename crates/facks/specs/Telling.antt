@@ -1,0 +1,37 @@
+-- What a fack tells its reader.
+use Prim.Native.Nat.{ℕ, _+_, _<_}
+use mathlib.Core.Bool.{true}
+use mathlib.Core.List.{List}
+use mathlib.Core.Path.{_≡_}
+use lib.ListN.{getD}
+use Rattle.words.specs.Bit.{bit}
+use Rattle.answers.specs.declared.Answer.the-variants.{Done}
+use Rattle.pdu.specs.Header.{bodyOf}
+use Rattle.reader.specs.Reading.{reading}
+use Rattle.bodies.specs.declared.FackReading.{FackReading}
+use Rattle.bodies.specs.Fack.{fackReading}
+use Rattle.incoming.specs.declared.Incoming.{Incoming}
+use Rattle.incoming.specs.Slots.{missing, contiguous}
+use Rattle.grounds.specs.Fack.{acknowledgedBy}
+use Rattle.facks.specs.Mask.{heldBit}
+
+-- How many fragments a reader takes as acknowledged by a PDU, and what it reads in the body.
+abbrev pub acknowledgedIn : List ℕ → ℕ
+acknowledgedIn pdu = acknowledgedBy (reading pdu .header .fragment)
+
+abbrev pub bodyIn : List ℕ → FackReading
+bodyIn pdu = fackReading (reading pdu .little) (bodyOf pdu)
+
+-- A PDU tells its reader, as a fack, what is held of a message, and which serial it answers.
+pub record Tells (m : Incoming) (serial : ℕ) (pdu : List ℕ) : Type 0 where
+  -- It is accepted, its type is 9, and its body is well formed.
+  pub accepted : reading pdu .answer ≡ Done
+  pub kind : reading pdu .header .kind ≡ 9
+  pub formed : bodyIn pdu .answer ≡ Done
+  -- It acknowledges as many fragments as are held without a gap from number 0 on,
+  pub counted : acknowledgedIn pdu ≡ contiguous m
+  -- so each of those is held.
+  pub below : (f : ℕ) → f < acknowledgedIn pdu → getD (m .slots) f missing .held ≡ true
+  -- Bit j of its mask is 1 exactly where the j-th fragment behind those is held.
+  pub behind : (j : ℕ) → j < 32 → bit j (bodyIn pdu .fack .mask) ≡ heldBit (getD (m .slots) (acknowledgedIn pdu + j) missing .held)
+  pub answers : bodyIn pdu .fack .serial ≡ serial
