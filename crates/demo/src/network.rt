@@ -1,5 +1,6 @@
-// The network: of the PDUs that a side sends it loses every third and delivers every fifth twice. And
-// the last request comes again three times after its call was dispatched.
+// The network: of the PDUs that a side sends it loses the second of every three, and delivers every
+// fourth twice where it is not lost. And the last request comes again three times after its call was
+// dispatched.
 use crate::console::ClientEvent;
 use calls::Sent;
 use server_record::State as ServerState;
@@ -25,10 +26,10 @@ pub(crate) const QUIET: Wire = Wire {
 fn copies(number: u32) -> u8
     ensures { λ r. ⌜ r ≤ 2 ⌝ }
 {
-    if number % 3 == 0 {
+    if number % 3 == 2 {
         return 0;
     }
-    if number % 5 == 0 {
+    if number % 4 == 0 {
         return 2;
     }
     1

@@ -35,7 +35,7 @@ fn print_nocall_taken(state: ClientState) {
 fn print_client_transmitted(state: ClientState) {
     match state {
         ClientState::SendFrags => print(b"a fragment of the request"),
-        _ => print(b"all sent: wait for the reply"),
+        _ => print(b"all sent: wait for a reply"),
     }
 }
 
@@ -60,7 +60,7 @@ pub(crate) fn print_client(
             ClientEvent::Transmit => print_client_transmitted(state),
             ClientEvent::Arrive => print_client_took(kind, notice, state),
             ClientEvent::Wait => print_waited(state),
-            ClientEvent::Ack => print(b"tell that the reply is there"),
+            ClientEvent::Ack => print(b"say that the reply is there"),
         },
         _ => print_client_refused(event, answer),
     }
@@ -89,8 +89,8 @@ fn print_request_taken(notice: Notice, state: ServerState) {
         Notice::Dispatch => print(b"whole: execute it, once"),
         _ => match state {
             ServerState::Running => print(b"runs: not executed again"),
-            ServerState::Replying => print(b"ran already: only reply again"),
-            ServerState::Held(_) => print(b"ran already: only fault again"),
+            ServerState::Replying => print(b"ran already: reply again"),
+            ServerState::Held(_) => print(b"ran already: fault again"),
             _ => print(b"put in its place"),
         },
     }
@@ -99,8 +99,8 @@ fn print_request_taken(notice: Notice, state: ServerState) {
 fn print_ping_taken(state: ServerState) {
     match state {
         ServerState::Running => print(b"the call runs: say so"),
-        ServerState::Replying => print(b"ran already: only reply again"),
-        ServerState::Held(_) => print(b"ran already: only fault again"),
+        ServerState::Replying => print(b"ran already: reply again"),
+        ServerState::Held(_) => print(b"ran already: fault again"),
         _ => print(b"request not whole: say so"),
     }
 }
@@ -153,7 +153,7 @@ fn print_server_refused(event: ServerEvent, answer: Answer) {
 fn print_timer_refused(answer: Answer) {
     match answer {
         Answer::LateTimer => print(b"late timer: nothing happens"),
-        _ => print(b"not waiting: nothing happens"),
+        _ => print(b"not waiting: nothing to do"),
     }
 }
 

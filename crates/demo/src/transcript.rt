@@ -26,11 +26,13 @@ fn print_number(number: u64, width: usize) {
 pub(crate) fn print_head() {
     print(
         b"A console calls a controller, not idempotent: a request of 3500 bytes in 3 fragments, a reply of 4500 in 4.
-The network loses every third PDU that a side sends and delivers every fifth twice. And the request's last fragment
-comes again: while the call runs, while its reply is held, and when the call is over.
+Of the PDUs that a side sends the network loses the second of every three, and delivers every fourth twice.
+And the request that was sent last comes again: while the call runs, while its reply is held, and when it is over.
 Answer 0: done. Any other is a refusal: nothing changes, nothing is sent, nobody is told.
+A fack is shown with its number, the last fragment that its sender holds without a gap (- for none), and with its
+mask, whose bit 0 is the fragment behind that one. So a sender goes on in the middle of its message.
 
-no. side   event            answer sends               tells    state           armed     why
+no. side   event             answer sends                tells    state           armed     why
 ",
     );
 }
@@ -38,30 +40,44 @@ no. side   event            answer sends               tells    state           
 // The name of a PDU's type, one of these eleven by their numbers.
 fn print_type(kind: u8) {
     let names =
-        b"request    ping       response   fault      working    nocall     reject     ack        cancel     fack       cancel_ack ";
-    print(words::first(words::behind(names, 11 * kind as usize), 11));
+        b"request   ping      response  fault     working   nocall    reject    ack       cancel    fack      cancel_ack";
+    print(words::first(words::behind(names, 10 * kind as usize), 10));
 }
 
-// A PDU's name, with the number of the fragment that a request or a response is.
-fn print_pdu(kind: u8, fragment: u16) {
+// What a fack tells: its number, which is 65535 where fragment 0 is missing, and its mask.
+fn print_held(number: u16, mask: u32) {
+    match number {
+        65535 => print(b"- "),
+        _ => print_number(number as u64, 2),
+    }
+    print_number(mask as u64, 3);
+}
+
+// A PDU's name, with the number of the fragment that a request or a response is, or what a fack tells.
+fn print_pdu(pdu: &[u8]) {
+    let reading = reader::read(pdu);
+    let header = reading.header;
+    let kind = header.kind;
     print_type(kind);
     match kind {
-        0 | 2 => print_number(fragment as u64, 3),
-        _ => print(b"   "),
+        0 | 2 => print_number(header.fragment as u64, 5),
+        9 => {
+            let told = bodies::read_fack(reader::body(pdu), reading.little);
+            print_held(header.fragment, told.fack.mask);
+        }
+        _ => print(b"     "),
     }
 }
 
 // Which PDU arrives.
-fn print_arrival(kind: u8, fragment: u16) {
+fn print_arrival(pdu: &[u8]) {
     print(b"<- ");
-    print_pdu(kind, fragment);
+    print_pdu(pdu);
 }
 
 // Which PDU was sent, and what the network does with it.
 fn print_sent_pdu(pdu: &[u8], copies: u8) {
-    let reading = reader::read(pdu);
-    let header = reading.header;
-    print_pdu(header.kind, header.fragment);
+    print_pdu(pdu);
     match copies {
         0 => print(b"lost  "),
         1 => print(b"      "),
@@ -71,7 +87,7 @@ fn print_sent_pdu(pdu: &[u8], copies: u8) {
 
 fn print_sent(sent: Sent, pdu: &[u8], copies: u8) {
     match sent {
-        Sent::Nothing => print(b"-                   "),
+        Sent::Nothing => print(b"-                    "),
         Sent::Pdu(_) => print_sent_pdu(calls::sent_bytes(sent, pdu), copies),
     }
 }
@@ -149,25 +165,25 @@ fn print_server_state(state: ServerState, resend: Timer) {
 // A timer that runs out, with its ticket.
 fn print_timer(name: &[u8], ticket: u64) {
     print(name);
-    print_number(ticket, 3);
+    print_number(ticket, 4);
 }
 
-// The event: its ticket, where it is a timer; type and fragment number, where a PDU arrives.
-fn print_client_event(event: ClientEvent, ticket: u64, kind: u8, fragment: u16) {
+// The event: its ticket, where it is a timer; the PDU, where one arrives.
+fn print_client_event(event: ClientEvent, ticket: u64, datagram: &[u8]) {
     match event {
-        ClientEvent::Start => print(b"start            "),
-        ClientEvent::Transmit => print(b"transmit         "),
-        ClientEvent::Arrive => print_arrival(kind, fragment),
+        ClientEvent::Start => print(b"start             "),
+        ClientEvent::Transmit => print(b"transmit          "),
+        ClientEvent::Arrive => print_arrival(datagram),
         ClientEvent::Wait => print_timer(b"WAIT ticket   ", ticket),
         ClientEvent::Ack => print_timer(b"ACK ticket    ", ticket),
     }
 }
 
-fn print_server_event(event: ServerEvent, ticket: u64, kind: u8, fragment: u16) {
+fn print_server_event(event: ServerEvent, ticket: u64, datagram: &[u8]) {
     match event {
-        ServerEvent::Arrive => print_arrival(kind, fragment),
-        ServerEvent::Reply => print(b"reply            "),
-        ServerEvent::Transmit => print(b"transmit         "),
+        ServerEvent::Arrive => print_arrival(datagram),
+        ServerEvent::Reply => print(b"reply             "),
+        ServerEvent::Transmit => print(b"transmit          "),
         ServerEvent::Resend => print_timer(b"RESEND ticket ", ticket),
     }
 }
@@ -195,7 +211,7 @@ pub(crate) fn print_client(
     let ack = client.ack;
     print_number(number, 4);
     print(b"client ");
-    print_client_event(event, ticket, kind, header.fragment);
+    print_client_event(event, ticket, datagram);
     print_outcome(answer, sent, notice, copies, pdu);
     print_client_state(state, wait, ack);
     reasons::print_client(event, kind, answer, notice, state);
@@ -222,7 +238,7 @@ pub(crate) fn print_server(
     let resend = server.resend;
     print_number(number, 4);
     print(b"server ");
-    print_server_event(event, ticket, kind, header.fragment);
+    print_server_event(event, ticket, datagram);
     print_outcome(answer, sent, notice, copies, pdu);
     print_server_state(state, resend);
     reasons::print_server(event, kind, answer, notice, state);

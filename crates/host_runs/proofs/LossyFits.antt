@@ -104,8 +104,9 @@ module _ (message reply out : List ℕ) (asks : Octets message) (answers : Octet
   -- and so each part of the run.
   asked-fits : StoryFits (asked message reply out)
   asked-fits =
-      ((called-fits, omega arith), (sends, (sends, (sends, (gets 2 3, (gets 0 1, (gets 0 1,
-      (server-facked 0 2 1, (server-facked 65535 4 3, tt)))))))))
+      let facked : StoryFits ((clientGets (serverFack 0 2 1) Own out, 0) ∷ (clientGets (serverFack 65535 4 3) Own out, 0) ∷ []) =
+      (server-facked 0 2 1, (server-facked 65535 4 3, tt)) in
+      ((called-fits, omega arith), (sends, (sends, (sends, (gets 2 3, (gets 0 1, (gets 0 1, facked)))))))
 
   sent-again : StoryFits (askedAgain message reply out)
   sent-again = (waits, (waits, (pinged 4, (none, (sends, (sends, (gets 1 5, (gets 2 6, (worked, tt)))))))))
