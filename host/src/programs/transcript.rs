@@ -2,7 +2,7 @@
 
 use super::say;
 use crate::header::{FRAGMENT, IDEMPOTENT, LAST_FRAGMENT, NO_FACK};
-use crate::{Header, Outcome};
+use crate::{Header, Outcome, PduType, HEADER_SIZE};
 use std::time::Instant;
 
 const TITLE: &str =
@@ -80,19 +80,43 @@ fn event_columns(activity: &[u8; 16], number: u32, event: &str, name: &str) -> S
 }
 
 fn pdu_columns(event: &str, datagram: &[u8], told: &str) -> String {
-    match Header::read(datagram) {
-        Err(_) => format!("{:<8}  {event:<8}  {} bytes that are no PDU  {told}", "", datagram.len()),
-        Ok(header) => format!(
-            "{}  {event:<8}  {:<9}  {:>4}  {:>8}  {:<14}  {:>6}  {:>5}  {told}",
-            short(&header.activity()),
-            header.pdu_type(),
-            header.number(),
-            header.fragment(),
-            flags(&header),
-            header.serial(),
-            header.body_length(),
-        ),
-    }
+    let Ok(header) = Header::read(datagram) else {
+        return format!("{:<8}  {event:<8}  {} bytes that are no PDU  {told}", "", datagram.len());
+    };
+    let told = match (fack(&header, datagram), told) {
+        (None, told) => told.to_string(),
+        (Some(fack), "") => fack,
+        (Some(fack), told) => format!("{fack}; {told}"),
+    };
+    format!(
+        "{}  {event:<8}  {:<9}  {:>4}  {:>8}  {:<14}  {:>6}  {:>5}  {told}",
+        short(&header.activity()),
+        header.pdu_type(),
+        header.number(),
+        header.fragment(),
+        flags(&header),
+        header.serial(),
+        header.body_length(),
+    )
+}
+
+/// What a fack tells: how far fragments are held without a gap, which are held behind that, and the serial that it
+/// answers. Nothing where the body is not that of a fack with a mask.
+fn fack(header: &Header, datagram: &[u8]) -> Option<String> {
+    let body = datagram.get(HEADER_SIZE..).filter(|_| header.pdu_type() == PduType::Fack)?;
+    let little_endian = header.bytes()[4] != 0;
+    let number = |at: usize, size: usize| {
+        let bytes = body.get(at..at + size)?.iter();
+        let digit = |number: u32, byte: &u8| number << 8 | u32::from(*byte);
+        Some(if little_endian { bytes.rfold(0, digit) } else { bytes.fold(0, digit) })
+    };
+    let (version, serial, masks, mask) = (number(0, 1)?, number(12, 2)?, number(14, 2)?, number(16, 4)?);
+    let held = match header.fragment() {
+        u16::MAX => String::from("lacks 0"),
+        last => format!("holds 0 to {last}"),
+    };
+    let readable = version == 0 && body.len() == 16 + 4 * masks as usize;
+    readable.then(|| format!("{held}, mask {mask:#010x}, answers serial {serial}"))
 }
 
 fn flags(header: &Header) -> String {
@@ -121,6 +145,43 @@ mod tests {
             "000000ab  received  response      5        31  frag last            9      3  x"
         );
         assert_eq!(pdu_columns("received", &datagram[..79], "x"), "          received  79 bytes that are no PDU  x");
+    }
+
+    /// A fack of call 5, in either order, with this number and this body.
+    fn fack_pdu(little_endian: bool, fragment: u16, body: &[u8]) -> Vec<u8> {
+        let mut pdu = [&[4, 9][..], &[0; 78], body].concat();
+        let short = |number: u16| if little_endian { number.to_le_bytes() } else { number.to_be_bytes() };
+        pdu[4] = if little_endian { 16 } else { 0 };
+        pdu[if little_endian { 64 } else { 67 }] = 5;
+        pdu[74..76].copy_from_slice(&short(body.len() as u16));
+        pdu[76..78].copy_from_slice(&short(fragment));
+        pdu
+    }
+
+    #[test]
+    fn a_fack_tells_what_is_held_in_either_order() {
+        let (little, big) = ([3, 1, 1, 0, 5, 0, 0, 0x80], [1, 3, 0, 1, 0x80, 0, 0, 5]);
+        let one = "00000000  sent      fack          5         2                       0     20  \
+                   holds 0 to 2, mask 0x80000005, answers serial 259";
+        let other = "00000000  received  fack          5     65535                       0     20  \
+                     lacks 0, mask 0x80000005, answers serial 259; x";
+        for (little_endian, end) in [(true, little), (false, big)] {
+            let body = [&[0; 12][..], &end].concat();
+            assert_eq!(pdu_columns("sent", &fack_pdu(little_endian, 2, &body), ""), one);
+            assert_eq!(pdu_columns("received", &fack_pdu(little_endian, 65_535, &body), "x"), other);
+        }
+    }
+
+    #[test]
+    fn of_a_strange_fack_nothing_more_is_told() {
+        let strange =
+            [(0, 0, 0), (0, 0, 16), (0, 1, 16), (0, 1, 19), (0, 1, 21), (0, 2, 20), (0, 255, 20), (1, 1, 20)];
+        for (version, masks, length) in strange {
+            let mut body = [0; 24];
+            (body[0], body[14]) = (version, masks);
+            let line = pdu_columns("sent", &fack_pdu(true, 2, &body[..length]), "x");
+            assert!(line.ends_with(&format!("     0  {length:>5}  x")), "{line}");
+        }
     }
 
     #[test]
