@@ -3,9 +3,11 @@
 pub mod all;
 pub mod checked;
 pub mod client;
+pub mod client_stage;
 pub mod compared;
 pub mod demand;
 pub mod layout;
+pub mod middle;
 pub mod played;
 pub mod rows;
 pub mod server;
@@ -14,3 +16,4 @@ pub mod server_stage;
 pub mod side;
 pub mod spoiled;
 pub mod stage;
+pub mod told;
