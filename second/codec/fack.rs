@@ -41,9 +41,11 @@ impl Held {
     }
 }
 
-/// A fack is sent for a request or response put exactly when no fack and fragment are both clear.
+/// A request or response that is put gets a fack exactly when its no fack bit is clear and its
+/// fragment bit is set (request 1). So a message that our own machines send as one fragment gets
+/// none, and every fragment of a longer one does.
 pub fn is_due(flags: u8) -> bool {
-    flags & (flags1::NO_FACK | flags1::FRAGMENT) == 0
+    flags & (flags1::NO_FACK | flags1::FRAGMENT) == flags1::FRAGMENT
 }
 
 /// Malformed is another version than 0, or another length than the word count says.

@@ -24,6 +24,9 @@ pub enum Boundary {
     ImpossibleNumber(u16),
     /// The fragment number of a fack, and how what it acknowledges compares with the count.
     Fack(u16, Ordering),
+    /// The number of a fack that is sent, and the highest bit of its mask.
+    FackNumber(u16),
+    FackMask(u32),
 }
 
 /// The lengths that have a name.
@@ -81,6 +84,10 @@ impl Boundary {
             Boundary::Fack(_, Ordering::Less) => "fack of some".into(),
             Boundary::Fack(_, Ordering::Equal) => "fack of all".into(),
             Boundary::Fack(_, Ordering::Greater) => "fack of more".into(),
+            Boundary::FackNumber(number @ (0 | 30 | 31)) => format!("fack sent: number {number}"),
+            Boundary::FackNumber(_) => "fack sent: another number".into(),
+            Boundary::FackMask(bit @ (1 | 30 | 31)) => format!("fack sent: mask to bit {bit}"),
+            Boundary::FackMask(_) => "fack sent: mask to another bit".into(),
         }
     }
 
@@ -103,6 +110,9 @@ impl Boundary {
         all.push(Boundary::Fack(65_535, Ordering::Less));
         let orderings = [Ordering::Less, Ordering::Equal, Ordering::Greater];
         all.extend(orderings.map(|ordering| Boundary::Fack(0, ordering)));
+        all.extend([0, 30, 31, 1].map(Boundary::FackNumber));
+        // Bit 0 is never set: the fragment behind the contiguous ones is missing.
+        all.extend([1, 30, 31, 2].map(Boundary::FackMask));
         all
     }
 }

@@ -8,8 +8,9 @@ use crate::coverage::step::{Counted, Step};
 use crate::coverage::system::Calls;
 use crate::machines::effect::Notice;
 use crate::machines::event::Event;
-use crate::records::client::{ClientSide, Start, TimerKind};
+use crate::records::client::{ClientSide, Start, State, TimerKind};
 use crate::records::incoming::Fragment;
+use crate::records::outgoing::Outgoing;
 use crate::records::side::Side;
 
 type ClientStep<'a> = Step<'a, ClientSide>;
@@ -67,6 +68,17 @@ impl Counted for ClientSide {
         if let Event::Own(start) = step.event {
             calls.started(number, start.call.idempotent, counts);
         }
+        if (step.before.state, step.after.state) == (State::Dispatched, State::SendFrags)
+            && step.after.outgoing.sent > 0
+        {
+            calls.resumed(number, "resend");
+        }
+        match step.effect.notice {
+            Some(Notice::Cause(cause)) if is_acknowledged_in_part(&step.after.outgoing) => {
+                calls.given_up_in_part(number, cause, counts);
+            }
+            _ => {}
+        }
         calls.noticed(number, step.effect.notice, counts);
     }
 
@@ -79,6 +91,10 @@ impl Counted for ClientSide {
             count_pdu(pdu, step, counts);
         }
     }
+}
+
+fn is_acknowledged_in_part(outgoing: &Outgoing) -> bool {
+    (1..outgoing.fragments).contains(&outgoing.acknowledged)
 }
 
 fn transmit_row(step: &ClientStep) -> String {
@@ -98,7 +114,7 @@ fn response_outcome(step: &ClientStep) -> &'static str {
         (Some(Notice::Last), None, true) => "put, complete, idempotent, fack",
         (Some(Notice::Last), None, false) => "put, complete, idempotent, no fack",
         (_, _, true) => "put, not complete, fack",
-        (_, _, false) => "put, not complete",
+        (_, _, false) => "put, not complete, no fack",
     }
 }
 

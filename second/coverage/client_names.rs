@@ -2,10 +2,9 @@
 //!
 //! Left out is what cannot be reached. At an arrival: 11 and 19 (a client takes no request), 18,
 //! and 15 in DISPATCHED (which has a row for each type that a client takes). 20 at the ACK timer,
-//! which arms nothing. A fack for a response that does not complete: its fragment bit is clear, so
-//! it is the whole reply. Of the pairs of grounds: those of a datagram under 80 bytes with what
-//! its header would say, those of an unknown type with what the type decides, and those of
-//! different types.
+//! which arms nothing. Of the pairs of grounds: those of a datagram under 80 bytes with what its
+//! header would say, those of an unknown type with what the type decides, and those of different
+//! types.
 
 use crate::coverage::counts::pair_names;
 use crate::coverage::side::put_names;
@@ -15,10 +14,11 @@ use crate::records::side::Side;
 
 /// The rows of document 01's table; @ stands for each state that has the row.
 const START_ROWS: [&str; 1] = ["client start in @"];
-const ACTIVE_ROWS: [&str; 9] = [
+const ACTIVE_ROWS: [&str; 10] = [
     "client fack in @: acknowledged is raised",
     "client fack in @: acknowledged stays",
-    "client response in @: put, not complete",
+    "client response in @: put, not complete, fack",
+    "client response in @: put, not complete, no fack",
     "client response in @: put, complete, ACK armed, fack",
     "client response in @: put, complete, ACK armed, no fack",
     "client response in @: put, complete, idempotent, fack",

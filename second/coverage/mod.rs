@@ -8,6 +8,7 @@ pub mod codec;
 pub mod counts;
 #[allow(clippy::module_inception)]
 pub mod coverage;
+pub mod fack;
 pub mod grounds;
 pub mod lent;
 pub mod server;

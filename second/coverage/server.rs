@@ -66,8 +66,14 @@ impl Counted for ServerSide {
     }
 
     fn count_in_system(step: &ServerStep, calls: &mut Calls, counts: &mut Counts) {
+        let number = step.after.number;
         if step.effect.notice == Some(Notice::Dispatch) {
-            calls.dispatched(step.after.number, counts);
+            calls.dispatched(number, counts);
+        }
+        if (step.before.state, step.after.state) == (State::HeldData, State::Replying)
+            && step.after.outgoing.sent > 0
+        {
+            calls.resumed(number, "replay");
         }
     }
 
@@ -115,6 +121,6 @@ fn put_outcome(step: &ServerStep) -> &'static str {
         (true, true) => "put, dispatch, fack",
         (true, false) => "put, dispatch, no fack",
         (false, true) => "put, not complete, fack",
-        (false, false) => "put, not complete",
+        (false, false) => "put, not complete, no fack",
     }
 }

@@ -1,10 +1,9 @@
 //! All that can be reached of the server, by name.
 //!
 //! Left out is what cannot be reached. At an arrival: 18, 19 and 20, since none arms a timer; 13 in
-//! IDLE_FRESH, which has no number; 16 where nothing is put. A fack for a request that does not
-//! complete: its fragment bit is clear, so it is the whole request. Of the pairs of grounds: those
-//! of a datagram under 80 bytes with what its header would say, those of an unknown type with what
-//! the type decides, those of different types, and those of rows that exclude each other.
+//! IDLE_FRESH, which has no number; 16 where nothing is put. Of the pairs of grounds: those of a
+//! datagram under 80 bytes with what its header would say, those of an unknown type with what the
+//! type decides, those of different types, and those of rows that exclude each other.
 
 use crate::coverage::counts::pair_names;
 use crate::coverage::side::put_names;
@@ -13,13 +12,15 @@ use crate::records::server::{ServerSide, State};
 use crate::records::side::Side;
 
 /// The rows of document 01's table; @ stands for each state that has the row.
-const BEGIN_ROWS: [&str; 3] = [
-    "server request in @: newer, put, not complete",
+const BEGIN_ROWS: [&str; 4] = [
+    "server request in @: newer, put, not complete, fack",
+    "server request in @: newer, put, not complete, no fack",
     "server request in @: newer, put, dispatch, fack",
     "server request in @: newer, put, dispatch, no fack",
 ];
-const PUT_ROWS: [&str; 3] = [
-    "server request in @: equal, put, not complete",
+const PUT_ROWS: [&str; 4] = [
+    "server request in @: equal, put, not complete, fack",
+    "server request in @: equal, put, not complete, no fack",
     "server request in @: equal, put, dispatch, fack",
     "server request in @: equal, put, dispatch, no fack",
 ];

@@ -3,6 +3,8 @@
 use crate::codec::pdu::{flags1, pdu_type, Pdu};
 use crate::coverage::boundary::Boundary;
 use crate::coverage::counts::Counts;
+use crate::coverage::fack::sent_fack_names;
+use crate::generate::arriving::LAST_OF_SEVERAL;
 use crate::machines::effect::{Effect, Notice};
 use crate::records::incoming::{Fragment, Incoming};
 use crate::records::outgoing::Outgoing;
@@ -78,6 +80,11 @@ pub fn count_put(put: &Put, pdu: &Pdu, effect: &Effect, counts: &mut Counts) {
     counts.add_name(&Boundary::PutNumber(fragment.number, fragment.is_last).name(&put.words));
     counts.add_name(&Boundary::PutLength(pdu.body.len()).name(&put.words));
     counts.add(format_args!("{prefix}: flags {flags} give {fack}"));
+    if fragment.number == 0 && flags & LAST_OF_SEVERAL == LAST_OF_SEVERAL {
+        counts.add(format_args!(
+            "{prefix}: alone with fragment and last set, {fack}"
+        ));
+    }
     let last_before = put.before.last.map(u16::from);
     if last_before == Some(fragment.number) && !fragment.is_last {
         counts.add(format_args!("{prefix}: at the known last, not marked last"));
@@ -100,19 +107,27 @@ pub fn contradiction_name(incoming: &Incoming, fragment: Fragment) -> Option<&'s
     })
 }
 
-/// The names of what `count_put` counts, but for the boundaries.
+/// The names of what `count_put` counts, but for the boundaries, and those of what is not put and
+/// of the facks.
 pub fn put_names(words: &Words) -> Vec<String> {
     let prefix = format!("{} {}", words.side, words.received);
     let mut names = vec![
         format!("{prefix} put: all but the known last are held"),
         format!("{prefix} put: at the known last, not marked last"),
     ];
-    for flags in [0, 2] {
+    for flags in [4, 6] {
         names.push(format!("{prefix} put: flags {flags} give a fack"));
     }
-    for flags in [4, 6, 8, 10, 12, 14] {
+    for flags in [0, 2, 8, 10, 12, 14] {
         names.push(format!("{prefix} put: flags {flags} give no fack"));
     }
+    for fack in ["a fack", "no fack"] {
+        names.push(format!(
+            "{prefix} put: alone with fragment and last set, {fack}"
+        ));
+    }
+    names.extend([16, 17].map(|answer| format!("{prefix} not put, no fack: {answer}")));
+    names.extend(sent_fack_names(words.side));
     for what in [
         "above the known last",
         "another known last",

@@ -2,10 +2,12 @@
 //! of grounds, rules broken alone, and boundaries.
 
 use crate::bench::memory::Lengths;
+use crate::codec::fack;
 use crate::codec::pdu::{offset, pdu_type, read, Pdu};
 use crate::coverage::boundary::Boundary;
 use crate::coverage::codec::order_name;
 use crate::coverage::counts::Counts;
+use crate::coverage::fack::SentFack;
 use crate::coverage::grounds::arrive_grounds;
 use crate::coverage::lent::count_lent;
 use crate::coverage::side::{notice_name, type_name, Reached};
@@ -113,6 +115,15 @@ fn count_done<S: Counted>(step: &Step<S>, reached: &Reached, counts: &mut Counts
         let mark = S::sent_mark(step.pdu[offset::FLAGS1]);
         counts.add(format_args!("{side} sends {kind}{mark}"));
     }
+    if let Some(fack) = sent_fack(step) {
+        let name = fack.name(&step.after.incoming);
+        reached.count(format_args!("{side} {name}"), counts);
+    }
+}
+
+/// The fack that an event sends, if it sends one.
+fn sent_fack<S: Counted>(step: &Step<S>) -> Option<SentFack> {
+    step.effect.pdu_length.and_then(|_| SentFack::of(step.pdu))
 }
 
 /// How an event is told that is done without a ticket left.
@@ -189,6 +200,7 @@ fn boundaries<S: Counted>(step: &Step<S>) -> Vec<Boundary> {
     if tickets != step.before.tickets && tickets.are_used_up() {
         found.push(Boundary::LastTicket(name));
     }
+    found.extend(sent_fack(step).map_or(Vec::new(), SentFack::boundaries));
     found
 }
 
@@ -215,6 +227,12 @@ fn count_pdu<S: Counted>(pdu: &Pdu, step: &Step<S>, counts: &mut Counts) {
             counts.add_name(&Boundary::Fack(number, above).name(&S::WORDS));
         }
         (_, 12) => counts.add_name(&Boundary::ImpossibleNumber(number).name(&S::WORDS)),
+        (pdu_type::REQUEST | pdu_type::RESPONSE, answer @ (16 | 17))
+            if fack::is_due(pdu.header.flags1) =>
+        {
+            let received = S::WORDS.received;
+            counts.add(format_args!("{side} {received} not put, no fack: {answer}"));
+        }
         _ => {}
     }
 }

@@ -9,6 +9,8 @@ use std::collections::HashMap;
 struct Book {
     idempotent: bool,
     dispatches: u64,
+    /// What was sent once more from the middle, by its name.
+    resumed: Vec<&'static str>,
 }
 
 /// The calls of one run, by their numbers.
@@ -22,6 +24,7 @@ impl Calls {
         let book = Book {
             idempotent,
             dispatches: 0,
+            resumed: Vec::new(),
         };
         let mark = mark_name(idempotent);
         counts.add(format_args!("system calls started: {mark}"));
@@ -39,6 +42,30 @@ impl Calls {
             if book.dispatches > 1 {
                 counts.add_name("system calls completed after more than one dispatch");
             }
+            for what in &book.resumed {
+                counts.add(format_args!(
+                    "system calls completed after a {what} from the middle"
+                ));
+            }
+        }
+    }
+
+    /// A request or a reply is sent once more, from the first unacknowledged fragment on.
+    pub fn resumed(&mut self, number: u32, what: &'static str) {
+        if let Some(book) = self.books.get_mut(&number) {
+            if !book.resumed.contains(&what) {
+                book.resumed.push(what);
+            }
+        }
+    }
+
+    /// The client gives a call up of whose request it knows a part to be acknowledged.
+    pub fn given_up_in_part(&self, number: u32, cause: u8, counts: &mut Counts) {
+        let book = self.books.get(&number);
+        if book.is_some_and(|book| book.dispatches > 0) {
+            counts.add(format_args!(
+                "system calls dispatched, acknowledged in part, given up by cause {cause}"
+            ));
         }
     }
 

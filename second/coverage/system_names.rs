@@ -1,9 +1,11 @@
 //! All that can be reached of a client and a server that are joined, by name.
 
 use crate::coverage::counts::Group;
+use crate::coverage::fack::sent_fack_names;
 use crate::coverage::side_names::{row_names, state_names};
 use crate::records::client::ClientSide;
 use crate::records::server::ServerSide;
+use crate::records::side::Side;
 
 pub fn mark_name(idempotent: bool) -> &'static str {
     match idempotent {
@@ -26,7 +28,7 @@ const ANSWERS: [(&str, &[u8]); 9] = [
     ("server-fault", &[0, 1, 15, 20]),
 ];
 
-const FACTS: [&str; 14] = [
+const FACTS: [&str; 18] = [
     "system runs",
     "system calls started: idempotent",
     "system calls started: not idempotent",
@@ -37,6 +39,10 @@ const FACTS: [&str; 14] = [
     "system calls completed: idempotent",
     "system calls completed: not idempotent",
     "system calls completed after more than one dispatch",
+    "system calls completed after a resend from the middle",
+    "system calls completed after a replay from the middle",
+    "system calls dispatched, acknowledged in part, given up by cause 1",
+    "system calls dispatched, acknowledged in part, given up by cause 2",
     "system client notice fault",
     "system client notice cause:1",
     "system client notice cause:2",
@@ -44,38 +50,39 @@ const FACTS: [&str; 14] = [
 ];
 
 /// Rows that the two sides cannot reach together; a row is named by a part of its name.
-const OUT_OF_REACH: [&str; 10] = [
+const OUT_OF_REACH: [&str; 9] = [
     // A server sends no reject.
     "client reject",
-    // A client is in RECEIVE_FRAGS from the first fragment on. One that is a message of its own
-    // completes at once, and is facked; of several fragments none is.
-    "client response in SEND_FRAGS: put, complete, ACK armed, no fack",
-    "client response in SEND_FRAGS: put, complete, idempotent, no fack",
-    "client response in DISPATCHED: put, complete, ACK armed, no fack",
-    "client response in DISPATCHED: put, complete, idempotent, no fack",
-    "client response in RECEIVE_FRAGS: put, complete, ACK armed, fack",
-    "client response in RECEIVE_FRAGS: put, complete, idempotent, fack",
-    // Only a request that is one fragment is facked: all of it is acknowledged, or nothing.
-    "client nocall in DISPATCHED: again from the first unacknowledged",
+    // A client is in RECEIVE_FRAGS from the first fragment of several on, and each of these is
+    // facked. A reply that is one fragment completes at once, and is not.
+    "client response in SEND_FRAGS: put, complete, ACK armed, fack",
+    "client response in SEND_FRAGS: put, complete, idempotent, fack",
+    "client response in DISPATCHED: put, complete, ACK armed, fack",
+    "client response in DISPATCHED: put, complete, idempotent, fack",
+    "client response in RECEIVE_FRAGS: put, complete, ACK armed, no fack",
+    "client response in RECEIVE_FRAGS: put, complete, idempotent, no fack",
     // A client acknowledges no fault.
     "server fack in HELD_FAULT",
     "server ack in HELD_FAULT",
 ];
 
-/// The same for a server: a request that dispatches at once is facked, one that is put is not.
+/// Neither side forbids a fack, so that each of several fragments gets one. A request that
+/// dispatches at once is one fragment, and gets none.
 fn is_out_of_reach(row: &str) -> bool {
     let dispatches_at_once = row.contains("newer") || row.contains("IDLE_REPEATABLE: equal");
     let is_unlike = match dispatches_at_once {
-        true => row.ends_with("dispatch, no fack"),
-        false => row.ends_with("dispatch, fack"),
+        true => row.ends_with("dispatch, fack"),
+        false => row.ends_with("dispatch, no fack"),
     };
-    is_unlike || OUT_OF_REACH.iter().any(|part| row.starts_with(part))
+    is_unlike
+        || row.ends_with("not complete, no fack")
+        || OUT_OF_REACH.iter().any(|part| row.starts_with(part))
 }
 
 /// All names of a client and a server that are joined.
 pub fn groups() -> Vec<Group> {
     let parts = [
-        ("calls and notices", fact_names()),
+        ("calls, notices and facks", fact_names()),
         ("rows", all_row_names()),
         ("changes of state", all_state_names()),
         ("answers", answer_names()),
@@ -87,6 +94,8 @@ pub fn groups() -> Vec<Group> {
 fn fact_names() -> Vec<String> {
     let mut names = FACTS.map(String::from).to_vec();
     names.extend(["last", "count"].map(|notice| format!("system client notice {notice}")));
+    let facks = [ClientSide::WORDS, ServerSide::WORDS].map(|words| sent_fack_names(words.side));
+    names.extend(facks.concat().iter().map(|fack| format!("system {fack}")));
     names
 }
 

@@ -113,9 +113,8 @@ pub fn contradicting(way: usize, incoming: &Incoming, random: &mut Random) -> Op
     }
 }
 
-/// How many edges `at_an_edge` knows, and the one that completes a message.
+/// How many edges `at_an_edge` knows.
 pub const EDGES: usize = 8;
-pub const COMPLETING_EDGE: usize = 5;
 
 /// What is held, and a fragment of several at an edge of what is put and what contradicts it.
 pub fn at_an_edge(edge: usize, random: &mut Random) -> (Incoming, Place) {
@@ -133,8 +132,8 @@ pub fn at_an_edge(edge: usize, random: &mut Random) -> (Incoming, Place) {
         3 => (known_last, 0..0, middle, ONE_OF_SEVERAL),
         // All below the known last are held then, but not itself.
         4 => (known_last, 0..middle - 1, middle - 1, ONE_OF_SEVERAL),
-        // The last one that is missing.
-        COMPLETING_EDGE => (known_last, 1..middle + 1, 0, ONE_OF_SEVERAL),
+        // The only one that is missing.
+        5 => (known_last, 1..middle + 1, 0, ONE_OF_SEVERAL),
         // The highest number, which is not marked last.
         6 => (None, 0..0, 31, ONE_OF_SEVERAL),
         _ => (None, 0..0, 31, LAST_OF_SEVERAL),

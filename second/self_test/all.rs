@@ -1,7 +1,8 @@
 //! A small check of this program against itself and against rows of the papers.
 
 use super::side::datagram_rows;
-use super::{client, compared, demand, layout, played, rows, server, server_calls};
+use super::{begun_again, client, compared, demand, fack_details, facks, layout};
+use super::{middle, played, rows, server, server_calls, told};
 use crate::bench::message::message;
 use crate::codec::fack::{body, Held};
 use crate::codec::pdu::{read, write, ByteOrder, Header, BODY_LIMIT, HIGHEST_TYPE, PDU_LIMIT};
@@ -28,15 +29,19 @@ pub fn self_test() -> Result<(), &'static str> {
     client::self_test()?;
     server::self_test()?;
     server_calls::self_test()?;
+    facks::self_test()?;
+    fack_details::self_test()?;
+    middle::self_test()?;
+    begun_again::self_test()?;
     rows::self_test()?;
     layout::self_test()?;
     compared::self_test()?;
+    told::self_test()?;
     demand::self_test()?;
     played::self_test()
 }
 
-/// Document 01's bench rows of a fack, and its body. No fack that is sent shows a mask: what is
-/// facked is a whole message.
+/// Document 01's bench rows of a fack, and its body.
 fn fack_rows() -> Result<(), &'static str> {
     let gap = Held(0b11011);
     check(

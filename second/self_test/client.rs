@@ -3,23 +3,12 @@
 use crate::bench::message::message;
 use crate::codec::pdu::{pdu_type, BODY_LIMIT};
 use crate::machines::effect::Notice;
-use crate::machines::event::Event;
 use crate::machines::refusal::Refusal;
-use crate::records::call::Call;
-use crate::records::client::{Client, ClientSide, Start, State, TimerKind};
+use crate::records::client::{ClientSide, State, TimerKind};
 use crate::records::outgoing::fragment_count;
 use crate::self_test::all::check;
-use crate::self_test::side::{
-    arrive_at, done, header_of, only, sends, transmit_of, Outcome, Sender, ACTIVITY, INTERFACE,
-    OBJECT, TICKETS, WHOLE_FACK,
-};
-use crate::self_test::stage::Stage;
-
-/// The client of these checks, in its first call.
-const CLIENT: Sender = Sender {
-    boot: [0; 4],
-    number: 0,
-};
+use crate::self_test::client_stage::{arrive, dispatched, started, timer, transmit, CLIENT};
+use crate::self_test::side::{fack_body, is_silent, only, sends, TICKETS};
 
 pub fn self_test() -> Result<(), &'static str> {
     let counts = [0, 1_392, 1_393, 44_544, 44_545].map(fragment_count);
@@ -30,52 +19,7 @@ pub fn self_test() -> Result<(), &'static str> {
     two_fragment_request()?;
     two_fragment_reply()?;
     one_fragment_reply()?;
-    timers_and_limits()?;
-    nocall_rows()
-}
-
-fn call(idempotent: bool) -> Call {
-    Call {
-        idempotent,
-        object: OBJECT,
-        interface: INTERFACE,
-        version: 0x0102_0304,
-        operation: 0x0506,
-    }
-}
-
-/// A stage with a client that has started a call.
-fn started(idempotent: bool, length: u32) -> Stage {
-    let mut stage = Stage::new();
-    stage.client = Client::fresh(ACTIVITY, TICKETS);
-    let call = call(idempotent);
-    // A start that is refused fails the checks of the state behind it.
-    let _ = stage.event::<ClientSide>(&Event::Own(Start { call, length }));
-    stage
-}
-
-/// The same, with all of its message sent.
-fn dispatched(idempotent: bool, length: u32) -> Stage {
-    let mut stage = started(idempotent, length);
-    for _ in 0..stage.client.outgoing.fragments {
-        // One that is refused fails the checks behind it, like the start.
-        let _ = transmit(&mut stage);
-    }
-    stage
-}
-
-fn transmit(stage: &mut Stage) -> Outcome {
-    transmit_of::<ClientSide>(stage)
-}
-
-fn timer(stage: &mut Stage, kind: TimerKind, ticket: u64) -> Outcome {
-    stage.event::<ClientSide>(&Event::Timer { kind, ticket })
-}
-
-/// A PDU of call 0 arrives.
-fn arrive(stage: &mut Stage, pdu_type: u8, flags1: u8, fragment: u16, body: &[u8]) -> Outcome {
-    let header = header_of(pdu_type, 0, flags1, fragment);
-    arrive_at::<ClientSide>(stage, &header, body)
+    timers_and_limits()
 }
 
 /// A request of two fragments.
@@ -99,11 +43,15 @@ fn two_fragment_request() -> Result<(), &'static str> {
     check(stage.client.own.wait == Some(TICKETS + 1), "WAIT armed")
 }
 
-/// A reply of two fragments, of which the second comes first.
+/// A reply of two fragments, of which the second comes first. Each of them is facked.
 fn two_fragment_reply() -> Result<(), &'static str> {
     let mut stage = dispatched(false, 1_393);
     let second = arrive(&mut stage, pdu_type::RESPONSE, 6, 1, b"end");
-    check(second == only(Notice::Count(0)), "a response of the second")?;
+    let pdu = CLIENT.bytes(pdu_type::FACK, 0, 2, 65_535, &fack_body(258, 2));
+    check(
+        sends(&stage, &second, &pdu, Some(Notice::Count(0))),
+        "a response of the second",
+    )?;
     check(
         stage.hand_up::<ClientSide>(1).is_empty(),
         "no part behind a gap",
@@ -111,7 +59,11 @@ fn two_fragment_reply() -> Result<(), &'static str> {
     let again = arrive(&mut stage, pdu_type::RESPONSE, 6, 1, b"END");
     check(again == Err(Refusal::AlreadyHeld), "the second again")?;
     let first = arrive(&mut stage, pdu_type::RESPONSE, 4, 0, b"beginning");
-    check(first == only(Notice::Last), "a response of the first")?;
+    let pdu = CLIENT.bytes(pdu_type::FACK, 0, 2, 1, &fack_body(258, 0));
+    check(
+        sends(&stage, &first, &pdu, Some(Notice::Last)),
+        "a response of the first",
+    )?;
     check(
         stage.hand_up::<ClientSide>(0) == b"beginning" && stage.hand_up::<ClientSide>(1) == b"end",
         "parts handed up",
@@ -130,22 +82,18 @@ fn two_fragment_reply() -> Result<(), &'static str> {
     check(stage.client.state == State::Complete, "the call complete")
 }
 
-/// A reply of one fragment is facked in the same step, unless it forbids that.
+/// A reply of one fragment completes the call in one step, without a fack.
 fn one_fragment_reply() -> Result<(), &'static str> {
     let mut stage = dispatched(true, 0);
     let reply = arrive(&mut stage, pdu_type::RESPONSE, 0, 0, b"whole");
-    let pdu = CLIENT.bytes(pdu_type::FACK, 32, 1, 0, &WHOLE_FACK);
     check(
-        sends(&stage, &reply, &pdu, Some(Notice::Last)),
-        "the fack of a whole reply",
+        reply == only(Notice::Last) && is_silent(&stage),
+        "a whole reply",
     )?;
     check(
         (stage.client.state, stage.client.tickets.counter) == (State::Complete, TICKETS + 1),
         "an idempotent call complete",
-    )?;
-    let mut stage = dispatched(true, 0);
-    let reply = arrive(&mut stage, pdu_type::RESPONSE, 8, 0, b"whole");
-    check(reply == only(Notice::Last), "a reply that forbids a fack")
+    )
 }
 
 fn timers_and_limits() -> Result<(), &'static str> {
@@ -173,29 +121,4 @@ fn timers_and_limits() -> Result<(), &'static str> {
     )?;
     let fault = arrive(&mut stage, pdu_type::FAULT, 0, 7, &[0, 0, 1, 2, 3]);
     check(fault == only(Notice::Fault(258)), "a fault's status")
-}
-
-fn nocall_rows() -> Result<(), &'static str> {
-    let mut stage = dispatched(false, 2_785);
-    let body = [0; 16];
-    let fack = arrive(&mut stage, pdu_type::FACK, 0, 1, &body);
-    check(fack == done(), "a fack of two")?;
-    let nocall = arrive(&mut stage, pdu_type::NOCALL, 0, 0, &[]);
-    let outgoing = &stage.client.outgoing;
-    check(
-        nocall.is_ok() && (outgoing.sent, outgoing.acknowledged) == (2, 2),
-        "again from the first unacknowledged",
-    )?;
-    let more = arrive(&mut stage, pdu_type::FACK, 0, 3, &body);
-    check(
-        more == Err(Refusal::Contradiction),
-        "a fack of four of three",
-    )?;
-    let all = arrive(&mut stage, pdu_type::FACK, 0, 2, &body);
-    check(all.is_ok() && transmit(&mut stage).is_ok(), "a fack of all")?;
-    let nocall = arrive(&mut stage, pdu_type::NOCALL, 0, 0, &[]);
-    check(
-        nocall.is_ok() && stage.client.outgoing.sent == 0,
-        "again from 0, where all are acknowledged",
-    )
 }

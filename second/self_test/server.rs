@@ -9,7 +9,7 @@ use crate::self_test::all::check;
 use crate::self_test::server_stage::{
     ack, arrive_header, fack, fresh, ping, reply, request, running, transmit, NUMBER, SERVER,
 };
-use crate::self_test::side::{done, header_of, only, sends, TICKETS, WHOLE_FACK};
+use crate::self_test::side::{done, fack_body, header_of, is_silent, only, sends, TICKETS};
 use crate::self_test::stage::Stage;
 
 const WHOLE: u8 = 0;
@@ -47,14 +47,13 @@ fn fresh_server() -> Result<(), &'static str> {
     )
 }
 
-/// A request of one fragment is dispatched and facked in the same step, unless it forbids that.
+/// A request of one fragment is dispatched at once, without a fack.
 fn whole_request() -> Result<(), &'static str> {
     let mut stage = fresh();
     let begun = request(&mut stage, NUMBER, WHOLE, 0, b"all");
-    let pdu = SERVER.bytes(pdu_type::FACK, 0, 0, 0, &WHOLE_FACK);
     check(
-        sends(&stage, &begun, &pdu, Some(Notice::Dispatch)),
-        "the fack of a whole request",
+        begun == only(Notice::Dispatch) && is_silent(&stage),
+        "a whole request",
     )?;
     check(
         stage.server.state == State::Running && stage.hand_up::<ServerSide>(0) == b"all",
@@ -67,20 +66,16 @@ fn whole_request() -> Result<(), &'static str> {
         "the request again while it runs",
     )?;
     let asked = ping(&mut stage, NUMBER);
-    check(sends(&stage, &asked, &pdu, None), "a ping while it runs")?;
-    let silent = request(&mut fresh(), NUMBER, flags1::NO_FACK, 0, b"all");
-    check(
-        silent == only(Notice::Dispatch),
-        "a request that forbids a fack",
-    )
+    check(sends(&stage, &asked, &pdu, None), "a ping while it runs")
 }
 
-/// A request of two fragments, of which the second comes first.
+/// A request of two fragments, of which the second comes first. Each of them is facked.
 fn two_fragment_request() -> Result<(), &'static str> {
     let mut stage = fresh();
     let second = request(&mut stage, NUMBER, LAST, 1, b"end");
+    let pdu = SERVER.bytes(pdu_type::FACK, 0, 0, 65_535, &fack_body(258, 2));
     check(
-        second == done() && stage.server.state == State::Collect,
+        sends(&stage, &second, &pdu, None) && stage.server.state == State::Collect,
         "the second fragment of a request",
     )?;
     check(
@@ -97,8 +92,9 @@ fn two_fragment_request() -> Result<(), &'static str> {
     let pdu = SERVER.bytes(pdu_type::NOCALL, 0, 0, 0, &[]);
     check(sends(&stage, &asked, &pdu, None), "a ping in COLLECT")?;
     let first = request(&mut stage, NUMBER, FIRST, 0, b"beginning");
+    let pdu = SERVER.bytes(pdu_type::FACK, 0, 0, 1, &fack_body(258, 0));
     check(
-        first == only(Notice::Dispatch),
+        sends(&stage, &first, &pdu, Some(Notice::Dispatch)),
         "the first fragment of a request",
     )?;
     check(

@@ -14,7 +14,6 @@ use crate::self_test::side::{done, header_of, only, sends, TICKETS};
 
 const WHOLE: u8 = 0;
 const FIRST: u8 = flags1::FRAGMENT;
-const LAST: u8 = flags1::FRAGMENT | flags1::LAST_FRAGMENT;
 
 pub fn self_test() -> Result<(), &'static str> {
     resend_to_the_limit()?;
@@ -93,7 +92,7 @@ fn idempotent_call() -> Result<(), &'static str> {
     other.operation += 1;
     let other = arrive_header(&mut stage, &other, b"run");
     check(other == Err(Refusal::Contradiction), "another operation")?;
-    let again = request(&mut stage, NUMBER, LAST | flags1::IDEMPOTENT, 0, b"again");
+    let again = request(&mut stage, NUMBER, flags1::IDEMPOTENT, 0, b"again");
     check(
         again == only(Notice::Dispatch) && stage.hand_up::<ServerSide>(0) == b"again",
         "the call once more",
@@ -111,7 +110,7 @@ fn idempotent_call() -> Result<(), &'static str> {
         ack(&mut stage, NUMBER) == Err(Refusal::NoRow),
         "an ack of an idempotent call",
     )?;
-    let held = request(&mut stage, NUMBER, LAST | flags1::IDEMPOTENT, 0, b"again");
+    let held = request(&mut stage, NUMBER, flags1::IDEMPOTENT, 0, b"again");
     check(
         held == done() && stage.server.state == State::Replying,
         "the reply once more",
@@ -130,7 +129,7 @@ fn newer_calls() -> Result<(), &'static str> {
     let echoed = &stage.pdu[8..24] == b"some other uuids" && stage.pdu[64] == 8;
     check(answer.is_ok() && echoed, "a nocall echoes the ping")?;
     let mut stage = replied(false, 1_393);
-    let begun = request(&mut stage, u32::MAX, FIRST, 0, b"next");
+    let begun = request(&mut stage, u32::MAX, FIRST | flags1::NO_FACK, 0, b"next");
     let server = &stage.server;
     check(
         begun == done() && (server.state, server.number) == (State::Collect, u32::MAX),

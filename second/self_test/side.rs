@@ -1,5 +1,6 @@
 //! What the checks of both sides use: PDUs that arrive or are sent.
 
+use crate::bench::memory::PDU_FILL;
 use crate::bench::message::message;
 use crate::codec::pdu::{ByteOrder, Header, Uuid};
 use crate::generate::datagram::datagram;
@@ -15,10 +16,14 @@ pub const OBJECT: Uuid = *b"this object uuid";
 pub const INTERFACE: Uuid = *b"interface's uuid";
 pub const TICKETS: u64 = 5;
 
-/// The body of a fack that answers serial 258 where the only fragment is held.
-pub const WHOLE_FACK: [u8; 20] = [
-    0, 0, 43, 0, 0xc0, 5, 0, 0, 0xc0, 5, 0, 0, 2, 1, 1, 0, 0, 0, 0, 0,
-];
+/// The body of a fack with the serial that it answers and its mask.
+pub fn fack_body(answered: u16, mask: u32) -> Vec<u8> {
+    let mut body = vec![0, 0, 43, 0, 0xc0, 5, 0, 0, 0xc0, 5, 0, 0];
+    body.extend(answered.to_le_bytes());
+    body.extend([1, 0]);
+    body.extend(mask.to_le_bytes());
+    body
+}
 
 /// What an event gives.
 pub type Outcome = Result<Effect, Refusal>;
@@ -97,6 +102,11 @@ pub fn sends(stage: &Stage, outcome: &Outcome, pdu: &[u8], notice: Option<Notice
         notice,
     };
     *outcome == Ok(effect) && stage.pdu.starts_with(pdu)
+}
+
+/// Whether the last event has left the PDU buffer as it was.
+pub fn is_silent(stage: &Stage) -> bool {
+    stage.pdu.iter().all(|byte| *byte == PDU_FILL)
 }
 
 /// A datagram of so many bytes that can be read: a big-endian request of zeros.

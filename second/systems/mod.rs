@@ -7,3 +7,4 @@ pub mod network;
 pub mod run;
 pub mod step;
 pub mod stories;
+pub mod stories_of_facks;

@@ -6,16 +6,18 @@ use crate::records::server::{Resend, ServerSide};
 use crate::systems::demand_side::Broken;
 use crate::systems::run::{set_fresh, Author};
 use crate::systems::step::{Joined, System};
+use crate::systems::stories_of_facks as facks;
 
 /// A step of a story. A datagram is named by its place among those sent to a side.
 #[derive(Clone, Copy)]
 pub enum Telling {
-    /// A call that is idempotent or not, with a message of one byte.
-    Start(bool),
+    /// A call that is idempotent or not, with a message of so many bytes.
+    Start(bool, u32),
     ClientTransmit,
     ToServer(usize),
     ToClient(usize),
     Wait,
+    Ack,
     Reply(u32),
     Fault,
     ServerTransmit,
@@ -28,9 +30,10 @@ use Telling::{ClientTransmit, Fault, Reply, ServerTransmit, Start, ToClient, ToS
 type Story = ([u64; 2], &'static [Telling]);
 
 /// A call runs twice. Its second reply has two fragments; the second of these comes first, and the
-/// first reply behind it.
+/// first reply behind it. Call and first reply are one fragment each, so that nothing but replies
+/// is sent to the client.
 const TWO_REPLIES: [Telling; 11] = [
-    Start(true),
+    Start(true, 1),
     ClientTransmit,
     ToServer(0),
     Reply(1),
@@ -39,13 +42,13 @@ const TWO_REPLIES: [Telling; 11] = [
     Reply(2_000),
     ServerTransmit,
     ServerTransmit,
-    ToClient(4),
-    ToClient(1),
+    ToClient(2),
+    ToClient(0),
 ];
 
 /// The same with a fault first, which comes behind the first fragment of the reply.
 const FAULT_BEHIND_A_REPLY: [Telling; 10] = [
-    Start(true),
+    Start(true, 1),
     ClientTransmit,
     ToServer(0),
     Fault,
@@ -53,36 +56,14 @@ const FAULT_BEHIND_A_REPLY: [Telling; 10] = [
     Reply(2_000),
     ServerTransmit,
     ServerTransmit,
-    ToClient(3),
     ToClient(1),
+    ToClient(0),
 ];
 
-/// The fack of a reply of one fragment comes when a reply of two is out, which is then wanted
-/// again by a request, a ping and the timer.
-const FACK_OF_ANOTHER_REPLY: [Telling; 18] = [
-    Start(true),
-    ClientTransmit,
-    ToServer(0),
-    Wait,
-    Reply(1),
-    ServerTransmit,
-    ToClient(1),
-    ToServer(0),
-    Reply(2_000),
-    ServerTransmit,
-    ServerTransmit,
-    ToServer(2),
-    ToServer(0),
-    ServerTransmit,
-    ToServer(1),
-    ServerTransmit,
-    Telling::Resend,
-    ServerTransmit,
-];
-
-/// The server never hears the request, only pings, until the client gives up.
-const NO_CALL: [Telling; 26] = [
-    Start(false),
+/// The server never hears the request, only pings. The last nocall comes twice, and the client gives
+/// up. (A sixth WAIT would end the call too, since a nocall leaves the count of these.)
+const NO_CALL: [Telling; 24] = [
+    Start(false, 1),
     ClientTransmit,
     Wait,
     ToServer(1),
@@ -104,15 +85,13 @@ const NO_CALL: [Telling; 26] = [
     ToServer(9),
     ToClient(4),
     ClientTransmit,
-    Wait,
-    ToServer(11),
-    ToClient(5),
-    Start(false),
+    ToClient(4),
+    Start(false, 1),
 ];
 
 /// No ticket is left for an answer, or none to send it again.
 const NO_TICKET: [Telling; 6] = [
-    Start(false),
+    Start(false, 1),
     ClientTransmit,
     ToServer(0),
     Fault,
@@ -120,20 +99,23 @@ const NO_TICKET: [Telling; 6] = [
     ServerTransmit,
 ];
 const LAST_TICKET: [Telling; 5] = [
-    Start(false),
+    Start(false, 1),
     ClientTransmit,
     ToServer(0),
     Fault,
     Telling::Resend,
 ];
 
-const STORIES: [Story; 6] = [
+const STORIES: [Story; 9] = [
     ([0, 0], &TWO_REPLIES),
     ([0, 0], &FAULT_BEHIND_A_REPLY),
-    ([0, 0], &FACK_OF_ANOTHER_REPLY),
     ([0, 0], &NO_CALL),
     ([0, u64::MAX], &NO_TICKET),
     ([0, u64::MAX - 1], &LAST_TICKET),
+    ([0, 0], &facks::RESEND_FROM_THE_MIDDLE),
+    ([0, 0], &facks::RESEND_OF_ALL),
+    ([0, 0], &facks::REPLAY_FROM_THE_MIDDLE),
+    ([0, 0], &facks::BEGUN_AGAIN),
 ];
 
 /// Tells all stories, each to two fresh sides.
@@ -151,17 +133,18 @@ pub fn tell(author: &mut Author) -> Result<(), Broken> {
 /// Takes a step of a story.
 pub fn step(telling: Telling, system: &mut System, author: &mut Author) -> Result<(), Broken> {
     match telling {
-        Start(idempotent) => {
+        Start(idempotent, length) => {
             let call = Call {
                 idempotent,
                 ..Call::none()
             };
-            system.start(call, 1, author)
+            system.start(call, length, author)
         }
         ClientTransmit => system.transmit::<ClientSide>(None, author),
         ToServer(place) => deliver::<ServerSide>(place, system, author),
         ToClient(place) => deliver::<ClientSide>(place, system, author),
         Wait => system.timer::<ClientSide>(TimerKind::Wait, author),
+        Telling::Ack => system.timer::<ClientSide>(TimerKind::Ack, author),
         Reply(length) => system.reply(length, author),
         Fault => system.fault(author),
         ServerTransmit => system.transmit::<ServerSide>(None, author),
@@ -169,7 +152,8 @@ pub fn step(telling: Telling, system: &mut System, author: &mut Author) -> Resul
     }
 }
 
-/// One of the datagrams that were sent to a side, if so many were.
+/// One of the datagrams that were sent to a side. A story that names one which was not sent is
+/// wrong, unless the events came to their end within it.
 fn deliver<S: Joined>(
     place: usize,
     system: &mut System,
@@ -177,6 +161,7 @@ fn deliver<S: Joined>(
 ) -> Result<(), Broken> {
     match S::halves(system).0.line.sent(place) {
         Some(datagram) => system.arrive_of::<S>(&datagram, author),
-        None => Ok(()),
+        None if author.has_finished() => Ok(()),
+        None => Err("a story delivers what was not sent".into()),
     }
 }

@@ -1,11 +1,13 @@
 //! Scenes of a client that go round the cases of one point: a rule, a row, a refusal.
 
 use crate::codec::pdu::{flags1, pdu_type, ByteOrder, BODY_LIMIT};
-use crate::generate::arriving::{Arriving, IMPOSSIBLE_WAYS, WHOLE};
+use crate::generate::arriving::{
+    Arriving, IMPOSSIBLE_WAYS, LAST_OF_SEVERAL, ONE_OF_SEVERAL, WHOLE,
+};
 use crate::generate::client::author::Author;
 use crate::generate::client::events::state_timer;
 use crate::generate::client::pdus::MALFORMED_WAYS;
-use crate::generate::fragment::{at_an_edge, COMPLETING_EDGE, EDGES};
+use crate::generate::fragment::{at_an_edge, EDGES};
 use crate::generate::made::Made;
 use crate::generate::random::Random;
 use crate::generate::scenes;
@@ -34,15 +36,20 @@ fn record_with_tickets(state: State, random: &mut Random) -> Client {
     client
 }
 
-/// A reply that is not one of several fragments, with its four sets of flags and of any length.
-pub fn whole_reply(turn: usize, author: &mut Author) {
+/// The first fragment of a reply, with its eight sets of flags and of any length.
+pub fn first_fragment(turn: usize, author: &mut Author) {
     let mut choices = Choices::of(turn);
     let state = choices.pick(&ACTIVE_STATES);
     let mut client = record_with_tickets(state, &mut author.random);
     client.call.idempotent = choices.bool();
     client.incoming = Incoming::empty();
     author.set_record(client);
-    let fragment_bits = choices.pick(&[WHOLE, flags1::LAST_FRAGMENT]);
+    let fragment_bits = choices.pick(&[
+        WHOLE,
+        LAST_OF_SEVERAL,
+        ONE_OF_SEVERAL,
+        flags1::LAST_FRAGMENT,
+    ]);
     let no_fack = choices.pick(&[0, flags1::NO_FACK]);
     let length = [0, 1, 100, BODY_LIMIT - 1, BODY_LIMIT][turn % 5];
     author.arrive(|client, random| {
@@ -58,11 +65,7 @@ pub fn whole_reply(turn: usize, author: &mut Author) {
 pub fn fragment_case(turn: usize, author: &mut Author) {
     let mut choices = Choices::of(turn);
     let mut client = record_with_tickets(choices.pick(&ACTIVE_STATES), &mut author.random);
-    let edge = match choices.below(EDGES - 1) {
-        edge if edge < COMPLETING_EDGE => edge,
-        edge => edge + 1,
-    };
-    let (incoming, (number, bits)) = at_an_edge(edge, &mut author.random);
+    let (incoming, (number, bits)) = at_an_edge(choices.below(EDGES), &mut author.random);
     client.incoming = incoming;
     author.set_record(client);
     author.arrive(|client, random| Arriving::response_of(number, bits, client, random));

@@ -8,8 +8,8 @@ use crate::generate::arriving::Arriving;
 use crate::generate::client::author::Author;
 use crate::generate::client::calls::whole_call;
 use crate::generate::client::cases::{
-    arrival_row, broken_record, fragment_case, impossible_number, malformed_body, no_ticket_left,
-    whole_reply,
+    arrival_row, broken_record, first_fragment, fragment_case, impossible_number, malformed_body,
+    no_ticket_left,
 };
 use crate::generate::client::defects::{
     damaged_arrival, defects_at_arrival, defects_at_start, defects_at_timer, refused_arrival,
@@ -33,7 +33,7 @@ const ROUND: [(Scene<ClientSide>, usize); 17] = [
     (malformed_body, 2),
     (arrival_row, 2),
     (fragment_case, 1),
-    (whole_reply, 1),
+    (first_fragment, 1),
     (no_ticket_left, 1),
     (defects_at_start, 2),
     (defects_at_transmit, 4),
