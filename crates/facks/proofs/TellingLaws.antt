@@ -1,5 +1,5 @@
 -- What one side tells the other by a fack.
-use Prim.Native.Nat.{ℕ, _+_, _-_, _^_, _<_, _≤_}
+use Prim.Native.Nat.{ℕ, _+_, _-_, _<_, _≤_}
 use mathlib.Core.Bool.{Bool, true, false}
 use mathlib.Core.List.{List}
 use mathlib.Core.Path.{_≡_, refl, sym, ap, subst, _∙_}
@@ -12,7 +12,7 @@ use lib.Seq.{getD-drop}
 use borrow.Author.Tests.{eqb-true, eqb-false}
 use Rattle.words.specs.Bit.{bit}
 use Rattle.words.specs.Choice.{choose}
-use Rattle.words.specs.Sizes.{bodySize, windowSize}
+use Rattle.words.specs.Sizes.{bodySize, pduSize, windowSize}
 use Rattle.answers.specs.declared.Answer.the-variants.{Done}
 use Rattle.pdu.specs.declared.Header.{Header}
 use Rattle.pdu.specs.Header.{headerOf, datagram, bodyOf}
@@ -23,12 +23,14 @@ use Rattle.writer.proofs.RoundTrip.{written-taken, header-kind, header-fragment
 use Rattle.bodies.specs.declared.FackReading.{FackReading}
 use Rattle.bodies.specs.Fack.{fackBytes, fackSent, fackReading}
 use Rattle.bodies.proofs.RoundTrip.{read-written-fack}
+use Rattle.calls.specs.Sent.{Posting, sentBytes}
+use Rattle.calls.proofs.PostLaws.{whole, whole-bytes}
 use Rattle.incoming.specs.declared.Slot.{Slot}
 use Rattle.incoming.specs.declared.Incoming.{Incoming}
-use Rattle.incoming.specs.Slots.{missing, contiguousFrom, contiguous}
+use Rattle.incoming.specs.Slots.{missing, contiguous}
 use Rattle.incoming.proofs.SlotLaws.{count-most, count-held}
 use Rattle.grounds.specs.Fack.{acknowledgedBy}
-use Rattle.facks.specs.Mask.{lastContiguous, heldBit, heldWord, maskOf}
+use Rattle.facks.specs.Mask.{lastContiguous, heldBit, maskOf}
 use Rattle.facks.specs.Telling.{acknowledgedIn, bodyIn, Tells}
 use Rattle.facks.proofs.MaskLaws.{word-below, word-bit}
 
@@ -74,9 +76,11 @@ pub fack-short : (serial mask : ℕ) → length (fackBytes (fackSent serial mask
 unfolding fackBytes
 fack-short serial mask = omega arith
 
--- A fack as it is sent, whatever the other fields of its header are, tells its reader what is held and which serial it answers.
-module _ (h : Header) (m : Incoming) (serial : ℕ) (sized : Sized h) (typed : h .kind ≡ 9) (plain : h .authentication ≡ 0)
-    (named : h .fragment ≡ lastContiguous (contiguous m)) (small : serial < 65536) (long : length (m .slots) ≡ windowSize) where
+-- A fack as it is sent, whatever the other fields of its header are, tells its reader what is held and which serial it
+-- answers.
+module _ (h : Header) (m : Incoming) (serial : ℕ) (sized : Sized h) (typed : h .kind ≡ 9)
+    (plain : h .authentication ≡ 0) (named : h .fragment ≡ lastContiguous (contiguous m)) (small : serial < 65536)
+    (long : length (m .slots) ≡ windowSize) where
   abbrev body : List ℕ
   body = fackBytes (fackSent serial (maskOf m))
 
@@ -119,3 +123,12 @@ module _ (h : Header) (m : Incoming) (serial : ℕ) (sized : Sized h) (typed : h
         ∙ ap (λ (n : ℕ). heldBit (getD (m .slots) (n + j) missing .held)) (sym count-told);
     answers = ap (λ (r : FackReading). r .fack .serial) body-told;
   }
+
+  -- So does one that was sent into a buffer of 1,472 bytes, read off that buffer.
+  pub sent-tells : (p : Posting) (out : List ℕ) → length out ≡ pduSize → p ≡ whole h body out
+      → Tells m serial (sentBytes (p .sent) (p .out))
+  sent-tells p out room e =
+      subst (Tells m serial)
+      (sym (ap (λ (q : Posting). sentBytes (q .sent) (q .out)) e
+      ∙ whole-bytes h body out room sized (fack-short serial (maskOf m))))
+      fack-tells

@@ -33,5 +33,6 @@ pub record Tells (m : Incoming) (serial : ℕ) (pdu : List ℕ) : Type 0 where
   -- so each of those is held.
   pub below : (f : ℕ) → f < acknowledgedIn pdu → getD (m .slots) f missing .held ≡ true
   -- Bit j of its mask is 1 exactly where the j-th fragment behind those is held.
-  pub behind : (j : ℕ) → j < 32 → bit j (bodyIn pdu .fack .mask) ≡ heldBit (getD (m .slots) (acknowledgedIn pdu + j) missing .held)
+  pub behind : (j : ℕ) → j < 32
+      → bit j (bodyIn pdu .fack .mask) ≡ heldBit (getD (m .slots) (acknowledgedIn pdu + j) missing .held)
   pub answers : bodyIn pdu .fack .serial ≡ serial

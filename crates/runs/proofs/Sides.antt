@@ -1,7 +1,7 @@
 -- A world by its sides, and the records of the runs, in short.
 use Prim.Native.Nat.{ℕ}
 use mathlib.Core.Bool.{true}
-use mathlib.Core.List.{List, [], _∷_}
+use mathlib.Core.List.{List, _∷_}
 use lib.ListN.{replicate}
 use Rattle.calls.specs.declared.Call.{Call}
 use Rattle.incoming.specs.declared.Slot.{Slot}

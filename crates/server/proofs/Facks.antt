@@ -3,9 +3,8 @@ use Prim.Native.Nat.{ℕ, _<_, _≤_}
 use mathlib.Core.Bool.{Bool, true, false, false≢true}
 use mathlib.Core.List.{List, []}
 use mathlib.Core.Logic.{_⊎_, inl, inr}
-use mathlib.Core.Path.{_≡_, refl, sym, ap, subst, _∙_}
+use mathlib.Core.Path.{_≡_, refl, sym, ap, _∙_}
 use native.Mathlib.Omega.{arith}
-use lib.Dec.{eqb}
 use lib.ListN.{length}
 use borrow.Author.Tests.{eqb-false}
 use Rattle.words.specs.Bit.{bit}
@@ -13,7 +12,6 @@ use Rattle.words.specs.Choice.{choose}
 use Rattle.words.specs.Sizes.{bodySize, pduSize}
 use Rattle.answers.specs.declared.Answer.the-variants.{Done}
 use Rattle.answers.specs.declared.Ground.{Ground}
-use Rattle.bodies.specs.Fack.{fackBytes, fackSent as fackFields}
 use Rattle.bodies.specs.Status.{statusBytes}
 use Rattle.calls.specs.declared.Sent.{Sent}
 use Rattle.calls.specs.declared.Sent.the-variants.{Nothing as Unsent}
@@ -21,9 +19,9 @@ use Rattle.calls.specs.Sent.{sentHeader, Posting, sentBytes}
 use Rattle.calls.proofs.PostLaws.{whole, whole-bytes}
 use Rattle.incoming.specs.Slots.{contiguous}
 use Rattle.incoming.proofs.RuleLaws.{kept-by}
-use Rattle.facks.specs.Mask.{lastContiguous, maskOf}
+use Rattle.facks.specs.Mask.{lastContiguous}
 use Rattle.facks.specs.Telling.{Tells}
-use Rattle.facks.proofs.TellingLaws.{fack-short, fack-tells}
+use Rattle.facks.proofs.TellingLaws.{sent-tells}
 use Rattle.pdu.specs.declared.Header.{Header}
 use Rattle.pdu.specs.Header.{bodyOf, datagram as datagramOf}
 use Rattle.reader.specs.declared.Reading.{Reading}
@@ -35,7 +33,6 @@ use Rattle.grounds.specs.Fragment.{wantsFack, bodyLength}
 use Rattle.grounds.proofs.GroundLaws.{lent-passes, fack-asked, fack-unasked}
 use Rattle.server_record.specs.declared.State.{State}
 use Rattle.server_record.specs.declared.State.the-variants.{Idle, Collect, Running, Replying, Held}
-use Rattle.server_record.specs.declared.Reply.{Reply}
 use Rattle.server_record.specs.declared.Reply.the-variants.{Data, Fault as HeldFault}
 use Rattle.server_record.specs.declared.Server.{Server}
 use Rattle.server_record.proofs.RuleLaws.{rules-told}
@@ -49,7 +46,7 @@ use Rattle.server_steps.specs.Plan.{accepted, refused}
 use Rattle.server_steps.specs.Rows.{replayHeld, replayPlan}
 use Rattle.server_arrivals.specs.Rows.{fackFor, putPlan, requestPlan, beginPlan, workingPlan, nocallPlan, fackPlan, ackPlan}
 use Rattle.server_arrivals.specs.Table.{arrivalRow, arrivalPlan}
-use Rattle.server.specs.Sending.{echoed, echoHeader, replyHeader, fackSent, sentOut}
+use Rattle.server.specs.Sending.{echoHeader, replyHeader, emptySent, sentOut}
 use Rattle.server.specs.Machine.{outcomeOf, sending, planOf, acted, arriving}
 use Rattle.server.proofs.Judging.{arrival-passes}
 use Rattle.server.proofs.Accepting.{arrive-accepted}
@@ -93,64 +90,65 @@ module _ (s : Server) (datagram slots out : List ℕ) (done : arriving s datagra
   abbrev pdu : List ℕ
   pdu = sentBytes sent (arriving s datagram slots out .out)
 
+  abbrev plan : Plan
+  plan = planOf s (lentGround (length slots) (length out)) (reading datagram) (bodyOf datagram)
+
   abbrev row : Row → Plan
   row r = arrivalRow r s h (bodyLength (bodyOf datagram))
 
-  plan-is : planOf s (lentGround (length slots) (length out)) (reading datagram) (bodyOf datagram) ≡ row (rowFor s h)
+  row-is : plan ≡ row (rowFor s h)
   unfolding planOf arrivalPlan
-  plan-is = ap (λ (g : Ground). arrivalPlan g s h (bodyLength (bodyOf datagram))) (arrive-accepted s datagram slots out done)
+  row-is =
+      ap (λ (g : Ground). arrivalPlan g s h (bodyLength (bodyOf datagram))) (arrive-accepted s datagram slots out done)
 
   -- The PDU buffer has its length.
   room : length out ≡ pduSize
   room =
-      lent-passes (length slots) (length out)
-      (arrival-passes s (lentGround (length slots) (length out)) (reading datagram) (bodyOf datagram) (arrive-accepted s datagram slots out done) .0 .buffers) .1
+      let pass = arrive-accepted s datagram slots out done in
+      let entered = arrival-passes s (lentGround (length slots) (length out)) (reading datagram) (bodyOf datagram) pass in
+      lent-passes (length slots) (length out) (entered .0 .buffers) .1
 
   -- What goes out is what the row sends, of the record after it.
   posts : (send : Send) → row (rowFor s h) .send ≡ send
       → record { sent = sent; out = arriving s datagram slots out .out } ≡ sentOut send after h [] out
   unfolding arriving acted sending outcomeOf
-  posts send e =
-      let plan = planOf s (lentGround (length slots) (length out)) (reading datagram) (bodyOf datagram) in
-      ap (λ (x : Send). sentOut x (plan .server) h [] out) (ap (λ (p : Plan). p .send) plan-is ∙ e)
+  posts send e = ap (λ (x : Send). sentOut x (plan .server) h [] out) (ap (λ (p : Plan). p .send) row-is ∙ e)
 
-  -- A request that was put is answered by what its flags ask for.
-  put-sends : (r : Row) → puts r ≡ true → row r .send ≡ fackFor (wantsFack (h .flags1)) (h .serial)
+  -- A request that is put is answered by what its flags ask for.
+  put-sends : (r : Row) → puts r ≡ true → (wanted : Bool) → wantsFack (h .flags1) ≡ wanted
+      → row r .send ≡ fackFor wanted (h .serial)
   unfolding arrivalRow beginPlan requestPlan putPlan
-  put-sends Old e = absurd (false≢true e)
-  put-sends Missing e = absurd (false≢true e)
-  put-sends Repeat e = absurd (false≢true e)
-  put-sends Begin e = refl
-  put-sends Put e = refl
-  put-sends Working e = absurd (false≢true e)
-  put-sends Nocall e = absurd (false≢true e)
-  put-sends Replay e = absurd (false≢true e)
-  put-sends Acknowledge e = absurd (false≢true e)
-  put-sends Finish e = absurd (false≢true e)
+  put-sends Old e wanted k = absurd (false≢true e)
+  put-sends Missing e wanted k = absurd (false≢true e)
+  put-sends Repeat e wanted k = absurd (false≢true e)
+  put-sends Begin e wanted k = ap (λ (t : Bool). fackFor t (h .serial)) k
+  put-sends Put e wanted k = ap (λ (t : Bool). fackFor t (h .serial)) k
+  put-sends Working e wanted k = absurd (false≢true e)
+  put-sends Nocall e wanted k = absurd (false≢true e)
+  put-sends Replay e wanted k = absurd (false≢true e)
+  put-sends Acknowledge e wanted k = absurd (false≢true e)
+  put-sends Finish e wanted k = absurd (false≢true e)
 
-  -- A request that is put, with no fack, bit 3, clear and fragment, bit 2, set: a fack goes out, which tells its reader
-  -- what is held after the put, and answers the request's serial.
-  pub request-facked : puts (rowFor s h) ≡ true → bit 3 (h .flags1) ≡ 0 → bit 2 (h .flags1) ≡ 1 → Sized (echoHeader 9 0 after h)
-      → h .serial < 65536 → Tells (after .incoming) (h .serial) pdu
+  -- A request that is put, with no fack, bit 3, clear and fragment, bit 2, set: a fack goes out, which tells its
+  -- reader what is held after the put, and answers the request's serial.
+  pub request-facked : puts (rowFor s h) ≡ true → bit 3 (h .flags1) ≡ 0 → bit 2 (h .flags1) ≡ 1
+      → Sized (echoHeader 9 0 after h) → h .serial < 65536 → Tells (after .incoming) (h .serial) pdu
   unfolding choose echoHeader sentHeader fackFor sentOut
-  request-facked put clear set sized small =
-      let send : row (rowFor s h) .send ≡ Fack (h .serial) =
-      put-sends (rowFor s h) put ∙ ap (λ (t : Bool). fackFor t (h .serial)) (fack-asked (h .flags1) clear set) in
+  request-facked put clear set z small =
       let number = lastContiguous (contiguous (after .incoming)) in
-      let sizes : Sized (echoHeader 9 number after h) = record { object = sized .object; interface = sized .interface; activity = sized .activity } in
-      let body = fackBytes (fackFields (h .serial) (maskOf (after .incoming))) in
-      let posted = posts (Fack (h .serial)) send ∙ fack-whole after out room (h .serial) h in
-      let bytes = ap (λ (p : Posting). sentBytes (p .sent) (p .out)) posted ∙ whole-bytes (echoHeader 9 number after h) body out room sizes (fack-short (h .serial) (maskOf (after .incoming))) in
-      subst (Tells (after .incoming) (h .serial)) (sym bytes)
-      (fack-tells (echoHeader 9 number after h) (after .incoming) (h .serial) sizes refl refl refl small
-      (kept-by (after .incoming) (rules-told after (arrive-keeps s datagram slots out done) .incoming) .slotted))
+      let sized : Sized (echoHeader 9 number after h) =
+      record { object = z .object; interface = z .interface; activity = z .activity } in
+      let rules = rules-told after (arrive-keeps s datagram slots out done) in
+      let send = put-sends (rowFor s h) put true (fack-asked (h .flags1) clear set) in
+      sent-tells (echoHeader 9 number after h) (after .incoming) (h .serial) sized refl refl refl small
+      (kept-by (after .incoming) (rules .incoming) .slotted) _ out room
+      (posts (Fack (h .serial)) send ∙ fack-whole after out room (h .serial) h)
 
   -- With no fack set, or fragment clear, nothing goes out.
   pub request-unfacked : puts (rowFor s h) ≡ true → (bit 3 (h .flags1) ≡ 1) ⊎ (bit 2 (h .flags1) ≡ 0) → sent ≡ Unsent
   unfolding choose fackFor sentOut
   request-unfacked put off =
-      let send : row (rowFor s h) .send ≡ Nothing =
-      put-sends (rowFor s h) put ∙ ap (λ (t : Bool). fackFor t (h .serial)) (fack-unasked (h .flags1) off) in
+      let send = put-sends (rowFor s h) put false (fack-unasked (h .flags1) off) in
       ap (λ (p : Posting). p .sent) (posts Nothing send)
 
   -- What is not put gets no fack.
@@ -177,31 +175,41 @@ module _ (s : Server) (datagram slots out : List ℕ) (done : arriving s datagra
   others-send Finish e = refl
 
   -- A PDU of another type is read as one of another type.
-  not-read : (k : Header) (body : List ℕ) → Sized k → k .kind ≤ 10 → k .authentication ≡ 0 → length body ≤ bodySize → (k .kind ≡ 9 → ⊥)
-      → (p : Posting) → p ≡ whole k body out → reading (sentBytes (p .sent) (p .out)) .header .kind ≡ 9 → ⊥
+  not-read : (k : Header) (body : List ℕ) → Sized k → k .kind ≤ 10 → k .authentication ≡ 0 → length body ≤ bodySize
+      → (k .kind ≡ 9 → ⊥) → (p : Posting) → p ≡ whole k body out → reading (sentBytes (p .sent) (p .out)) .header .kind ≡ 9
+      → ⊥
   not-read k body sized known plain short other p e read =
-      let bytes = ap (λ (q : Posting). sentBytes (q .sent) (q .out)) e ∙ whole-bytes k body out room sized short in
+      let bytes =
+      ap (λ (q : Posting). sentBytes (q .sent) (q .out)) e ∙ whole-bytes k body out room sized short in
       let kind : reading (datagramOf k body) .header .kind ≡ k .kind =
       ap (λ (r : Reading). r .header .kind) (written-taken k body sized known plain short) ∙ header-kind k body in
       other (sym kind ∙ ap (λ (b : List ℕ). reading b .header .kind) (sym bytes) ∙ read)
 
+  -- Working and nocall have the header of every echo.
+  echo-unread : (kind : ℕ) → kind ≤ 10 → (kind ≡ 9 → ⊥) → Sized (echoHeader 9 0 after h)
+      → (p : Posting) → p ≡ emptySent kind after h out → reading (sentBytes (p .sent) (p .out)) .header .kind ≡ 9 → ⊥
+  unfolding echoHeader sentHeader
+  echo-unread kind known other z p e =
+      let sized : Sized (echoHeader kind 0 after h) =
+      record { object = z .object; interface = z .interface; activity = z .activity } in
+      not-read (echoHeader kind 0 after h) [] sized known refl (omega arith) other p
+      (e ∙ empty-whole after out room kind h known)
+
   unfacked : (send : Send) → otherwise send ≡ true → Sized (echoHeader 9 0 after h) → Sized (replyHeader 3 0 0 after)
       → record { sent = sent; out = arriving s datagram slots out .out } ≡ sentOut send after h [] out
       → (sent ≡ Unsent) ⊎ (reading pdu .header .kind ≡ 9 → ⊥)
-  unfolding sentOut echoHeader replyHeader sentHeader
-  unfacked Nothing e sized replied p = inl (ap (λ (q : Posting). q .sent) p)
-  unfacked (Response f) e sized replied p = absurd (false≢true e)
-  unfacked (Fault status) e sized replied p =
-      inr (not-read (replyHeader 3 0 0 after) (statusBytes status) replied (omega arith) refl (omega arith) (eqb-false 3 9 refl) _ (p ∙ fault-whole after out room status))
-  unfacked SendWorking e sized replied p =
-      inr (not-read (echoHeader 4 0 after h) [] (record { object = sized .object; interface = sized .interface; activity = sized .activity }) (omega arith) refl (omega arith) (eqb-false 4 9 refl) _
-      (p ∙ empty-whole after out room 4 h (omega arith)))
-  unfacked SendNocall e sized replied p =
-      inr (not-read (echoHeader 5 0 after h) [] (record { object = sized .object; interface = sized .interface; activity = sized .activity }) (omega arith) refl (omega arith) (eqb-false 5 9 refl) _
-      (p ∙ empty-whole after out room 5 h (omega arith)))
-  unfacked (Fack serial) e sized replied p = absurd (false≢true e)
+  unfolding sentOut replyHeader sentHeader
+  unfacked Nothing e z y p = inl (ap (λ (q : Posting). q .sent) p)
+  unfacked (Response f) e z y p = absurd (false≢true e)
+  unfacked (Fault status) e z y p =
+      inr (not-read (replyHeader 3 0 0 after) (statusBytes status) y (omega arith) refl (omega arith) (eqb-false 3 9 refl) _
+      (p ∙ fault-whole after out room status))
+  unfacked SendWorking e z y p = inr (echo-unread 4 (omega arith) (eqb-false 4 9 refl) z _ p)
+  unfacked SendNocall e z y p = inr (echo-unread 5 (omega arith) (eqb-false 5 9 refl) z _ p)
+  unfacked (Fack serial) e z y p = absurd (false≢true e)
 
   pub others-unfacked : puts (rowFor s h) ≡ false → Sized (echoHeader 9 0 after h) → Sized (replyHeader 3 0 0 after)
       → (sent ≡ Unsent) ⊎ (reading pdu .header .kind ≡ 9 → ⊥)
-  others-unfacked other sized replied =
-      unfacked (row (rowFor s h) .send) (others-send (rowFor s h) other) sized replied (posts (row (rowFor s h) .send) refl)
+  others-unfacked other z y =
+      let send = row (rowFor s h) .send in
+      unfacked send (others-send (rowFor s h) other) z y (posts send refl)
