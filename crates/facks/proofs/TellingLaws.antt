@@ -15,11 +15,11 @@ use Rattle.words.specs.Choice.{choose}
 use Rattle.words.specs.Sizes.{bodySize, pduSize, windowSize}
 use Rattle.answers.specs.declared.Answer.the-variants.{Done}
 use Rattle.pdu.specs.declared.Header.{Header}
-use Rattle.pdu.specs.Header.{headerOf, datagram, bodyOf}
+use Rattle.pdu.specs.Header.{datagram, bodyOf}
 use Rattle.reader.specs.declared.Reading.{Reading}
 use Rattle.reader.specs.Reading.{reading}
 use Rattle.writer.proofs.Returns.{Sized}
-use Rattle.writer.proofs.RoundTrip.{written-taken, header-kind, header-fragment, body-written}
+use Rattle.writer.proofs.RoundTrip.{Fits, read-written, kind-written, body-written}
 use Rattle.bodies.specs.declared.FackReading.{FackReading}
 use Rattle.bodies.specs.Fack.{fackBytes, fackSent, fackReading}
 use Rattle.bodies.proofs.RoundTrip.{read-written-fack}
@@ -31,7 +31,7 @@ use Rattle.incoming.specs.Slots.{missing, contiguous}
 use Rattle.incoming.proofs.SlotLaws.{count-most, count-held}
 use Rattle.grounds.specs.Fack.{acknowledgedBy}
 use Rattle.facks.specs.Mask.{lastContiguous, heldBit, maskOf}
-use Rattle.facks.specs.Telling.{acknowledgedIn, bodyIn, Tells}
+use Rattle.facks.specs.Telling.{acknowledgedIn, bodyIn, Tells, Other}
 use Rattle.facks.proofs.MaskLaws.{word-below, word-bit}
 
 -- The number that one side sends acknowledges to the other the very contiguous count.
@@ -48,7 +48,12 @@ count-acknowledged count small = by-count (eqb count 0) refl
     by-count true e = sym (eqb-true count 0 e)
     by-count false e = by-number (eqb (count - 1) 65535) refl (eqb-false count 0 e)
 
--- It fits its field.
+-- The contiguous count of a message that has its slots is at most their number,
+pub count-small : (m : Incoming) → length (m .slots) ≡ windowSize → contiguous m ≤ windowSize
+unfolding contiguous
+count-small m long = omega (arith, count-most (m .slots))
+
+-- so the number fits its field.
 pub number-small : (count : ℕ) → count ≤ windowSize → lastContiguous count < 65536
 unfolding lastContiguous choose
 number-small count most = by-test (eqb count 0)
@@ -76,45 +81,42 @@ pub fack-short : (serial mask : ℕ) → length (fackBytes (fackSent serial mask
 unfolding fackBytes
 fack-short serial mask = omega arith
 
--- A fack as it is sent, whatever the other fields of its header are, tells its reader what is held and which serial it
--- answers.
-module _ (h : Header) (m : Incoming) (serial : ℕ) (sized : Sized h) (typed : h .kind ≡ 9)
-    (plain : h .authentication ≡ 0) (named : h .fragment ≡ lastContiguous (contiguous m)) (small : serial < 65536)
+-- A fack as it is sent tells its reader what is held, of which call and with which serials.
+module _ (h : Header) (m : Incoming) (answered : ℕ) (fits : Fits h) (typed : h .kind ≡ 9)
+    (plain : h .authentication ≡ 0) (named : h .fragment ≡ lastContiguous (contiguous m)) (small : answered < 65536)
     (long : length (m .slots) ≡ windowSize) where
   abbrev body : List ℕ
-  body = fackBytes (fackSent serial (maskOf m))
+  body = fackBytes (fackSent answered (maskOf m))
 
   abbrev pdu : List ℕ
   pdu = datagram h body
 
-  most : contiguous m ≤ windowSize
-  unfolding contiguous
-  most = omega (arith, count-most (m .slots))
-
-  -- The reader accepts it,
-  taken : reading pdu ≡ record { answer = Done; little = true; header = headerOf true pdu }
-  taken = written-taken h body sized (rw typed (omega arith)) plain (fack-short serial (maskOf m))
+  -- The reader accepts it, with its header,
+  taken : reading pdu ≡ record { answer = Done; little = true; header = h }
+  taken = read-written h body fits (rw typed (omega arith)) plain (fack-short answered (maskOf m))
 
   -- takes it as acknowledging the contiguous count,
   count-told : acknowledgedIn pdu ≡ contiguous m
   count-told =
       ap (λ (r : Reading). acknowledgedBy (r .header .fragment)) taken
-      ∙ ap acknowledgedBy (header-fragment h body sized (rw named (number-small (contiguous m) most)) ∙ named)
-      ∙ count-acknowledged (contiguous m) (omega (arith, most))
+      ∙ ap acknowledgedBy named
+      ∙ count-acknowledged (contiguous m) (omega (arith, count-small m long))
 
-  -- and reads the mask and the serial.
-  body-told : bodyIn pdu ≡ record { answer = Done; fack = fackSent serial (maskOf m) }
+  -- and reads the mask and the serial answered.
+  body-told : bodyIn pdu ≡ record { answer = Done; fack = fackSent answered (maskOf m) }
   body-told =
       ap (λ (r : Reading). fackReading (r .little) (bodyOf pdu)) taken
-      ∙ ap (fackReading true) (body-written h body sized)
-      ∙ read-written-fack serial (maskOf m) small (mask-small m long)
+      ∙ ap (fackReading true) (body-written h body (fits .sized))
+      ∙ read-written-fack answered (maskOf m) small (mask-small m long)
 
-  pub fack-tells : Tells m serial pdu
+  pub fack-tells : Tells m (h .number) (h .serial) answered pdu
   unfolding contiguous
   fack-tells = record {
     accepted = ap (λ (r : Reading). r .answer) taken;
-    kind = ap (λ (r : Reading). r .header .kind) taken ∙ header-kind h body ∙ typed;
+    kind = ap (λ (r : Reading). r .header .kind) taken ∙ typed;
     formed = ap (λ (r : FackReading). r .answer) body-told;
+    number = ap (λ (r : Reading). r .header .number) taken;
+    own = ap (λ (r : Reading). r .header .serial) taken;
     counted = count-told;
     below = λ f under. count-held (m .slots) f missing (rw (← count-told) under);
     behind =
@@ -126,9 +128,18 @@ module _ (h : Header) (m : Incoming) (serial : ℕ) (sized : Sized h) (typed : h
 
   -- So does one that was sent into a buffer of 1,472 bytes, read off that buffer.
   pub sent-tells : (p : Posting) (out : List ℕ) → length out ≡ pduSize → p ≡ whole h body out
-      → Tells m serial (sentBytes (p .sent) (p .out))
+      → Tells m (h .number) (h .serial) answered (sentBytes (p .sent) (p .out))
   sent-tells p out room e =
-      subst (Tells m serial)
+      subst (Tells m (h .number) (h .serial) answered)
       (sym (ap (λ (q : Posting). sentBytes (q .sent) (q .out)) e
-      ∙ whole-bytes h body out room sized (fack-short serial (maskOf m))))
+      ∙ whole-bytes h body out room (fits .sized) (fack-short answered (maskOf m))))
       fack-tells
+
+-- A PDU of another type that was so sent is none.
+pub sent-other : (h : Header) (body out : List ℕ) → Sized h → h .kind ≤ 10 → h .authentication ≡ 0
+    → length body ≤ bodySize → (h .kind ≡ 9 → ⊥) → length out ≡ pduSize → (p : Posting) → p ≡ whole h body out
+    → Other (sentBytes (p .sent) (p .out))
+sent-other h body out sized known plain short other room p e =
+    let bytes = ap (λ (q : Posting). sentBytes (q .sent) (q .out)) e ∙ whole-bytes h body out room sized short in
+    let read = kind-written h body sized known plain short in
+    subst Other (sym bytes) (record { accepted = read .0; kind = λ is. other (sym (read .1) ∙ is) })

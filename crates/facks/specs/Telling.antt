@@ -1,7 +1,8 @@
--- What a fack tells its reader.
+-- What a fack tells its reader, and that a PDU is none.
 use Prim.Native.Nat.{ℕ, _+_, _<_}
 use mathlib.Core.Bool.{true}
 use mathlib.Core.List.{List}
+use mathlib.Core.Logic.{_⊎_}
 use mathlib.Core.Path.{_≡_}
 use lib.ListN.{getD}
 use Rattle.words.specs.Bit.{bit}
@@ -10,6 +11,9 @@ use Rattle.pdu.specs.Header.{bodyOf}
 use Rattle.reader.specs.Reading.{reading}
 use Rattle.bodies.specs.declared.FackReading.{FackReading}
 use Rattle.bodies.specs.Fack.{fackReading}
+use Rattle.calls.specs.declared.Sent.{Sent}
+use Rattle.calls.specs.declared.Sent.the-variants.{Nothing as Unsent}
+use Rattle.calls.specs.Sent.{sentBytes}
 use Rattle.incoming.specs.declared.Incoming.{Incoming}
 use Rattle.incoming.specs.Slots.{missing, contiguous}
 use Rattle.grounds.specs.Fack.{acknowledgedBy}
@@ -22,12 +26,15 @@ acknowledgedIn pdu = acknowledgedBy (reading pdu .header .fragment)
 abbrev pub bodyIn : List ℕ → FackReading
 bodyIn pdu = fackReading (reading pdu .little) (bodyOf pdu)
 
--- A PDU tells its reader, as a fack, what is held of a message, and which serial it answers.
-pub record Tells (m : Incoming) (serial : ℕ) (pdu : List ℕ) : Type 0 where
+-- As a fack a PDU tells its reader what is held of a message. It is of that call, has that serial of its sender, and
+-- answers that serial.
+pub record Tells (m : Incoming) (call serial answered : ℕ) (pdu : List ℕ) : Type 0 where
   -- It is accepted, its type is 9, and its body is well formed.
   pub accepted : reading pdu .answer ≡ Done
   pub kind : reading pdu .header .kind ≡ 9
   pub formed : bodyIn pdu .answer ≡ Done
+  pub number : reading pdu .header .number ≡ call
+  pub own : reading pdu .header .serial ≡ serial
   -- It acknowledges as many fragments as are held without a gap from number 0 on,
   pub counted : acknowledgedIn pdu ≡ contiguous m
   -- so each of those is held.
@@ -35,4 +42,13 @@ pub record Tells (m : Incoming) (serial : ℕ) (pdu : List ℕ) : Type 0 where
   -- Bit j of its mask is 1 exactly where the j-th fragment behind those is held.
   pub behind : (j : ℕ) → j < 32
       → bit j (bodyIn pdu .fack .mask) ≡ heldBit (getD (m .slots) (acknowledgedIn pdu + j) missing .held)
-  pub answers : bodyIn pdu .fack .serial ≡ serial
+  pub answers : bodyIn pdu .fack .serial ≡ answered
+
+-- A PDU that is accepted, and is no fack.
+pub record Other (pdu : List ℕ) : Type 0 where
+  pub accepted : reading pdu .answer ≡ Done
+  pub kind : reading pdu .header .kind ≡ 9 → ⊥
+
+-- No fack goes out: nothing does, or such a PDU.
+abbrev pub Unfacked : Sent → List ℕ → Type 0
+Unfacked sent out = (sent ≡ Unsent) ⊎ Other (sentBytes sent out)

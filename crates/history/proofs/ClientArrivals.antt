@@ -30,6 +30,7 @@ use Rattle.client_record.specs.Rules.{sound}
 use Rattle.client_record.specs.Record.{waiting, ackPending, unarmed, withIncoming, withWaits}
 use Rattle.client_record.proofs.StateLaws.{dispatched-state, active-state}
 use Rattle.client_record.proofs.RuleLaws.{rules-told}
+use Rattle.client_table.proofs.EventLaws.{response-kind}
 use Rattle.client_table.specs.declared.Event.{Event}
 use Rattle.client_table.specs.declared.Event.the-variants.{Response as ResponseEvent, Fault, Reject, Working, Nocall, Fack as FackEvent, Foreign}
 use Rattle.client_table.specs.Events.{eventOf, byEvent, hasRow}
@@ -48,7 +49,7 @@ use Rattle.history.specs.World.{Started, Completed, Replied, SentPdu, Wo
 use Rattle.history.specs.Steps.{lastStart, completionsAfter, completionEntry}
 use Rattle.history.specs.Claim.{WholeReply, hasReply}
 use Rattle.history.proofs.Holding.{Buffer, Short, PartOf, unheld-unfinished, holding-whole, Holding, Single, empty-holding, put-holding, other-empty}
-use Rattle.history.proofs.Types.{IsResponse, response-kind}
+use Rattle.history.proofs.Types.{IsResponse}
 use Rattle.history.proofs.Network.{Request, Response}
 use Rattle.history.proofs.Ordinals.{equal-start}
 use Rattle.history.proofs.More.{current-on}

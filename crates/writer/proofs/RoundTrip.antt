@@ -112,7 +112,7 @@ pub read-written : (h : Header) (body : List ℕ) → Fits h → h .kind ≤ 10 
 read-written h body f k a n =
     subst (λ (g : Header). reading (datagram g body) ≡ accepted g) (spelled-same h (f .sized)) (reading-spelled h body f k a n)
 
--- and whatever its fields are, the datagram is taken,
+-- its type whatever the other fields are,
 taken-spelled : (h : Header) (body : List ℕ) → h .kind ≤ 10 → h .authentication ≡ 0 → length body ≤ bodySize
     → reading (datagram (spelled h) body) ≡ accepted (headerOf true (datagram (spelled h) body))
 unfolding reading readBy
@@ -120,26 +120,19 @@ taken-spelled h body k a n =
     let order = order-spelled h body in
     rw (order .0, order .1, ground-spelled h body k a n)
 
-pub written-taken : (h : Header) (body : List ℕ) → Sized h → h .kind ≤ 10 → h .authentication ≡ 0 → length body ≤ bodySize
-    → reading (datagram h body) ≡ accepted (headerOf true (datagram h body))
-written-taken h body z k a n =
-    subst (λ (g : Header). reading (datagram g body) ≡ accepted (headerOf true (datagram g body))) (spelled-same h z) (taken-spelled h body k a n)
+kind-spelled : (h : Header) (body : List ℕ) → headerOf true (datagram (spelled h) body) .kind ≡ h .kind
+unfolding spelled headerOf datagram headerBytes
+kind-spelled h body = refl
 
--- with its type,
-pub header-kind : (h : Header) (body : List ℕ) → headerOf true (datagram h body) .kind ≡ h .kind
-unfolding headerOf datagram headerBytes
-header-kind h body = refl
+pub kind-written : (h : Header) (body : List ℕ) → Sized h → h .kind ≤ 10 → h .authentication ≡ 0 → length body ≤ bodySize
+    → (reading (datagram h body) .answer ≡ Done) × (reading (datagram h body) .header .kind ≡ h .kind)
+kind-written h body z k a n =
+    let taken = taken-spelled h body k a n in
+    subst (λ (g : Header). (reading (datagram g body) .answer ≡ Done) × (reading (datagram g body) .header .kind ≡ h .kind))
+    (spelled-same h z)
+    (ap (λ (r : Reading). r .answer) taken, ap (λ (r : Reading). r .header .kind) taken ∙ kind-spelled h body)
 
--- its fragment number,
-fragment-spelled : (h : Header) (body : List ℕ) → h .fragment < 65536 → headerOf true (datagram (spelled h) body) .fragment ≡ spelled h .fragment
-unfolding spelled headerOf datagram headerBytes number
-fragment-spelled h body small = value-bytes 2 true (h .fragment) small
-
-pub header-fragment : (h : Header) (body : List ℕ) → Sized h → h .fragment < 65536 → headerOf true (datagram h body) .fragment ≡ h .fragment
-header-fragment h body z small =
-    subst (λ (g : Header). headerOf true (datagram g body) .fragment ≡ g .fragment) (spelled-same h z) (fragment-spelled h body small)
-
--- its call number,
+-- the call number,
 number-spelled : (h : Header) (body : List ℕ) → h .number < 4294967296 → headerOf true (datagram (spelled h) body) .number ≡ spelled h .number
 unfolding spelled headerOf datagram headerBytes number
 number-spelled h body small = value-bytes 4 true (h .number) small

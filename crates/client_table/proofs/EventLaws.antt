@@ -1,0 +1,42 @@
+-- What the client takes for a response, by the type number.
+use Prim.Native.Nat.{ℕ}
+use mathlib.Core.Bool.{Bool, true, false, false≢true}
+use mathlib.Core.Path.{_≡_, refl, sym, ap, _∙_}
+use lib.Dec.{ltb, leb, eqb}
+use borrow.Author.Tests.{eqb-true}
+use Rattle.words.specs.Choice.{choose}
+use Rattle.client_table.specs.declared.Event.{Event}
+use Rattle.client_table.specs.declared.Event.the-variants.{Response, Fault, Reject, Working, Nocall, Fack, Foreign}
+use Rattle.client_table.specs.Events.{serverEvent, eventOf}
+
+-- Type 2 is a response, and no other.
+abbrev isResponse : Event → Bool
+isResponse Response = true
+isResponse Fault = false
+isResponse Reject = false
+isResponse Working = false
+isResponse Nocall = false
+isResponse Fack = false
+isResponse Foreign = false
+
+pub response-kind : (kind : ℕ) → eventOf kind ≡ Response → kind ≡ 2
+unfolding eventOf serverEvent choose
+response-kind kind e =
+    eqb-true kind 2 (by-tests (ltb kind 2) (leb kind 6) (eqb kind 2) (eqb kind 3) (eqb kind 4) (eqb kind 5) (eqb kind 9) (ap isResponse e))
+  where
+    others : (c d f : Bool) → isResponse (choose c Fault (choose d Working (choose f Nocall Reject))) ≡ false
+    others true d f = refl
+    others false true f = refl
+    others false false true = refl
+    others false false false = refl
+
+    by-tests : (a b t c d f g : Bool)
+        → isResponse
+        (choose a Foreign (choose b (choose t Response (choose c Fault (choose d Working (choose f Nocall Reject)))) (choose g Fack Foreign)))
+        ≡ true
+        → t ≡ true
+    by-tests a b true c d f g q = refl
+    by-tests true b false c d f g q = absurd (false≢true q)
+    by-tests false true false c d f g q = absurd (false≢true (sym (others c d f) ∙ q))
+    by-tests false false false c d f true q = absurd (false≢true q)
+    by-tests false false false c d f false q = absurd (false≢true q)
