@@ -28,9 +28,9 @@ pub enum ServerState {
     Running,
     /// The reply is being sent: call [`Server::transmit`].
     Replying,
-    /// The reply is sent and kept until it is acknowledged.
+    /// The reply is sent and kept until the ack comes.
     HeldData,
-    /// The fault is sent and kept until it is acknowledged.
+    /// The fault is sent and kept until the ack comes.
     HeldFault,
     /// A state of a later library.
     Other(u8),
