@@ -140,6 +140,26 @@ fn a_fack_tells_what_the_client_holds_and_a_repeated_fragment_gets_none() {
     }
 }
 
+/// The header that a fack has: the number of the call, its sender's serial as it was, and the idempotent bit (32) of the
+/// client.
+#[test]
+fn a_fack_carries_the_serial_of_its_sender() {
+    for (idempotent, mark) in [(false, 0), (true, 32)] {
+        let fields = |pdu: &[u8]| {
+            let header = Header::read(pdu).expect("a header");
+            (header.number(), header.serial(), header.flags())
+        };
+        let (_, mut server, requests) = requested(idempotent, &message(3));
+        for pdu in &requests {
+            assert_eq!(fields(&sent(server.arrive(pdu))), (0, 0, 0));
+        }
+        let (mut client, _, responses) = replied(idempotent, &message(3));
+        for pdu in &responses {
+            assert_eq!(fields(&sent(client.arrive(pdu))), (0, 1, mark));
+        }
+    }
+}
+
 /// Last fragment is 2, fragment 4, no fack 8.
 #[test]
 fn the_flags_of_the_pdu_decide() {
