@@ -93,7 +93,7 @@ enum {
     MORPHELAI_SERVER_COLLECT = 3,         /* a part of the request is there */
     MORPHELAI_SERVER_RUNNING = 4,         /* dispatched: owes one reply or one fault */
     MORPHELAI_SERVER_REPLYING = 5,        /* the reply is being sent: call transmit */
-    MORPHELAI_SERVER_HELD_DATA = 6,       /* the reply is sent and kept until the ack; RESEND runs */
+    MORPHELAI_SERVER_HELD_DATA = 6,       /* the reply is sent, and kept to be sent again; RESEND runs */
     MORPHELAI_SERVER_HELD_FAULT = 7       /* the same of a fault */
 };
 

@@ -28,9 +28,9 @@ pub enum ServerState {
     Running,
     /// The reply is being sent: call [`Server::transmit`].
     Replying,
-    /// The reply is sent and kept until the ack comes.
+    /// The reply is sent, and kept to be sent again.
     HeldData,
-    /// The fault is sent and kept until the ack comes.
+    /// The fault is sent, and kept to be sent again.
     HeldFault,
     /// A state of a later library.
     Other(u8),

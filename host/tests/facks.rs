@@ -140,8 +140,7 @@ fn a_fack_tells_what_the_client_holds_and_a_repeated_fragment_gets_none() {
     }
 }
 
-/// The header that a fack has: the number of the call, its sender's serial as it was, and the idempotent bit (32) of the
-/// client.
+/// The header that a fack has: the call's number, its sender's serial as it was, the client's idempotent bit (32).
 #[test]
 fn a_fack_carries_the_serial_of_its_sender() {
     for (idempotent, mark) in [(false, 0), (true, 32)] {

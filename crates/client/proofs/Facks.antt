@@ -16,6 +16,7 @@ use Rattle.answers.specs.declared.Ground.{Ground}
 use Rattle.answers.specs.declared.Ground.the-variants.{Pass, Refuse}
 use Rattle.bodies.specs.Fack.{fackBytes, fackSent as fackFields}
 use Rattle.bodies.specs.Status.{statusReading}
+use Rattle.calls.specs.declared.Call.{Call}
 use Rattle.calls.specs.declared.Notice.the-variants.{Nothing as Untold, Cause}
 use Rattle.calls.specs.declared.Sent.{Sent}
 use Rattle.calls.specs.declared.Sent.the-variants.{Nothing as Unsent}
@@ -25,7 +26,7 @@ use Rattle.flags.specs.Flags.{idempotent, withFlag}
 use Rattle.incoming.specs.declared.Incoming.{Incoming}
 use Rattle.incoming.specs.Slots.{contiguous, complete, stored}
 use Rattle.incoming.proofs.RuleLaws.{kept-by}
-use Rattle.outgoing.specs.Message.{fragmentOf, flagsOf}
+use Rattle.outgoing.specs.Message.{fragmentOf}
 use Rattle.outgoing.proofs.OutgoingLaws.{fragment-most}
 use Rattle.facks.specs.Mask.{lastContiguous, maskOf}
 use Rattle.facks.specs.Telling.{Tells, Unfacked}
@@ -56,7 +57,7 @@ use Rattle.client_steps.specs.Rows.{transmitPlan, pinged, waitPlan, ackPlan, ti
 use Rattle.client_arrivals.specs.Rows.{putRecord, received, fackFor, putPlan, responsePlan, workingPlan, resent, nocallPlan, fackPlan}
 use Rattle.client_arrivals.specs.Table.{arrivalRow, arrivalPlan}
 use Rattle.client.specs.Sending.{pduHeader, requestSent, sentOut}
-use Rattle.client.specs.Machine.{outcomeOf, sending, planOf, acted, transmitting, timing, arriving}
+use Rattle.client.specs.Machine.{outcomeOf, starting, sending, planOf, acted, transmitting, timing, arriving}
 use Rattle.client.proofs.Judging.{transmit-passes, timer-passes, arrival-passes}
 use Rattle.client.proofs.Accepting.{transmit-accepted, timer-accepted, arrive-accepted}
 use Rattle.client.proofs.Keeping.{arrive-keeps}
@@ -149,6 +150,11 @@ module _ (c : Client) (datagram slots out : List ℕ) (done : arriving c datagra
       (posts Response (SendFack (h .serial)) (ap eventOf typed) send ∙ fack-whole after out room (h .serial)
       ∙ ap (λ (k : Header). whole k (fackBytes (fackFields (h .serial) (maskOf m))) out) (header-kept typed number))
 
+  -- No fack raises the serial.
+  pub response-serial : h .kind ≡ 2 → after .outgoing .serial ≡ c .outgoing .serial
+  unfolding pduHeader sentHeader
+  response-serial typed = ap (λ (k : Header). k .serial) (header-kept typed 0)
+
   -- With no fack set, or fragment clear, nothing goes out,
   pub response-unfacked : h .kind ≡ 2 → (bit 3 (h .flags1) ≡ 1) ⊎ (bit 2 (h .flags1) ≡ 0) → sent ≡ Unsent
   unfolding eventOf serverEvent choose fackFor sentOut
@@ -187,24 +193,31 @@ otherwise SendAck = true
 otherwise (SendFack serial) = false
 
 module _ (c : Client) (lent out : List ℕ) (short : length lent ≤ bodySize) (room : length out ≡ pduSize) where
+  -- Every header has the UUIDs that one has,
+  sized-as : Sized (pduHeader 0 0 0 c) → (kind flags1 f : ℕ) → Sized (pduHeader kind flags1 f c)
+  unfolding pduHeader sentHeader
+  sized-as z kind flags1 f = record { object = z .object; interface = z .interface; activity = z .activity }
+
+  -- so what is sent is read as what it is.
   unfacked : (send : Send) → otherwise send ≡ true → Sized (pduHeader 0 0 0 c)
       → Unfacked (sentOut send c lent out .sent) (sentOut send c lent out .out)
   unfolding sentOut requestSent pduHeader sentHeader
   unfacked Nothing e z = inl refl
   unfacked (Request f) e z =
-      let k = pduHeader 0 (flagsOf (c .outgoing .count) f) f c in
-      let sized : Sized k = record { object = z .object; interface = z .interface; activity = z .activity } in
-      inr (sent-other k lent out sized (omega arith) refl short (eqb-false 0 9 refl) room _
-      (posted-whole k lent out room (omega arith) refl short))
+      inr (sent-other _ lent out (sized-as z 0 _ _) (omega arith) refl short (eqb-false 0 9 refl) room _
+      (posted-whole _ lent out room (omega arith) refl short))
   unfacked Ping e z =
-      let sized : Sized (pduHeader 1 0 0 c) = record { object = z .object; interface = z .interface; activity = z .activity } in
-      inr (sent-other (pduHeader 1 0 0 c) [] out sized (omega arith) refl (omega arith) (eqb-false 1 9 refl) room _
+      inr (sent-other _ [] out (sized-as z 1 0 0) (omega arith) refl (omega arith) (eqb-false 1 9 refl) room _
       (empty-whole c out room 1 (omega arith)))
   unfacked SendAck e z =
-      let sized : Sized (pduHeader 7 0 0 c) = record { object = z .object; interface = z .interface; activity = z .activity } in
-      inr (sent-other (pduHeader 7 0 0 c) [] out sized (omega arith) refl (omega arith) (eqb-false 7 9 refl) room _
+      inr (sent-other _ [] out (sized-as z 7 0 0) (omega arith) refl (omega arith) (eqb-false 7 9 refl) room _
       (empty-whole c out room 7 (omega arith)))
   unfacked (SendFack serial) e z = absurd (false≢true e)
+
+-- A start sends nothing.
+pub start-unsent : (c : Client) (call : Call) (n : ℕ) → starting c call n .sent ≡ Unsent
+unfolding starting outcomeOf
+start-unsent c call n = refl
 
 -- No fack goes out at a transmit,
 transmit-otherwise : (c : Client) (g : Ground) → otherwise (transmitPlan g c .send) ≡ true

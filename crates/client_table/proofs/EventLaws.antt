@@ -9,7 +9,7 @@ use Rattle.client_table.specs.declared.Event.{Event}
 use Rattle.client_table.specs.declared.Event.the-variants.{Response, Fault, Reject, Working, Nocall, Fack, Foreign}
 use Rattle.client_table.specs.Events.{serverEvent, eventOf}
 
--- Type 2 is a response, and no other.
+-- No type but 2 is one.
 abbrev isResponse : Event → Bool
 isResponse Response = true
 isResponse Fault = false

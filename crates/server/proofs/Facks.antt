@@ -35,7 +35,6 @@ use Rattle.writer.proofs.RoundTrip.{Fits}
 use Rattle.grounds.specs.Entry.{lentGround}
 use Rattle.grounds.specs.Fragment.{wantsFack, bodyLength}
 use Rattle.grounds.proofs.GroundLaws.{lent-passes, fack-asked, fack-unasked}
-use Rattle.server_record.specs.declared.Idle.the-variants.{Spent}
 use Rattle.server_record.specs.declared.State.{State}
 use Rattle.server_record.specs.declared.State.the-variants.{Idle, Collect, Running, Replying, Held}
 use Rattle.server_record.specs.declared.Reply.{Reply}
@@ -55,7 +54,7 @@ use Rattle.server_steps.specs.Rows.{transmitPlan, faultPlan, replayHeld, replay
 use Rattle.server_arrivals.specs.Rows.{begun, fackFor, putPlan, requestPlan, beginPlan, workingPlan, nocallPlan, fackPlan, ackPlan}
 use Rattle.server_arrivals.specs.Table.{arrivalRow, arrivalPlan}
 use Rattle.server.specs.Sending.{echoed, echoHeader, replyHeader, responseSent, emptySent, sentOut}
-use Rattle.server.specs.Machine.{outcomeOf, sending, planOf, acted, transmitting, timing, faulting, arriving}
+use Rattle.server.specs.Machine.{outcomeOf, replying, sending, planOf, acted, transmitting, timing, faulting, arriving}
 use Rattle.server.proofs.Judging.{transmit-passes, fault-passes, timer-passes, arrival-passes}
 use Rattle.server.proofs.Accepting.{transmit-accepted, fault-accepted, timer-accepted, arrive-accepted}
 use Rattle.server.proofs.Keeping.{arrive-keeps}
@@ -205,6 +204,28 @@ module _ (s : Server) (datagram slots out : List ℕ) (done : arriving s datagra
       let send = put-sends (rowFor s h) put false (fack-unasked (h .flags1) off) in
       ap (λ (p : Posting). p .sent) (posts Nothing send)
 
+  -- These rows put the fragment, and no other.
+  pub puts-put : (r : Row) → row r .put ≡ puts r
+  unfolding arrivalRow beginPlan requestPlan putPlan workingPlan nocallPlan fackPlan ackPlan replayPlan replayHeld accepted refused
+  puts-put Old = refl
+  puts-put Missing = refl
+  puts-put Repeat = refl
+  puts-put Begin = refl
+  puts-put Put = refl
+  puts-put Working = refl
+  puts-put Nocall = refl
+  puts-put Replay = by-state (s .state)
+    where
+      by-state : (state : State) → replayPlan state s .put ≡ false
+      by-state (Idle idle) = refl
+      by-state Collect = refl
+      by-state Running = refl
+      by-state Replying = refl
+      by-state (Held Data) = refl
+      by-state (Held (HeldFault status)) = refl
+  puts-put Acknowledge = refl
+  puts-put Finish = refl
+
   -- What is not put gets no fack.
   replays : (state : State) → otherwise (replayPlan state s .send) ≡ true
   unfolding replayPlan replayHeld accepted refused
@@ -233,6 +254,11 @@ module _ (s : Server) (datagram slots out : List ℕ) (done : arriving s datagra
       let send = row (rowFor s h) .send in
       subst (λ (p : Posting). Unfacked (p .sent) (p .out)) (sym (posts send refl))
       (unfacked after h [] out (omega arith) room z send (others-send (rowFor s h) other))
+
+-- A reply sends nothing.
+pub reply-unsent : (s : Server) (n : ℕ) → replying s n .sent ≡ Unsent
+unfolding replying outcomeOf
+reply-unsent s n = refl
 
 -- No fack goes out at a transmit,
 transmit-otherwise : (s : Server) (g : Ground) → otherwise (transmitPlan g s .send) ≡ true
@@ -267,24 +293,24 @@ fault-unfacked s status out done z =
     unfacked (faultPlan g s status .server) blank [] out (omega arith) (fault-passes s (length out) pass .buffer) z
     (faultPlan g s status .send) (fault-otherwise s g status)
 
--- nor at the timer. A reply sends nothing.
+-- nor at the timer.
 timer-otherwise : (s : Server) (g : Ground) → otherwise (timerPlan g s .send) ≡ true
 unfolding timerPlan timerRow resendRow resendHeld accepted refused choose
 timer-otherwise s (Refuse a) = refl
 timer-otherwise s Pass = by-state (s .state)
   where
-    by-limit : (t : Bool) (reply : Reply)
-        → otherwise (choose t (resendHeld s reply) (accepted (unarmed s (Idle Spent)) Nothing) .send) ≡ true
-    by-limit true Data = refl
-    by-limit true (HeldFault status) = refl
-    by-limit false reply = refl
+    by-limit : (t : Bool) (reply : Reply) (last : Plan) → otherwise (last .send) ≡ true
+        → otherwise (choose t (resendHeld s reply) last .send) ≡ true
+    by-limit true Data last e = refl
+    by-limit true (HeldFault status) last e = refl
+    by-limit false reply last e = e
 
     by-state : (state : State) → otherwise (timerRow state s .send) ≡ true
     by-state (Idle idle) = refl
     by-state Collect = refl
     by-state Running = refl
     by-state Replying = refl
-    by-state (Held reply) = by-limit (ltb (s .resends) retryLimit) reply
+    by-state (Held reply) = by-limit (ltb (s .resends) retryLimit) reply _ refl
 
 pub timer-unfacked : (s : Server) (ticket : ℕ) (out : List ℕ) → timing s ticket out .outcome .answer ≡ Done
     → Sizes (timing s ticket out .outcome .server) blank
