@@ -43,14 +43,15 @@ use Rattle.client_record.proofs.RuleLaws.{rules-told}
 use Rattle.client_table.specs.declared.Event.{Event}
 use Rattle.client_table.specs.declared.Event.the-variants.{Response, Fack}
 use Rattle.client_table.specs.Events.{serverEvent, eventOf, byEvent, hasRow}
+use Rattle.client_steps.specs.declared.Plan.{Plan}
 use Rattle.client_steps.specs.Plan.{accepted}
 use Rattle.client_steps.specs.Rows.{started, startPlan, transmitPlan}
 use Rattle.client_steps.proofs.StepLaws.{next-number, transmitted-one-more}
 use Rattle.client_arrivals.specs.Rows.{acknowledged, fackPlan, putPlan, responsePlan}
-use Rattle.client_arrivals.specs.Table.{arrivalRow, arrivalPlan}
-use Rattle.client.specs.Machine.{outcomeOf, sending, planOf, acted, starting, transmitting, arriving}
+use Rattle.client_arrivals.specs.Table.{arrivalRow}
+use Rattle.client.specs.Machine.{outcomeOf, sending, acted, starting, transmitting, arriving}
 use Rattle.client.proofs.Judging.{CanArrive, response-can, start-passes, transmit-passes, arrival-passes}
-use Rattle.client.proofs.Accepting.{start-accepted, transmit-accepted, arrive-accepted}
+use Rattle.client.proofs.Accepting.{start-accepted, transmit-accepted, arrive-accepted, arrive-row}
 
 -- A start gives the next number of a record whose number is a u32,
 module _ (c : Client) (call : Call) (n : ℕ) (done : starting c call n .answer ≡ Done) where
@@ -100,21 +101,18 @@ module _ (c : Client) (datagram slots out : List ℕ) (done : arriving c datagra
     stores : arriving c datagram slots out .slots ≡ storing (arrivalRow event c h n status .put) (h .fragment) (bodyOf datagram) slots
 
   accepted-as : (event : Event) → eventOf (h .kind) ≡ event → Accepted event
-  unfolding arriving acted sending outcomeOf planOf arrivalPlan
+  unfolding arriving acted sending outcomeOf
   accepted-as event e =
       let pass = arrive-accepted c datagram slots out done in
+      let row = arrive-row c datagram slots out done ∙ ap (λ (x : Event). arrivalRow x c h n status) e in
       let j = arrival-passes c (lentGround (length slots) (length out)) (reading datagram) (bodyOf datagram) pass in
       record {
         kept = j .0 .kept;
         room = lent-passes (length slots) (length out) (j .0 .buffers) .0;
         short = body-short datagram (j .0 .done);
         can = subst (λ (x : Event). CanArrive x c h n) e (j .1);
-        leaves =
-            ap (λ (g : Ground). arrivalPlan g c h n status .client) pass
-            ∙ ap (λ (x : Event). arrivalRow x c h n status .client) e;
-        stores =
-            ap (λ (g : Ground). storing (arrivalPlan g c h n status .put) (h .fragment) (bodyOf datagram) slots) pass
-            ∙ ap (λ (x : Event). storing (arrivalRow x c h n status .put) (h .fragment) (bodyOf datagram) slots) e;
+        leaves = ap (λ (p : Plan). p .client) row;
+        stores = ap (λ (p : Plan). storing (p .put) (h .fragment) (bodyOf datagram) slots) row;
       }
 
   -- After a fack, type 9, acknowledged is the larger of itself and what the fack acknowledges.

@@ -1,67 +1,55 @@
--- When the client sends a fack, and what it tells its reader.
-use Prim.Native.Nat.{ℕ, _<_, _≤_}
-use mathlib.Core.Bool.{Bool, true, false, false≢true}
+-- When an arriving datagram has the client send a fack, and what it tells its reader.
+use Prim.Native.Nat.{ℕ, _<_}
+use mathlib.Core.Bool.{Bool, true, false}
 use mathlib.Core.List.{List, []}
-use mathlib.Core.Logic.{_⊎_, inl, inr}
+use mathlib.Core.Logic.{_⊎_}
 use mathlib.Core.Path.{_≡_, refl, ap, _∙_}
-use native.Mathlib.Omega.{arith}
 use lib.Dec.{ltb}
 use lib.ListN.{length}
-use borrow.Author.Tests.{eqb-false}
 use Rattle.words.specs.Bit.{bit}
 use Rattle.words.specs.Choice.{choose}
-use Rattle.words.specs.Sizes.{bodySize, pduSize, retryLimit}
+use Rattle.words.specs.Sizes.{retryLimit}
 use Rattle.answers.specs.declared.Answer.the-variants.{Done}
-use Rattle.answers.specs.declared.Ground.{Ground}
-use Rattle.answers.specs.declared.Ground.the-variants.{Pass, Refuse}
 use Rattle.bodies.specs.Fack.{fackBytes, fackSent as fackFields}
 use Rattle.bodies.specs.Status.{statusReading}
-use Rattle.calls.specs.declared.Call.{Call}
 use Rattle.calls.specs.declared.Notice.the-variants.{Nothing as Untold, Cause}
 use Rattle.calls.specs.declared.Sent.{Sent}
 use Rattle.calls.specs.declared.Sent.the-variants.{Nothing as Unsent}
 use Rattle.calls.specs.Sent.{sentHeader, Posting, sentBytes}
-use Rattle.calls.proofs.PostLaws.{whole, posted-whole, same-fits}
-use Rattle.flags.specs.Flags.{idempotent, withFlag}
+use Rattle.calls.proofs.PostLaws.{whole, same-fits}
+use Rattle.flags.specs.Flags.{idempotent}
 use Rattle.incoming.specs.declared.Incoming.{Incoming}
 use Rattle.incoming.specs.Slots.{contiguous, complete, stored}
 use Rattle.incoming.proofs.RuleLaws.{kept-by}
-use Rattle.outgoing.specs.Message.{fragmentOf}
-use Rattle.outgoing.proofs.OutgoingLaws.{fragment-most}
 use Rattle.facks.specs.Mask.{lastContiguous, maskOf}
-use Rattle.facks.specs.Telling.{Tells, Unfacked}
-use Rattle.facks.proofs.TellingLaws.{number-small, count-small, sent-tells, sent-other}
+use Rattle.facks.specs.Telling.{TellsHeld}
+use Rattle.facks.proofs.MaskLaws.{count-small}
+use Rattle.facks.proofs.TellingLaws.{number-small, sent-tells}
 use Rattle.pdu.specs.declared.Header.{Header}
 use Rattle.pdu.specs.Header.{bodyOf}
 use Rattle.reader.specs.Reading.{reading}
-use Rattle.writer.proofs.Returns.{Sized}
 use Rattle.writer.proofs.RoundTrip.{Fits}
 use Rattle.grounds.specs.Entry.{lentGround}
 use Rattle.grounds.specs.Fragment.{isLast, wantsFack, bodyLength}
-use Rattle.grounds.proofs.GroundLaws.{lent-passes, fack-asked, fack-unasked}
+use Rattle.grounds.proofs.GroundLaws.{fack-asked, fack-unasked}
 use Rattle.client_record.specs.declared.Client.{Client}
-use Rattle.client_record.specs.declared.TimerKind.{TimerKind}
-use Rattle.client_record.specs.declared.TimerKind.the-variants.{Wait, Ack}
 use Rattle.client_record.specs.Record.{waiting, ackPending, unarmed, withIncoming, withWaits}
 use Rattle.client_record.proofs.RuleLaws.{rules-told}
 use Rattle.client_table.specs.declared.Event.{Event}
 use Rattle.client_table.specs.declared.Event.the-variants.{Response, Fault, Reject, Working, Nocall, Fack, Foreign}
 use Rattle.client_table.specs.Events.{serverEvent, eventOf}
-use Rattle.client_table.specs.Local.{transmitGround, timerGround}
 use Rattle.client_table.proofs.EventLaws.{response-kind}
 use Rattle.client_steps.specs.declared.Plan.{Plan}
 use Rattle.client_steps.specs.declared.Send.{Send}
-use Rattle.client_steps.specs.declared.Send.the-variants.{Nothing, Request, Ping, Ack as SendAck, Fack as SendFack}
+use Rattle.client_steps.specs.declared.Send.the-variants.{Nothing, Fack as SendFack}
 use Rattle.client_steps.specs.Plan.{accepted, failed, refused}
-use Rattle.client_steps.specs.Rows.{transmitPlan, pinged, waitPlan, ackPlan, timerRow, timerPlan}
 use Rattle.client_arrivals.specs.Rows.{putRecord, received, fackFor, putPlan, responsePlan, workingPlan, resent, nocallPlan, fackPlan}
-use Rattle.client_arrivals.specs.Table.{arrivalRow, arrivalPlan}
-use Rattle.client.specs.Sending.{pduHeader, requestSent, sentOut}
-use Rattle.client.specs.Machine.{outcomeOf, starting, sending, planOf, acted, transmitting, timing, arriving}
-use Rattle.client.proofs.Judging.{transmit-passes, timer-passes, arrival-passes}
-use Rattle.client.proofs.Accepting.{transmit-accepted, timer-accepted, arrive-accepted}
+use Rattle.client_arrivals.specs.Table.{arrivalRow}
+use Rattle.client.specs.Sending.{pduHeader, sentOut}
+use Rattle.client.specs.Machine.{outcomeOf, sending, planOf, acted, arriving}
+use Rattle.client.proofs.Accepting.{arrive-row, arrive-room}
 use Rattle.client.proofs.Keeping.{arrive-keeps}
-use Rattle.client.proofs.Sends.{empty-whole, fack-whole}
+use Rattle.client.proofs.Sends.{fack-whole}
 
 -- What an arriving datagram has the client send.
 module _ (c : Client) (datagram slots out : List ℕ) (done : arriving c datagram slots out .outcome .answer ≡ Done) where
@@ -94,16 +82,7 @@ module _ (c : Client) (datagram slots out : List ℕ) (done : arriving c datagra
 
   -- Its row is that of its type.
   row-is : (event : Event) → eventOf (h .kind) ≡ event → plan ≡ row event
-  unfolding planOf arrivalPlan
-  row-is event e =
-      ap (λ (g : Ground). arrivalPlan g c h n status) (arrive-accepted c datagram slots out done) ∙ ap row e
-
-  -- The PDU buffer has its length.
-  room : length out ≡ pduSize
-  room =
-      let pass = arrive-accepted c datagram slots out done in
-      let entered = arrival-passes c (lentGround (length slots) (length out)) (reading datagram) (bodyOf datagram) pass in
-      lent-passes (length slots) (length out) (entered .0 .buffers) .1
+  row-is event e = arrive-row c datagram slots out done ∙ ap row e
 
   -- What goes out is what the row sends, of the record after it.
   posts : (event : Event) (send : Send) → eventOf (h .kind) ≡ event → row event .send ≡ send
@@ -135,15 +114,15 @@ module _ (c : Client) (datagram slots out : List ℕ) (done : arriving c datagra
   -- tells its reader what is held after the put. It is of the record's call, has the record's serial as it was, and
   -- answers the response's.
   pub response-facked : h .kind ≡ 2 → bit 3 (h .flags1) ≡ 0 → bit 2 (h .flags1) ≡ 1 → Fits (pduHeader 9 0 0 c)
-      → h .serial < 65536 → Tells (after .incoming) (c .number) (c .outgoing .serial) (h .serial) pdu
+      → h .serial < 65536 → TellsHeld (after .incoming) (c .number) (c .outgoing .serial) (h .serial) pdu
   unfolding eventOf serverEvent choose pduHeader sentHeader fackFor sentOut
   response-facked typed clear set fits small =
       let m = after .incoming in
       let slotted = kept-by m (rules-told after (arrive-keeps c datagram slots out done) .incoming) .slotted in
       let number = lastContiguous (contiguous m) in
-      let marks = withFlag idempotent (c .call .idempotent) 0 in
+      let room = arrive-room c datagram slots out done in
       let fitting =
-      same-fits 9 marks (c .outgoing .serial) (c .activity) 0 (c .number) (c .call) 9 marks number fits
+      same-fits 9 _ (c .outgoing .serial) (c .activity) 0 (c .number) (c .call) 0 9 _ number fits
       (number-small (contiguous m) (count-small m slotted)) in
       let send = response-sends true (fack-asked (h .flags1) clear set) in
       sent-tells (pduHeader 9 0 number c) m (h .serial) fitting refl refl refl small slotted _ out room
@@ -183,76 +162,3 @@ module _ (c : Client) (datagram slots out : List ℕ) (done : arriving c datagra
   others-unsent other =
       let send = others-send (eventOf (h .kind)) (λ is. other (response-kind (h .kind) is)) in
       ap (λ (p : Posting). p .sent) (posts (eventOf (h .kind)) Nothing refl send)
-
--- What is sent and is no fack.
-abbrev otherwise : Send → Bool
-otherwise Nothing = true
-otherwise (Request f) = true
-otherwise Ping = true
-otherwise SendAck = true
-otherwise (SendFack serial) = false
-
-module _ (c : Client) (lent out : List ℕ) (short : length lent ≤ bodySize) (room : length out ≡ pduSize) where
-  -- Every header has the UUIDs that one has,
-  sized-as : Sized (pduHeader 0 0 0 c) → (kind flags1 f : ℕ) → Sized (pduHeader kind flags1 f c)
-  unfolding pduHeader sentHeader
-  sized-as z kind flags1 f = record { object = z .object; interface = z .interface; activity = z .activity }
-
-  -- so what is sent is read as what it is.
-  unfacked : (send : Send) → otherwise send ≡ true → Sized (pduHeader 0 0 0 c)
-      → Unfacked (sentOut send c lent out .sent) (sentOut send c lent out .out)
-  unfolding sentOut requestSent pduHeader sentHeader
-  unfacked Nothing e z = inl refl
-  unfacked (Request f) e z =
-      inr (sent-other _ lent out (sized-as z 0 _ _) (omega arith) refl short (eqb-false 0 9 refl) room _
-      (posted-whole _ lent out room (omega arith) refl short))
-  unfacked Ping e z =
-      inr (sent-other _ [] out (sized-as z 1 0 0) (omega arith) refl (omega arith) (eqb-false 1 9 refl) room _
-      (empty-whole c out room 1 (omega arith)))
-  unfacked SendAck e z =
-      inr (sent-other _ [] out (sized-as z 7 0 0) (omega arith) refl (omega arith) (eqb-false 7 9 refl) room _
-      (empty-whole c out room 7 (omega arith)))
-  unfacked (SendFack serial) e z = absurd (false≢true e)
-
--- A start sends nothing.
-pub start-unsent : (c : Client) (call : Call) (n : ℕ) → starting c call n .sent ≡ Unsent
-unfolding starting outcomeOf
-start-unsent c call n = refl
-
--- No fack goes out at a transmit,
-transmit-otherwise : (c : Client) (g : Ground) → otherwise (transmitPlan g c .send) ≡ true
-unfolding transmitPlan accepted refused
-transmit-otherwise c Pass = refl
-transmit-otherwise c (Refuse a) = refl
-
-pub transmit-unfacked : (c : Client) (message out : List ℕ) → transmitting c message out .outcome .answer ≡ Done
-    → Sized (pduHeader 0 0 0 (transmitting c message out .outcome .client))
-    → Unfacked (transmitting c message out .outcome .sent) (transmitting c message out .out)
-unfolding transmitting sending outcomeOf
-transmit-unfacked c message out done z =
-    let f = c .outgoing .sent in
-    let pass = transmit-accepted c message out done in
-    let g = transmitGround c (length message) (length out) in
-    unfacked (transmitPlan g c .client) (fragmentOf message f) out (fragment-most message f)
-    (transmit-passes c (length message) (length out) pass .buffer) (transmitPlan g c .send) (transmit-otherwise c g) z
-
--- nor at a timer.
-timer-otherwise : (c : Client) (g : Ground) (kind : TimerKind) → otherwise (timerPlan g kind c .send) ≡ true
-unfolding timerPlan timerRow waitPlan ackPlan accepted failed refused choose
-timer-otherwise c (Refuse a) kind = refl
-timer-otherwise c Pass Ack = refl
-timer-otherwise c Pass Wait = by-limit (ltb (c .waits) retryLimit)
-  where
-    by-limit : (t : Bool) → otherwise (choose t (accepted (pinged c) Ping Untold) (failed c (Cause 1)) .send) ≡ true
-    by-limit true = refl
-    by-limit false = refl
-
-pub timer-unfacked : (c : Client) (kind : TimerKind) (ticket : ℕ) (out : List ℕ)
-    → timing c kind ticket out .outcome .answer ≡ Done → Sized (pduHeader 0 0 0 (timing c kind ticket out .outcome .client))
-    → Unfacked (timing c kind ticket out .outcome .sent) (timing c kind ticket out .out)
-unfolding timing sending outcomeOf
-timer-unfacked c kind ticket out done z =
-    let g = timerGround c kind ticket (length out) in
-    let pass = timer-accepted c kind ticket out done in
-    unfacked (timerPlan g kind c .client) [] out (omega arith) (timer-passes c kind ticket (length out) pass .buffer)
-    (timerPlan g kind c .send) (timer-otherwise c g kind) z

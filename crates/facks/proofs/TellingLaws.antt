@@ -8,7 +8,6 @@ use native.Mathlib.Nat.{lt-of-lt-of-le}
 use lib.Dec.{eqb}
 use lib.ListN.{length, drop, getD, length-drop}
 use lib.Pow.{pow-mono}
-use lib.Seq.{getD-drop}
 use borrow.Author.Tests.{eqb-true, eqb-false}
 use Rattle.words.specs.Bit.{bit}
 use Rattle.words.specs.Choice.{choose}
@@ -25,14 +24,13 @@ use Rattle.bodies.specs.Fack.{fackBytes, fackSent, fackReading}
 use Rattle.bodies.proofs.RoundTrip.{read-written-fack}
 use Rattle.calls.specs.Sent.{Posting, sentBytes}
 use Rattle.calls.proofs.PostLaws.{whole, whole-bytes}
-use Rattle.incoming.specs.declared.Slot.{Slot}
 use Rattle.incoming.specs.declared.Incoming.{Incoming}
 use Rattle.incoming.specs.Slots.{missing, contiguous}
-use Rattle.incoming.proofs.SlotLaws.{count-most, count-held}
+use Rattle.incoming.proofs.SlotLaws.{count-held}
 use Rattle.grounds.specs.Fack.{acknowledgedBy}
 use Rattle.facks.specs.Mask.{lastContiguous, heldBit, maskOf}
-use Rattle.facks.specs.Telling.{acknowledgedIn, bodyIn, Tells, Other}
-use Rattle.facks.proofs.MaskLaws.{word-below, word-bit}
+use Rattle.facks.specs.Telling.{acknowledgedIn, bodyIn, TellsHeld, OtherType}
+use Rattle.facks.proofs.MaskLaws.{word-below, count-small, mask-behind}
 
 -- The number that one side sends acknowledges to the other the very contiguous count.
 pub count-acknowledged : (count : ℕ) → count ≤ 65535 → acknowledgedBy (lastContiguous count) ≡ count
@@ -48,12 +46,7 @@ count-acknowledged count small = by-count (eqb count 0) refl
     by-count true e = sym (eqb-true count 0 e)
     by-count false e = by-number (eqb (count - 1) 65535) refl (eqb-false count 0 e)
 
--- The contiguous count of a message that has its slots is at most their number,
-pub count-small : (m : Incoming) → length (m .slots) ≡ windowSize → contiguous m ≤ windowSize
-unfolding contiguous
-count-small m long = omega (arith, count-most (m .slots))
-
--- so the number fits its field.
+-- It fits its field.
 pub number-small : (count : ℕ) → count ≤ windowSize → lastContiguous count < 65536
 unfolding lastContiguous choose
 number-small count most = by-test (eqb count 0)
@@ -62,21 +55,14 @@ number-small count most = by-test (eqb count 0)
     by-test true = omega arith
     by-test false = omega arith
 
--- So does the mask of a message that has its slots.
+-- So does the mask.
 pub mask-small : (m : Incoming) → length (m .slots) ≡ windowSize → maskOf m < 4294967296
 unfolding maskOf
 mask-small m long =
     let size : length (drop (contiguous m) (m .slots)) ≤ 32 = omega (arith, length-drop (contiguous m) (m .slots)) in
     lt-of-lt-of-le (word-below (drop (contiguous m) (m .slots))) (pow-mono size)
 
--- Bit j of it is that of the j-th slot behind the contiguous ones.
-pub mask-behind : (m : Incoming) (j : ℕ) → bit j (maskOf m) ≡ heldBit (getD (m .slots) (contiguous m + j) missing .held)
-unfolding maskOf
-mask-behind m j =
-    word-bit (drop (contiguous m) (m .slots)) j
-    ∙ ap (λ (s : Slot). heldBit (s .held)) (getD-drop (contiguous m) (m .slots) j missing)
-
--- Its body is short.
+-- The body of a fack is short.
 pub fack-short : (serial mask : ℕ) → length (fackBytes (fackSent serial mask)) ≤ bodySize
 unfolding fackBytes
 fack-short serial mask = omega arith
@@ -109,7 +95,7 @@ module _ (h : Header) (m : Incoming) (answered : ℕ) (fits : Fits h) (typed : h
       ∙ ap (fackReading true) (body-written h body (fits .sized))
       ∙ read-written-fack answered (maskOf m) small (mask-small m long)
 
-  pub fack-tells : Tells m (h .number) (h .serial) answered pdu
+  pub fack-tells : TellsHeld m (h .number) (h .serial) answered pdu
   unfolding contiguous
   fack-tells = record {
     accepted = ap (λ (r : Reading). r .answer) taken;
@@ -128,9 +114,9 @@ module _ (h : Header) (m : Incoming) (answered : ℕ) (fits : Fits h) (typed : h
 
   -- So does one that was sent into a buffer of 1,472 bytes, read off that buffer.
   pub sent-tells : (p : Posting) (out : List ℕ) → length out ≡ pduSize → p ≡ whole h body out
-      → Tells m (h .number) (h .serial) answered (sentBytes (p .sent) (p .out))
+      → TellsHeld m (h .number) (h .serial) answered (sentBytes (p .sent) (p .out))
   sent-tells p out room e =
-      subst (Tells m (h .number) (h .serial) answered)
+      subst (TellsHeld m (h .number) (h .serial) answered)
       (sym (ap (λ (q : Posting). sentBytes (q .sent) (q .out)) e
       ∙ whole-bytes h body out room (fits .sized) (fack-short answered (maskOf m))))
       fack-tells
@@ -138,8 +124,8 @@ module _ (h : Header) (m : Incoming) (answered : ℕ) (fits : Fits h) (typed : h
 -- A PDU of another type that was so sent is none.
 pub sent-other : (h : Header) (body out : List ℕ) → Sized h → h .kind ≤ 10 → h .authentication ≡ 0
     → length body ≤ bodySize → (h .kind ≡ 9 → ⊥) → length out ≡ pduSize → (p : Posting) → p ≡ whole h body out
-    → Other (sentBytes (p .sent) (p .out))
+    → OtherType (sentBytes (p .sent) (p .out))
 sent-other h body out sized known plain short other room p e =
     let bytes = ap (λ (q : Posting). sentBytes (q .sent) (q .out)) e ∙ whole-bytes h body out room sized short in
     let read = kind-written h body sized known plain short in
-    subst Other (sym bytes) (record { accepted = read .0; kind = λ is. other (sym (read .1) ∙ is) })
+    subst OtherType (sym bytes) (record { accepted = read .0; kind = λ is. other (sym (read .1) ∙ is) })

@@ -28,7 +28,7 @@ bodyIn pdu = fackReading (reading pdu .little) (bodyOf pdu)
 
 -- As a fack a PDU tells its reader what is held of a message. It is of that call, has that serial of its sender, and
 -- answers that serial.
-pub record Tells (m : Incoming) (call serial answered : ℕ) (pdu : List ℕ) : Type 0 where
+pub record TellsHeld (m : Incoming) (call serial answered : ℕ) (pdu : List ℕ) : Type 0 where
   -- It is accepted, its type is 9, and its body is well formed.
   pub accepted : reading pdu .answer ≡ Done
   pub kind : reading pdu .header .kind ≡ 9
@@ -45,10 +45,10 @@ pub record Tells (m : Incoming) (call serial answered : ℕ) (pdu : List ℕ) : 
   pub answers : bodyIn pdu .fack .serial ≡ answered
 
 -- A PDU that is accepted, and is no fack.
-pub record Other (pdu : List ℕ) : Type 0 where
+pub record OtherType (pdu : List ℕ) : Type 0 where
   pub accepted : reading pdu .answer ≡ Done
   pub kind : reading pdu .header .kind ≡ 9 → ⊥
 
 -- No fack goes out: nothing does, or such a PDU.
 abbrev pub Unfacked : Sent → List ℕ → Type 0
-Unfacked sent out = (sent ≡ Unsent) ⊎ Other (sentBytes sent out)
+Unfacked sent out = (sent ≡ Unsent) ⊎ OtherType (sentBytes sent out)

@@ -10,7 +10,7 @@ use Rattle.record_bytes.specs.Fits.{Octets}
 use Rattle.record_bytes.proofs.ByteLaws.{octets-three}
 use Rattle.host_history.specs.HostDemand.{HostDemand}
 use Rattle.host_history.proofs.HostDemanded.{host-demand}
-use Rattle.runs.specs.Runs.{eventsOf, numbersOf, called, lossy, lossyOfClient, lossyOfServer, exampleMessage, exampleReply, zeros}
+use Rattle.runs.specs.Runs.{eventsOf, numbersOf, called, lossy, lossyClientPdus, lossyServerPdus, exampleMessage, exampleReply, zeros}
 use Rattle.runs.proofs.RunsHold.{lossy-ran}
 use Rattle.host_runs.specs.HostRuns.{beginning, callsFor, HostRan}
 use Rattle.host_runs.proofs.PduOctets.{octets-same}
@@ -25,7 +25,7 @@ pub host-lossy : (message reply clientMemory serverMemory clientSlots serverSlot
     → Octets message → Octets reply → Octets out
     → HostRan (beginning clientMemory serverMemory clientSlots serverSlots)
     (callsFor (eventsOf (lossy message reply out))) (numbersOf (lossy message reply out))
-    (lossyOfClient message reply out) (lossyOfServer message reply out)
+    (lossyClientPdus message reply out) (lossyServerPdus message reply out)
     (record { ordinal = 0; number = 0; call = called; bytes = message } ∷ [])
     (record { ordinal = 0; bytes = reply } ∷ []) reply
 host-lossy message reply clientMemory serverMemory clientSlots serverSlots out asks replies clientWhole serverWhole
@@ -61,7 +61,7 @@ pub host-example :
     HostRan (beginning (zeros 272) (zeros 272) (zeros slotsSize) (zeros slotsSize))
     (callsFor (eventsOf (lossy exampleMessage exampleReply (zeros pduSize))))
     (numbersOf (lossy exampleMessage exampleReply (zeros pduSize)))
-    (lossyOfClient exampleMessage exampleReply (zeros pduSize)) (lossyOfServer exampleMessage exampleReply (zeros pduSize))
+    (lossyClientPdus exampleMessage exampleReply (zeros pduSize)) (lossyServerPdus exampleMessage exampleReply (zeros pduSize))
     (record { ordinal = 0; number = 0; call = called; bytes = exampleMessage } ∷ [])
     (record { ordinal = 0; bytes = exampleReply } ∷ []) exampleReply
 host-example =

@@ -32,7 +32,7 @@ use Rattle.server_record.specs.declared.State.the-variants.{Idle, Collect, Runn
 use Rattle.server_record.specs.Rules.{sound as serverSound}
 use Rattle.server.specs.HandUp.{handsUp as serverHandsUp}
 use Rattle.history.specs.Fairness.{Typed}
-use Rattle.runs.specs.Runs.{before, activity, called, asked, askedAgain, answered, answeredAgain, closed, lossy, lossyOfClient, lossyOfServer}
+use Rattle.runs.specs.Runs.{before, activity, called, asked, askedAgain, answered, answeredAgain, closed, lossy, lossyClientPdus, lossyServerPdus}
 use Rattle.history.proofs.Holding.{cleared-empty, empty-holding, holding-whole}
 use Rattle.history.proofs.Network.{Uuids}
 use Rattle.runs.proofs.Opened.{opened}
@@ -110,10 +110,10 @@ module _ (message reply clientSlots serverSlots out : List ℕ) (asks : length m
 
   -- The first n PDUs of all that the client has sent, and the server.
   abbrev clientSent : ℕ → List SentPdu
-  clientSent n = take n (lossyOfClient message reply out)
+  clientSent n = take n (lossyClientPdus message reply out)
 
   abbrev serverSent : ℕ → List SentPdu
-  serverSent n = take n (lossyOfServer message reply out)
+  serverSent n = take n (lossyServerPdus message reply out)
 
   -- The client's side: state, fragments sent and acknowledged, serial, what is held, the counts of WAIT and of resends,
   -- tickets, WAIT, ACK; its slot buffer and how many PDUs it has sent.

@@ -13,7 +13,7 @@ use Rattle.history.specs.World.{World}
 use Rattle.history.specs.Freshness.{Fresh}
 use Rattle.history.specs.Claim.{replyHandedUp}
 use Rattle.history.proofs.Beginning.{client-record-fresh, server-record-fresh}
-use Rattle.runs.specs.Runs.{Story, Ran, activity, called, asking, before, lossy, lossyOfClient, lossyOfServer, twice, twiceOfClient, twiceOfServer, twiceAndNext, twiceAndNextOfClient, twiceAndNextOfServer, question, secondReply, nextReply, exampleMessage, exampleReply, zeros}
+use Rattle.runs.specs.Runs.{Story, Ran, activity, called, asking, before, lossy, lossyClientPdus, lossyServerPdus, twice, twiceClientPdus, twiceServerPdus, twiceAndNext, twiceAndNextClientPdus, twiceAndNextServerPdus, question, secondReply, nextReply, exampleMessage, exampleReply, zeros}
 use Rattle.runs.proofs.Stories.{Plays}
 use Rattle.runs.proofs.Lossy.{reply-whole as lossy-reply, plays-lossy}
 use Rattle.runs.proofs.Twice.{reply-whole as twice-reply, plays-twice, next-reply, plays-twice-and-next}
@@ -49,7 +49,7 @@ ran fresh plays handed = record {
 -- there is one dispatch, of the whole request, and the client hands up the whole reply.
 pub lossy-ran : (message reply clientSlots serverSlots out : List ℕ) → length message ≡ 2785 → length reply ≡ 2786 → length clientSlots ≡ slotsSize
     → length serverSlots ≡ slotsSize → length out ≡ pduSize
-    → Ran (before clientSlots serverSlots) (lossy message reply out) (lossyOfClient message reply out) (lossyOfServer message reply out)
+    → Ran (before clientSlots serverSlots) (lossy message reply out) (lossyClientPdus message reply out) (lossyServerPdus message reply out)
     Complete (Idle Spent) (record { ordinal = 0; number = 0; call = called; bytes = message } ∷ []) (record { ordinal = 0; bytes = reply } ∷ []) reply
 lossy-ran message reply clientSlots serverSlots out asks replies clientRoom serverRoom room =
     ran (before-fresh clientSlots serverSlots) (plays-lossy message reply clientSlots serverSlots out asks replies clientRoom serverRoom room)
@@ -62,7 +62,7 @@ zeros-long n = length-replicate n 0
 
 pub example-ran :
     Ran (before (zeros slotsSize) (zeros slotsSize)) (lossy exampleMessage exampleReply (zeros pduSize))
-    (lossyOfClient exampleMessage exampleReply (zeros pduSize)) (lossyOfServer exampleMessage exampleReply (zeros pduSize)) Complete (Idle Spent)
+    (lossyClientPdus exampleMessage exampleReply (zeros pduSize)) (lossyServerPdus exampleMessage exampleReply (zeros pduSize)) Complete (Idle Spent)
     (record { ordinal = 0; number = 0; call = called; bytes = exampleMessage } ∷ []) (record { ordinal = 0; bytes = exampleReply } ∷ []) exampleReply
 unfolding exampleMessage exampleReply
 example-ran =
@@ -71,7 +71,7 @@ example-ran =
 -- The second: the call is COMPLETE and the server repeatable, there are two dispatches, each of the whole request,
 -- and the client hands up the reply to the second.
 pub twice-ran : (clientSlots serverSlots out : List ℕ) → length clientSlots ≡ slotsSize → length serverSlots ≡ slotsSize → length out ≡ pduSize
-    → Ran (before clientSlots serverSlots) (twice out) twiceOfClient twiceOfServer Complete (Idle Repeatable)
+    → Ran (before clientSlots serverSlots) (twice out) twiceClientPdus twiceServerPdus Complete (Idle Repeatable)
     (record { ordinal = 0; number = 0; call = asking; bytes = question } ∷ record { ordinal = 0; number = 0; call = asking; bytes = question } ∷ [])
     (record { ordinal = 0; bytes = secondReply } ∷ []) secondReply
 twice-ran clientSlots serverSlots out clientRoom serverRoom room =
@@ -81,7 +81,7 @@ twice-ran clientSlots serverSlots out clientRoom serverRoom room =
 -- The third goes on with the next call: it is dispatched once, after both of call 0, and complete with its own reply, though
 -- PDUs of call 0 came late.
 pub twice-and-next-ran : (clientSlots serverSlots out : List ℕ) → length clientSlots ≡ slotsSize → length serverSlots ≡ slotsSize → length out ≡ pduSize
-    → Ran (before clientSlots serverSlots) (twiceAndNext out) twiceAndNextOfClient twiceAndNextOfServer AckPending (Held Data)
+    → Ran (before clientSlots serverSlots) (twiceAndNext out) twiceAndNextClientPdus twiceAndNextServerPdus AckPending (Held Data)
     (record { ordinal = 0; number = 0; call = asking; bytes = question }
     ∷ record { ordinal = 0; number = 0; call = asking; bytes = question }
     ∷ record { ordinal = 1; number = 1; call = called; bytes = question } ∷ [])

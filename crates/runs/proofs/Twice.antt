@@ -24,7 +24,7 @@ use Rattle.server_record.specs.declared.State.the-variants.{Idle, Running, Repl
 use Rattle.server_record.specs.Rules.{sound as serverSound}
 use Rattle.server.specs.HandUp.{handsUp as serverHandsUp}
 use Rattle.history.specs.Fairness.{Typed}
-use Rattle.runs.specs.Runs.{before, activity, called, asking, question, firstReply, secondReply, runOnce, runAgain, twice, nextReply, next, twiceAndNext, twiceAndNextOfClient, twiceAndNextOfServer}
+use Rattle.runs.specs.Runs.{before, activity, called, asking, question, firstReply, secondReply, runOnce, runAgain, twice, nextReply, next, twiceAndNext, twiceAndNextClientPdus, twiceAndNextServerPdus}
 use Rattle.history.proofs.Holding.{cleared-empty, empty-holding, holding-whole}
 use Rattle.history.specs.Lists.{andThen}
 use Rattle.history.proofs.Network.{Uuids}
@@ -83,10 +83,10 @@ module _ (clientSlots serverSlots out : List ℕ) (clientRoom : length clientSlo
 
   -- The first n PDUs of all that the client has sent, and the server.
   abbrev clientSent : ℕ → List SentPdu
-  clientSent n = take n twiceAndNextOfClient
+  clientSent n = take n twiceAndNextClientPdus
 
   abbrev serverSent : ℕ → List SentPdu
-  serverSent n = take n twiceAndNextOfServer
+  serverSent n = take n twiceAndNextServerPdus
 
   -- The client after each of its events.
   abbrev k0 : Side Client

@@ -40,15 +40,16 @@ use Rattle.server_rows.specs.declared.Row.{Row}
 use Rattle.server_rows.specs.declared.Row.the-variants.{Begin, Put, Acknowledge}
 use Rattle.server_rows.specs.Events.{eventOf}
 use Rattle.server_rows.specs.Rows.{rowFor}
+use Rattle.server_steps.specs.declared.Plan.{Plan}
 use Rattle.server_steps.specs.Plan.{accepted}
 use Rattle.server_steps.specs.Rows.{answered, replyPlan, transmitPlan}
 use Rattle.server_steps.proofs.StepLaws.{transmitted-one-more}
 use Rattle.server_arrivals.specs.Rows.{putPlan, requestPlan, beginPlan, fackPlan}
-use Rattle.server_arrivals.specs.Table.{arrivalRow, arrivalPlan}
+use Rattle.server_arrivals.specs.Table.{arrivalRow}
 use Rattle.server_arrivals.proofs.ArrivalLaws.{put-held, begin-held}
-use Rattle.server.specs.Machine.{outcomeOf, sending, planOf, acted, replying, transmitting, arriving}
+use Rattle.server.specs.Machine.{outcomeOf, sending, acted, replying, transmitting, arriving}
 use Rattle.server.proofs.Judging.{CanArrive, begin-fits, put-fits, fack-row, fack-fits, reply-passes, transmit-passes, arrival-passes}
-use Rattle.server.proofs.Accepting.{reply-accepted, transmit-accepted, arrive-accepted}
+use Rattle.server.proofs.Accepting.{reply-accepted, transmit-accepted, arrive-accepted, arrive-row}
 
 -- A reply gives the message's fragment count.
 pub reply-count : (s : Server) (n : ℕ) → replying s n .answer ≡ Done → replying s n .server .outgoing .count ≡ fragments n
@@ -87,9 +88,10 @@ module _ (s : Server) (datagram slots out : List ℕ) (done : arriving s datagra
         → arriving s datagram slots out .slots ≡ storing (arrivalRow row s h n .put) (h .fragment) (bodyOf datagram) slots
 
   accepted-so : Accepted
-  unfolding arriving acted sending outcomeOf planOf arrivalPlan
+  unfolding arriving acted sending outcomeOf
   accepted-so =
       let pass = arrive-accepted s datagram slots out done in
+      let is = arrive-row s datagram slots out done in
       let j = arrival-passes s (lentGround (length slots) (length out)) (reading datagram) (bodyOf datagram) pass in
       record {
         kept = j .0 .kept;
@@ -97,12 +99,11 @@ module _ (s : Server) (datagram slots out : List ℕ) (done : arriving s datagra
         short = body-short datagram (j .0 .done);
         can = j .1;
         leaves =
-            λ (row : Row) (e : rowFor s h ≡ row).
-            ap (λ (g : Ground). arrivalPlan g s h n .server) pass ∙ ap (λ (r : Row). arrivalRow r s h n .server) e;
+            λ (row : Row) (e : rowFor s h ≡ row). ap (λ (p : Plan). p .server) (is ∙ ap (λ (r : Row). arrivalRow r s h n) e);
         stores =
             λ (row : Row) (e : rowFor s h ≡ row).
-            ap (λ (g : Ground). storing (arrivalPlan g s h n .put) (h .fragment) (bodyOf datagram) slots) pass
-            ∙ ap (λ (r : Row). storing (arrivalRow r s h n .put) (h .fragment) (bodyOf datagram) slots) e;
+            ap (λ (p : Plan). storing (p .put) (h .fragment) (bodyOf datagram) slots)
+            (is ∙ ap (λ (r : Row). arrivalRow r s h n) e);
       }
 
   -- After a fack, type 9, acknowledged is the larger of itself and what the fack acknowledges.
