@@ -30,7 +30,7 @@ pub enum Answer {
     WrongFragment,
     // 13: an old call
     OldCall,
-    // 14: a malformed body of a fault, reject or fack
+    // 14: a malformed body of a fault, reject, cancel, fack or cancel_ack
     MalformedBody,
     // 15: the state has no row for the event
     NoRow,

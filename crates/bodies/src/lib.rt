@@ -1,10 +1,11 @@
-// The bodies of fack, fault and reject.
+// The bodies of fack, fault, reject, cancel and cancel_ack.
 use answers::Answer;
 use answers::Ground;
 use words::PDU_SIZE;
 ghost use mathlib.Core.Path.{_≡_};
 ghost use Rattle.bodies.specs.Fack.{fackGround, fackOf, blankFack, fackReading, fackBytes, fackSent};
 ghost use Rattle.bodies.specs.Status.{statusReading, statusBytes};
+ghost use Rattle.bodies.specs.Cancel.{cancelFormed, cancelWhere, cancelReading, cancelBytes, cancelAckFormed, cancelAckWhere, cancelAckReading, cancelAckBytes};
 
 // A fack's body, with its first mask.
 pub struct Fack {
@@ -25,6 +26,19 @@ pub struct FackReading {
 pub struct StatusReading {
     pub answer: Answer,
     pub status: u32,
+}
+
+// A cancel's number.
+pub struct CancelReading {
+    pub answer: Answer,
+    pub number: u32,
+}
+
+// The number of the cancel answered, and whether the server accepts cancels.
+pub struct CancelAckReading {
+    pub answer: Answer,
+    pub number: u32,
+    pub accepts: bool,
 }
 
 // Malformed is a body under 16 bytes, another version than 0, or another length than 16 + 4w.
@@ -144,4 +158,88 @@ pub fn write_status(status: u32) -> [u8; 4]
     ensures { λ r. ⌜ r ≡ statusBytes status ⌝ }
 {
     words::split32(status)
+}
+
+// Whether a cancel's body is well formed: 8 bytes, version 0.
+fn is_cancel_formed(size: usize, version: u32) -> bool
+    ensures { λ r. ⌜ r ≡ cancelFormed size version ⌝ }
+{
+    words::both(size == 8, version == 0)
+}
+
+// The number, where the body is well formed.
+fn cancel_where(formed: bool, number: u32) -> CancelReading
+    ensures { λ r. ⌜ r ≡ cancelWhere formed number ⌝ }
+{
+    if formed {
+        return CancelReading {
+            answer: Answer::Done,
+            number,
+        };
+    }
+    CancelReading {
+        answer: Answer::MalformedBody,
+        number: 0,
+    }
+}
+
+// Reads a cancel's body in the sender's order.
+pub fn read_cancel(body: &[u8], little: bool) -> CancelReading
+    ensures { λ r. ⌜ r ≡ cancelReading little (now (body .entry)) ⌝ }
+{
+    let version = words::number32(body, 0, little);
+    let number = words::number32(body, 4, little);
+    cancel_where(is_cancel_formed(body.len(), version), number)
+}
+
+// The body of a cancel with that number.
+pub fn write_cancel(number: u32) -> [u8; 8]
+    ensures { λ r. ⌜ r ≡ cancelBytes number ⌝ }
+{
+    let n = words::split32(number);
+    [0, 0, 0, 0, n[0], n[1], n[2], n[3]]
+}
+
+// Whether a cancel_ack's body is well formed: 12 bytes, version 0, accepts 0 or 1.
+fn is_cancel_ack_formed(size: usize, version: u32, accepts: u32) -> bool
+    ensures { λ r. ⌜ r ≡ cancelAckFormed size version accepts ⌝ }
+{
+    words::both(size == 12, words::both(version == 0, accepts <= 1))
+}
+
+// The fields, where the body is well formed.
+fn cancel_ack_where(formed: bool, number: u32, accepts: bool) -> CancelAckReading
+    ensures { λ r. ⌜ r ≡ cancelAckWhere formed number accepts ⌝ }
+{
+    if formed {
+        return CancelAckReading {
+            answer: Answer::Done,
+            number,
+            accepts,
+        };
+    }
+    CancelAckReading {
+        answer: Answer::MalformedBody,
+        number: 0,
+        accepts: false,
+    }
+}
+
+// Reads a cancel_ack's body in the sender's order.
+pub fn read_cancel_ack(body: &[u8], little: bool) -> CancelAckReading
+    ensures { λ r. ⌜ r ≡ cancelAckReading little (now (body .entry)) ⌝ }
+{
+    let version = words::number32(body, 0, little);
+    let number = words::number32(body, 4, little);
+    let accepts = words::number32(body, 8, little);
+    let formed = is_cancel_ack_formed(body.len(), version, accepts);
+    cancel_ack_where(formed, number, accepts == 1)
+}
+
+// The body of a cancel_ack for the cancel of that number.
+pub fn write_cancel_ack(number: u32, accepts: bool) -> [u8; 12]
+    ensures { λ r. ⌜ r ≡ cancelAckBytes number accepts ⌝ }
+{
+    let n = words::split32(number);
+    [0, 0, 0, 0, n[0], n[1], n[2], n[3], words::mark(accepts), 0, 0, 0]
 }

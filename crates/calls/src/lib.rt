@@ -22,10 +22,12 @@ pub enum Notice {
     // The status of a fault or reject that came.
     Fault(u32),
     Reject(u32),
-    // A failure found here: 1 no response, 2 no call at the server.
+    // A failure found here: 1 no response, 2 no call at the server, 3 no answer to a cancel.
     Cause(u8),
     // A whole request is to be executed.
     Dispatch,
+    // The call that is running is to be given up, if the stub can.
+    Cancel,
 }
 
 // What was sent: nothing, or a PDU that is so many bytes at the front of the PDU buffer.

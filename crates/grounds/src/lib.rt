@@ -11,6 +11,7 @@ ghost use Prim.Native.Nat.{_%_};
 ghost use Rattle.grounds.specs.Order.{first, refuseIf, groundOf};
 ghost use Rattle.grounds.specs.Fragment.{isLast, wantsFack, fragmentGround, putGround};
 ghost use Rattle.grounds.specs.Fack.{acknowledgedBy, fackCountGround, fackBodyGround, statusBodyGround};
+ghost use Rattle.grounds.specs.Cancel.{cancelBodyGround};
 ghost use Rattle.grounds.specs.Entry.{same, lentGround, sameMessage, transmitLent, entryGround};
 ghost use Rattle.grounds.specs.Timing.{lateGround, ticketGround};
 
@@ -35,7 +36,7 @@ pub fn refuse_if(test: bool, answer: Answer) -> Ground
 }
 
 // The ground that an answer stands for: 0 passes.
-fn of_answer(answer: Answer) -> Ground
+pub fn of_answer(answer: Answer) -> Ground
     ensures { λ r. ⌜ r ≡ groundOf answer ⌝ }
 {
     let number = answers::number(answer);
@@ -171,6 +172,15 @@ pub fn status_body(body: &[u8], little: bool) -> Ground
     ensures { λ r. ⌜ r ≡ statusBodyGround little (now (body .entry)) ⌝ }
 {
     let reading = bodies::read_status(body, little);
+    let answer = reading.answer;
+    of_answer(answer)
+}
+
+// 14, of a cancel.
+pub fn cancel_body(body: &[u8], little: bool) -> Ground
+    ensures { λ r. ⌜ r ≡ cancelBodyGround little (now (body .entry)) ⌝ }
+{
+    let reading = bodies::read_cancel(body, little);
     let answer = reading.answer;
     of_answer(answer)
 }

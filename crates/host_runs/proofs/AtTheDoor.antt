@@ -6,11 +6,10 @@ use mathlib.Core.Path.{_≡_, refl, sym, ap, subst, _∙_}
 use native.Mathlib.Omega.{arith}
 use lib.ListN.{length}
 use borrow.Author.Tests.{eq-eqb}
-use Rattle.words.specs.Choice.{choose}
+use Rattle.words.specs.Choice.{choose, markOf}
 use Rattle.words.proofs.Tests.{choose-true, both-hold}
 use Rattle.answers.specs.Number.{numberOf}
 use Rattle.calls.specs.declared.Call.{Call}
-use Rattle.record_bytes.specs.Parts.{markOf}
 use Rattle.record_bytes.specs.Fits.{Uuid, FitsCall}
 use Rattle.record_bytes.proofs.PartLaws.{mark-back, mark-readable, mark-small}
 use Rattle.client_record.specs.declared.State.{State as ClientState}

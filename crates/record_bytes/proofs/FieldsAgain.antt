@@ -6,12 +6,13 @@ use mathlib.Core.Path.{_≡_, refl, sym, ap, subst, _∙_}
 use native.Mathlib.Omega.{arith}
 use lib.Dec.{eqb, leb}
 use lib.ListN.{length, getD, drop, replicate, length-drop, take-append-drop}
+use Rattle.words.specs.Choice.{markOf}
 use Rattle.words.specs.Number.{digits, part, number}
 use Rattle.words.proofs.Number.{digits-part, part-take, length-part}
 use Rattle.words.proofs.Tests.{both-true}
 use Rattle.record_bytes.specs.Fits.{Octets, Uuid, FitsFields}
 use Rattle.record_bytes.specs.Canonical.{TicketClear, LengthsClear}
-use Rattle.record_bytes.specs.Parts.{markOf, timerWhere, isArmed, timerTicket, lastField, lastOf, uuidIn}
+use Rattle.record_bytes.specs.Parts.{timerWhere, isArmed, timerTicket, lastField, lastOf, uuidIn}
 use Rattle.record_bytes.specs.Held.{slotsBytes, slotsBelow, slotsIn, slotsReadable}
 use Rattle.record_bytes.specs.Layout.{lastReadable, marksReadable, sparesReadable, readable}
 use Rattle.record_bytes.specs.Layout.{callIn, outgoingIn, incomingIn, fieldsIn}

@@ -5,14 +5,14 @@ use mathlib.Core.List.{List, _∷_, _++_}
 use mathlib.Core.Path.{_≡_, subst}
 use native.Mathlib.Omega.{arith}
 use lib.ListN.{length, drop, replicate}
-use Rattle.words.specs.Choice.{choose, both}
+use Rattle.words.specs.Choice.{choose, both, markOf}
 use Rattle.words.specs.Number.{digits, part, number}
 use Rattle.words.proofs.Number.{value-bytes, part-all}
 use Rattle.words.proofs.Tests.{both-hold}
 use Rattle.record_bytes.specs.declared.Fields.{Fields}
 use Rattle.record_bytes.specs.Fits.{Octets, FitsFields}
 use Rattle.record_bytes.specs.Canonical.{TicketClear, LengthsClear}
-use Rattle.record_bytes.specs.Parts.{markOf, isArmed, timerTicket, lastField, clear}
+use Rattle.record_bytes.specs.Parts.{isArmed, timerTicket, lastField, clear}
 use Rattle.record_bytes.specs.Held.{slotsBytes}
 use Rattle.record_bytes.specs.Layout.{marksReadable, sparesReadable, readable}
 use Rattle.record_bytes.specs.Layout.{callIn, outgoingIn, incomingIn, fieldsIn}

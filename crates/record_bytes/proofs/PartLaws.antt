@@ -8,7 +8,7 @@ use lib.Dec.{eqb, leb}
 use lib.ListN.{length, take, drop, replicate, length-drop}
 use lib.Seq.{length-take-le}
 use borrow.Author.Tests.{lt-ltb, ne-eqb}
-use Rattle.words.specs.Choice.{choose, either}
+use Rattle.words.specs.Choice.{choose, either, markOf}
 use Rattle.words.specs.Number.{digits, part, number}
 use Rattle.words.proofs.Number.{value-bytes, part-take, part-all}
 use Rattle.incoming.specs.declared.Last.{Last}
@@ -16,7 +16,7 @@ use Rattle.incoming.specs.declared.Last.the-variants.{Unknown, At}
 use Rattle.timers.specs.declared.Timer.{Timer}
 use Rattle.timers.specs.declared.Timer.the-variants.{Off, Armed}
 use Rattle.record_bytes.specs.Fits.{FitsLast, FitsTimer}
-use Rattle.record_bytes.specs.Parts.{markOf, timerWhere, isArmed, timerTicket, lastField, lastOf, uuidIn}
+use Rattle.record_bytes.specs.Parts.{timerWhere, isArmed, timerTicket, lastField, lastOf, uuidIn}
 use Rattle.record_bytes.specs.Layout.{lastReadable}
 use Rattle.record_bytes.proofs.HeldLaws.{placed-all}
 

@@ -8,14 +8,14 @@ use lib.Dec.{eqb, leb, ltb}
 use lib.ListN.{getD, drop, replicate}
 use lib.Seq.{getD-drop}
 use borrow.Author.Tests.{ltb-true, leb-true, eqb-true, eqb-false}
-use Rattle.words.specs.Choice.{choose, both, either}
+use Rattle.words.specs.Choice.{choose, both, either, markOf}
 use Rattle.words.specs.Number.{part, number}
 use Rattle.words.specs.Sizes.{retryLimit}
 use Rattle.words.proofs.Tests.{both-true, choose-true}
 use Rattle.incoming.specs.declared.Last.the-variants.{Unknown, At}
 use Rattle.record_bytes.specs.Fits.{FitsLast, FitsTimer}
 use Rattle.record_bytes.specs.Canonical.{TicketClear}
-use Rattle.record_bytes.specs.Parts.{markOf, timerWhere, isArmed, timerTicket, lastField, lastOf}
+use Rattle.record_bytes.specs.Parts.{timerWhere, isArmed, timerTicket, lastField, lastOf}
 use Rattle.record_bytes.specs.Parts.{clear, countWhere}
 use Rattle.record_bytes.specs.Layout.{lastReadable}
 

@@ -7,7 +7,7 @@ use native.Mathlib.Numerals.{add-one}
 use native.Mathlib.Omega.{arith}
 use lib.ListN.{length, getD, drop, drop-of-length-le}
 use lib.Seq.{drop-cons}
-use Rattle.words.specs.Choice.{choose, both}
+use Rattle.words.specs.Choice.{choose, both, markOf}
 use Rattle.words.specs.Number.{digits, number}
 use Rattle.words.specs.Sizes.{windowSize}
 use Rattle.words.proofs.Number.{value-bytes}
@@ -15,7 +15,6 @@ use Rattle.incoming.specs.declared.Slot.{Slot}
 use Rattle.incoming.specs.Slots.{missing}
 use Rattle.record_bytes.specs.Fits.{Octets, FitsSlot, FitsSlots}
 use Rattle.record_bytes.specs.Canonical.{LengthsClear}
-use Rattle.record_bytes.specs.Parts.{markOf}
 use Rattle.record_bytes.specs.Held.{lengthWhere, slotBytes, slotsBytes, slotIn, slotsBelow, slotsIn}
 use Rattle.record_bytes.specs.Held.{slotReadable, readableBelow, slotsReadable}
 use Rattle.record_bytes.proofs.PartLaws.{mark-readable, mark-small}

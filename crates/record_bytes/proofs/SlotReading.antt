@@ -7,7 +7,7 @@ use native.Mathlib.Omega.{arith}
 use lib.Dec.{eqb, leb}
 use lib.ListN.{length, getD}
 use borrow.Author.Tests.{eqb-true}
-use Rattle.words.specs.Choice.{choose}
+use Rattle.words.specs.Choice.{choose, markOf}
 use Rattle.words.specs.Number.{digits, part, number}
 use Rattle.words.specs.Sizes.{windowSize}
 use Rattle.words.proofs.Number.{digits-part, part-all}
@@ -15,7 +15,6 @@ use Rattle.words.proofs.Tests.{both-true}
 use Rattle.incoming.specs.declared.Slot.{Slot}
 use Rattle.record_bytes.specs.Fits.{Octets, FitsSlot, FitsSlots}
 use Rattle.record_bytes.specs.Canonical.{LengthsClear}
-use Rattle.record_bytes.specs.Parts.{markOf}
 use Rattle.record_bytes.specs.Held.{lengthWhere, slotsBytes, slotIn, slotsBelow, slotsIn}
 use Rattle.record_bytes.specs.Held.{slotReadable, readableBelow, slotsReadable}
 use Rattle.record_bytes.proofs.ByteLaws.{octet-at, number-below}

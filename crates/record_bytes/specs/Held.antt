@@ -4,12 +4,11 @@ use mathlib.Core.Bool.{Bool, true}
 use mathlib.Core.List.{List, [], _∷_, _++_}
 use lib.ListN.{getD, set, replicate}
 use lib.Dec.{eqb, leb}
-use Rattle.words.specs.Choice.{choose, both}
+use Rattle.words.specs.Choice.{choose, both, markOf}
 use Rattle.words.specs.Number.{digits, number}
 use Rattle.words.specs.Sizes.{windowSize}
 use Rattle.incoming.specs.declared.Slot.{Slot}
 use Rattle.incoming.specs.Slots.{missing}
-use Rattle.record_bytes.specs.Parts.{markOf}
 
 -- The length of a missing fragment is not judged, and written 0.
 unfoldable pub lengthWhere : Bool → ℕ → ℕ

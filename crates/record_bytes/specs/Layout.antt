@@ -4,13 +4,13 @@ use mathlib.Core.Bool.{Bool, true}
 use mathlib.Core.List.{List, _∷_, _++_}
 use lib.ListN.{getD, drop, replicate}
 use lib.Dec.{eqb, ltb, leb}
-use Rattle.words.specs.Choice.{both, either}
+use Rattle.words.specs.Choice.{both, either, markOf}
 use Rattle.words.specs.Number.{digits, number}
 use Rattle.calls.specs.declared.Call.{Call}
 use Rattle.incoming.specs.declared.Incoming.{Incoming}
 use Rattle.outgoing.specs.declared.Outgoing.{Outgoing}
 use Rattle.record_bytes.specs.declared.Fields.{Fields}
-use Rattle.record_bytes.specs.Parts.{markOf, timerWhere, isArmed, timerTicket, lastField, lastOf, uuidIn, clear}
+use Rattle.record_bytes.specs.Parts.{timerWhere, isArmed, timerTicket, lastField, lastOf, uuidIn, clear}
 use Rattle.record_bytes.specs.Held.{slotsBytes, slotsIn, slotsReadable}
 
 -- The known last fits a byte, or is 65535: unknown.

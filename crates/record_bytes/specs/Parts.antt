@@ -11,10 +11,6 @@ use Rattle.incoming.specs.declared.Last.the-variants.{Unknown, At}
 use Rattle.timers.specs.declared.Timer.{Timer}
 use Rattle.timers.specs.declared.Timer.the-variants.{Off, Armed}
 
--- The byte of a test.
-unfoldable pub markOf : Bool → ℕ
-markOf test = choose test 1 0
-
 -- The timer with that ticket where it is armed; and whether one is armed, and its ticket, 0 where none is.
 unfoldable pub timerWhere : Bool → ℕ → Timer
 timerWhere armed ticket = choose armed (Armed ticket) Off

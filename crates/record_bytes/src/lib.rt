@@ -12,7 +12,7 @@ ghost use mathlib.Core.Path.{_≡_};
 ghost use Prim.Native.Nat.{_+_, _*_};
 ghost use Rattle.words.specs.Number.{digits, number};
 ghost use Rattle.words.specs.Place.{placed};
-ghost use Rattle.record_bytes.specs.Parts.{markOf, timerWhere, isArmed, timerTicket, lastField, lastOf, uuidIn, clear, countWhere};
+ghost use Rattle.record_bytes.specs.Parts.{timerWhere, isArmed, timerTicket, lastField, lastOf, uuidIn, clear, countWhere};
 ghost use Rattle.record_bytes.specs.Held.{lengthWhere, slotBytes, slotsBytes, slotIn, slotsIn, slotReadable, slotsReadable};
 ghost use Rattle.record_bytes.specs.Layout.{lastReadable, marksReadable, sparesReadable, readable, callIn, outgoingIn, incomingIn, fieldsIn, frontBytes, numberBytes, backBytes, laidBytes, fieldBytes};
 
@@ -40,16 +40,6 @@ pub struct Fields {
     pub armed: bool,
     // The ticket of a client's ACK timer, the status of a server's fault.
     pub word: u64,
-}
-
-// 1 where the test holds, else 0.
-fn mark(test: bool) -> u8
-    ensures { λ r. ⌜ r ≡ markOf test ⌝ }
-{
-    if test {
-        return 1;
-    }
-    0
 }
 
 // The timer with that ticket, where it is armed.
@@ -228,7 +218,7 @@ fn slot_bytes(held: bool, length: u16) -> [u8; 4]
     ensures { λ r. ⌜ r ≡ slotBytes held length ⌝ }
 {
     let n = length_where(held, length);
-    [(n % 256) as u8, (n / 256 % 256) as u8, mark(held), 0]
+    [(n % 256) as u8, (n / 256 % 256) as u8, words::mark(held), 0]
 }
 
 // The 128 bytes of the slots.
@@ -521,7 +511,7 @@ pub fn encode(fields: Fields, out: &mut [u8])
     let interface = call.interface;
     let front = front(
         fields.state,
-        mark(call.idempotent),
+        words::mark(call.idempotent),
         fields.count,
         fields.extra,
         outgoing,
@@ -532,7 +522,7 @@ pub fn encode(fields: Fields, out: &mut [u8])
     let tickets = split64(fields.tickets);
     let first = split64(timer_ticket(timer));
     let second = split64(fields.word);
-    let back = back(mark(is_armed(timer)), mark(fields.armed));
+    let back = back(words::mark(is_armed(timer)), words::mark(fields.armed));
     let held = slots_bytes(slots);
     lay(
         front,

@@ -7,12 +7,12 @@ use native.Mathlib.Omega.{arith}
 use lib.Dec.{eqb}
 use lib.ListN.{length, getD, replicate}
 use borrow.Author.Tests.{le-leb, leb-true, eqb-true}
-use Rattle.words.specs.Choice.{choose, both}
+use Rattle.words.specs.Choice.{choose, both, markOf}
 use Rattle.words.specs.Number.{le, digits, part, number}
 use Rattle.words.proofs.Number.{value-bytes}
 use Rattle.words.proofs.Tests.{both-hold, both-true}
 use Rattle.record_bytes.specs.Fits.{Octets, FitsFields}
-use Rattle.record_bytes.specs.Parts.{markOf, clear, countWhere, timerWhere, uuidIn}
+use Rattle.record_bytes.specs.Parts.{clear, countWhere, timerWhere, uuidIn}
 use Rattle.record_bytes.specs.Layout.{readable as sharedReadable, callIn, outgoingIn, incomingIn, fieldsIn, fieldBytes}
 use Rattle.record_bytes.proofs.ByteLaws.{number-below}
 use Rattle.record_bytes.proofs.FieldsBack.{fields-back, bytes-readable, length-fields, octets-fields}

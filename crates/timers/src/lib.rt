@@ -1,6 +1,6 @@
 // Timers: off, or armed with a ticket that a record's one counter gives out.
 ghost use mathlib.Core.Path.{_≡_};
-ghost use Rattle.timers.specs.Tickets.{usedUp, nextTicket, armedAfresh, armedWith, off, sound, timerSound};
+ghost use Rattle.timers.specs.Tickets.{usedUp, nextTicket, armedAfresh, armedIfOff, ticketsIfOff, armedWith, off, sound, timerSound};
 
 // The largest counter.
 const LARGEST: u64 = 18446744073709551615;
@@ -33,6 +33,26 @@ pub fn armed_afresh(counter: u64) -> Timer
 {
     let ticket = next_ticket(counter);
     Timer::Armed(ticket)
+}
+
+// The timer armed with the next ticket where it is off; one that is armed stays as it is.
+pub fn armed_if_off(timer: Timer, counter: u64) -> Timer
+    ensures { λ r. ⌜ r ≡ armedIfOff timer counter ⌝ }
+{
+    match timer {
+        Timer::Off => armed_afresh(counter),
+        Timer::Armed(held) => Timer::Armed(held),
+    }
+}
+
+// The counter after that.
+pub fn tickets_if_off(timer: Timer, counter: u64) -> u64
+    ensures { λ r. ⌜ r ≡ ticketsIfOff timer counter ⌝ }
+{
+    match timer {
+        Timer::Off => next_ticket(counter),
+        Timer::Armed(_) => counter,
+    }
 }
 
 // Whether the timer is armed with that very ticket; else its event is late.

@@ -3,9 +3,9 @@ use borrow.Author.Needs.{needs}
 use Prim.Native.Nat.{ℕ}
 use mathlib.Core.List.{List}
 use mathlib.Core.Path.{ap, _∙_}
+use Rattle.words.specs.Choice.{markOf}
 use Rattle.words.specs.Number.{digits}
 use Rattle.words.specs.Place.{placed}
-use Rattle.record_bytes.specs.Parts.{markOf}
 use Rattle.record_bytes.specs.Layout.{backBytes, fieldBytes}
 use Rattle.record_bytes.proofs.Laying.{front-same, parts-same}
 use Rattle.record_bytes.proofs.encode.Statement.{statement}
