@@ -6,20 +6,23 @@ use Rattle.words.specs.Sizes.{retryLimit}
 use Rattle.timers.specs.declared.Timer.{Timer}
 use Rattle.client_record.specs.declared.State.{State}
 use Rattle.client_record.specs.declared.TimerKind.{TimerKind}
-use Rattle.client_record.specs.declared.TimerKind.the-variants.{Wait, Ack}
-use Rattle.client_record.specs.States.{isWaiting, isAckPending}
+use Rattle.client_record.specs.declared.TimerKind.the-variants.{Wait, Ack, Cancel}
+use Rattle.client_record.specs.States.{isActive, isWaiting, isAckPending}
 
 -- The timer of a kind.
-unfoldable pub namedTimer : TimerKind → Timer → Timer → Timer
-namedTimer Wait wait ack = wait
-namedTimer Ack wait ack = ack
+unfoldable pub namedTimer : TimerKind → Timer → Timer → Timer → Timer
+namedTimer Wait wait ack cancel = wait
+namedTimer Ack wait ack cancel = ack
+namedTimer Cancel wait ack cancel = cancel
 
 -- The states that have the row of a timer.
 unfoldable pub namedBy : TimerKind → State → Bool
 namedBy Wait state = isWaiting state
 namedBy Ack state = isAckPending state
+namedBy Cancel state = isActive state
 
--- WAIT arms afresh while its count is below 5.
+-- WAIT arms afresh while its count is below 5; ACK and CANCEL arm nothing.
 unfoldable pub pings : TimerKind → ℕ → Bool
 pings Wait waits = ltb waits retryLimit
 pings Ack waits = false
+pings Cancel waits = false

@@ -1,5 +1,5 @@
-// The client's record: what a console keeps of its activity, the rules that a record keeps, the three
-// ways in which a row leaves its timers, the record with another part, and which timer a row arms.
+// The client's record: what a console keeps of its activity, the rules that a record keeps, the ways in
+// which a row leaves its timers, the record with another part, and which timer a row arms.
 use calls::Call;
 use incoming::Incoming;
 use outgoing::Outgoing;
@@ -8,7 +8,7 @@ use words::RETRY_LIMIT;
 ghost use mathlib.Core.Path.{_≡_};
 ghost use Rattle.client_record.specs.States.{mayStart, isQueued, isSending, isActive, isDispatched, isWaiting, isAckPending};
 ghost use Rattle.client_record.specs.Rules.{countsSound, messageRule, outgoingSound, timersSound, sound};
-ghost use Rattle.client_record.specs.Record.{fresh as freshRecord, timed, waiting, ackPending, unarmed, withOutgoing, withIncoming, withWaits, withResends, withCall};
+ghost use Rattle.client_record.specs.Record.{fresh as freshRecord, timed, waiting, sending, ackPending, unarmed, cancelArmed, cancelDisarmed, withOutgoing, withIncoming, withWaits, withResends, withCancels, withCall};
 ghost use Rattle.client_record.specs.Arming.{namedTimer, namedBy, pings};
 
 pub enum State {
@@ -25,6 +25,7 @@ pub enum State {
 pub enum TimerKind {
     Wait,
     Ack,
+    Cancel,
 }
 
 // The number and the call mean nothing in QUEUED.
@@ -37,9 +38,12 @@ pub struct Client {
     pub incoming: Incoming,
     pub waits: u8,
     pub resends: u8,
+    // The cancel number: how often the call was cancelled here.
+    pub cancels: u32,
     pub tickets: u64,
     pub wait: Timer,
     pub ack: Timer,
+    pub cancel: Timer,
 }
 
 // Whether a call can start.
@@ -87,7 +91,8 @@ pub fn is_sending(state: State) -> bool
     }
 }
 
-// Whether the state is one of the three active ones: SEND_FRAGS, DISPATCHED and RECEIVE_FRAGS.
+// Whether the state is one of the three active ones, SEND_FRAGS, DISPATCHED and RECEIVE_FRAGS, which
+// name the timer CANCEL.
 pub fn is_active(state: State) -> bool
     ensures { λ r. ⌜ r ≡ isActive state ⌝ }
 {
@@ -181,15 +186,13 @@ fn outgoing_is_sound(state: State, o: Outgoing) -> bool
 }
 
 // Whether each timer is off, or named by the state and its ticket at most the counter.
-fn timers_are_sound(state: State, wait: Timer, ack: Timer, tickets: u64) -> bool
-    ensures { λ r. ⌜ r ≡ timersSound state wait ack tickets ⌝ }
+fn timers_are_sound(state: State, wait: Timer, ack: Timer, cancel: Timer, tickets: u64) -> bool
+    ensures { λ r. ⌜ r ≡ timersSound state wait ack cancel tickets ⌝ }
 {
-    let waiting = is_waiting(state);
-    let pending = is_ack_pending(state);
-    words::both(
-        timers::is_sound_where(waiting, wait, tickets),
-        timers::is_sound_where(pending, ack, tickets),
-    )
+    let waiting = timers::is_sound_where(is_waiting(state), wait, tickets);
+    let pending = timers::is_sound_where(is_ack_pending(state), ack, tickets);
+    let active = timers::is_sound_where(is_active(state), cancel, tickets);
+    words::both(waiting, words::both(pending, active))
 }
 
 // Whether the record keeps its rules.
@@ -201,10 +204,11 @@ pub fn is_sound(c: Client) -> bool
     let m = c.incoming;
     let wait = c.wait;
     let ack = c.ack;
+    let cancel = c.cancel;
     let counts = counts_are_sound(c.waits, c.resends);
     let sending = outgoing_is_sound(state, o);
     let receiving = incoming::is_sound(m);
-    let timing = timers_are_sound(state, wait, ack, c.tickets);
+    let timing = timers_are_sound(state, wait, ack, cancel, c.tickets);
     words::both(counts, words::both(sending, words::both(receiving, timing)))
 }
 
@@ -221,15 +225,24 @@ pub fn fresh(activity: [u8; 16], tickets: u64) -> Client
         incoming: incoming::empty(),
         waits: 0,
         resends: 0,
+        cancels: 0,
         tickets,
         wait: Timer::Off,
         ack: Timer::Off,
+        cancel: Timer::Off,
     }
 }
 
 // The record in another state, with these timers and this counter.
-fn with_timers(c: Client, state: State, tickets: u64, wait: Timer, ack: Timer) -> Client
-    ensures { λ r. ⌜ r ≡ timed c state tickets wait ack ⌝ }
+fn with_timers(
+    c: Client,
+    state: State,
+    tickets: u64,
+    wait: Timer,
+    ack: Timer,
+    cancel: Timer,
+) -> Client
+    ensures { λ r. ⌜ r ≡ timed c state tickets wait ack cancel ⌝ }
 {
     let activity = c.activity;
     let call = c.call;
@@ -244,19 +257,30 @@ fn with_timers(c: Client, state: State, tickets: u64, wait: Timer, ack: Timer) -
         incoming,
         waits: c.waits,
         resends: c.resends,
+        cancels: c.cancels,
         tickets,
         wait,
         ack,
+        cancel,
     }
 }
 
-// To a state with only WAIT armed, afresh.
+// To a state of the active call, WAIT armed afresh; CANCEL stays as it is.
 pub fn to_waiting(c: Client, state: State) -> Client
     ensures { λ r. ⌜ r ≡ waiting c state ⌝ }
 {
+    let cancel = c.cancel;
     let tickets = timers::next_ticket(c.tickets);
     let wait = timers::armed_afresh(c.tickets);
-    with_timers(c, state, tickets, wait, Timer::Off)
+    with_timers(c, state, tickets, wait, Timer::Off, cancel)
+}
+
+// To SEND_FRAGS, WAIT disarmed; CANCEL stays as it is.
+pub fn to_sending(c: Client) -> Client
+    ensures { λ r. ⌜ r ≡ sending c ⌝ }
+{
+    let cancel = c.cancel;
+    with_timers(c, State::SendFrags, c.tickets, Timer::Off, Timer::Off, cancel)
 }
 
 // To ACK_PENDING with only ACK armed.
@@ -265,14 +289,37 @@ pub fn to_ack_pending(c: Client) -> Client
 {
     let tickets = timers::next_ticket(c.tickets);
     let ack = timers::armed_afresh(c.tickets);
-    with_timers(c, State::AckPending, tickets, Timer::Off, ack)
+    with_timers(c, State::AckPending, tickets, Timer::Off, ack, Timer::Off)
 }
 
 // To a state with nothing armed.
 pub fn to_unarmed(c: Client, state: State) -> Client
     ensures { λ r. ⌜ r ≡ unarmed c state ⌝ }
 {
-    with_timers(c, state, c.tickets, Timer::Off, Timer::Off)
+    with_timers(c, state, c.tickets, Timer::Off, Timer::Off, Timer::Off)
+}
+
+// CANCEL armed if it is not; the state and the other timers stay as they are.
+pub fn arm_cancel(c: Client) -> Client
+    ensures { λ r. ⌜ r ≡ cancelArmed c ⌝ }
+{
+    let state = c.state;
+    let wait = c.wait;
+    let ack = c.ack;
+    let cancel = c.cancel;
+    let tickets = timers::tickets_if_off(cancel, c.tickets);
+    let armed = timers::armed_if_off(cancel, c.tickets);
+    with_timers(c, state, tickets, wait, ack, armed)
+}
+
+// CANCEL disarmed, and nothing else.
+pub fn disarm_cancel(c: Client) -> Client
+    ensures { λ r. ⌜ r ≡ cancelDisarmed c ⌝ }
+{
+    let state = c.state;
+    let wait = c.wait;
+    let ack = c.ack;
+    with_timers(c, state, c.tickets, wait, ack, Timer::Off)
 }
 
 // The record with another message sent.
@@ -311,6 +358,15 @@ pub fn with_resends(c: Client, resends: u8) -> Client
     next
 }
 
+// The record with another cancel number.
+pub fn with_cancels(c: Client, cancels: u32) -> Client
+    ensures { λ r. ⌜ r ≡ withCancels c cancels ⌝ }
+{
+    let mut next = c;
+    next.cancels = cancels;
+    next
+}
+
 // Another call in place of the last one, of which nothing stays.
 pub fn with_call(c: Client, state: State, number: u32, call: Call, outgoing: Outgoing) -> Client
     ensures { λ r. ⌜ r ≡ withCall c state number call outgoing ⌝ }
@@ -325,19 +381,22 @@ pub fn with_call(c: Client, state: State, number: u32, call: Call, outgoing: Out
         incoming: incoming::empty(),
         waits: 0,
         resends: 0,
+        cancels: 0,
         tickets: c.tickets,
         wait: Timer::Off,
         ack: Timer::Off,
+        cancel: Timer::Off,
     }
 }
 
 // The timer of a kind.
-pub fn timer_of(kind: TimerKind, wait: Timer, ack: Timer) -> Timer
-    ensures { λ r. ⌜ r ≡ namedTimer kind wait ack ⌝ }
+pub fn timer_of(kind: TimerKind, wait: Timer, ack: Timer, cancel: Timer) -> Timer
+    ensures { λ r. ⌜ r ≡ namedTimer kind wait ack cancel ⌝ }
 {
     match kind {
         TimerKind::Wait => wait,
         TimerKind::Ack => ack,
+        TimerKind::Cancel => cancel,
     }
 }
 
@@ -348,6 +407,7 @@ pub fn is_named(kind: TimerKind, state: State) -> bool
     match kind {
         TimerKind::Wait => is_waiting(state),
         TimerKind::Ack => is_ack_pending(state),
+        TimerKind::Cancel => is_active(state),
     }
 }
 
@@ -358,5 +418,6 @@ pub fn arms_afresh(kind: TimerKind, waits: u8) -> bool
     match kind {
         TimerKind::Wait => waits < RETRY_LIMIT,
         TimerKind::Ack => false,
+        TimerKind::Cancel => false,
     }
 }

@@ -16,7 +16,7 @@ use Rattle.server_record.specs.declared.State.{State}
 use Rattle.server_record.specs.declared.State.the-variants.{Idle as IdleState, Held}
 use Rattle.server_record.specs.declared.Server.{Server}
 
--- Fresh: IDLE fresh, no number, counts 0, nothing held or armed, any ticket counter.
+-- Fresh: IDLE fresh, no number, counts and cancel number last seen 0, nothing held or armed, any ticket counter.
 unfoldable pub fresh : List ℕ → ℕ → ℕ → Server
 fresh activity boot tickets = record {
   state = IdleState Fresh;
@@ -27,6 +27,7 @@ fresh activity boot tickets = record {
   outgoing = noMessage 0;
   incoming = cleared;
   resends = 0;
+  seen = 0;
   tickets = tickets;
   resend = Off;
 }
@@ -42,6 +43,7 @@ timed s state tickets resend = record {
   outgoing = s .outgoing;
   incoming = s .incoming;
   resends = s .resends;
+  seen = s .seen;
   tickets = tickets;
   resend = resend;
 }
@@ -65,6 +67,7 @@ withOutgoing s o = record {
   outgoing = o;
   incoming = s .incoming;
   resends = s .resends;
+  seen = s .seen;
   tickets = s .tickets;
   resend = s .resend;
 }
@@ -80,6 +83,7 @@ withIncoming s m = record {
   outgoing = s .outgoing;
   incoming = m;
   resends = s .resends;
+  seen = s .seen;
   tickets = s .tickets;
   resend = s .resend;
 }
@@ -95,12 +99,29 @@ withResends s resends = record {
   outgoing = s .outgoing;
   incoming = s .incoming;
   resends = resends;
+  seen = s .seen;
   tickets = s .tickets;
   resend = s .resend;
 }
 
--- Another call in place of the last one, of which nothing stays: its number and data; no message, counts 0, slots and
--- known last forgotten, nothing armed.
+-- The record with another cancel number last seen.
+unfoldable pub withSeen : Server → ℕ → Server
+withSeen s seen = record {
+  state = s .state;
+  activity = s .activity;
+  boot = s .boot;
+  number = s .number;
+  call = s .call;
+  outgoing = s .outgoing;
+  incoming = s .incoming;
+  resends = s .resends;
+  seen = seen;
+  tickets = s .tickets;
+  resend = s .resend;
+}
+
+-- Another call in place of the last one, of which nothing stays: its number and data; no message, counts and cancel number
+-- last seen 0, slots and known last forgotten, nothing armed.
 abbrev pub withCall : Server → State → ℕ → Call → Server
 withCall s state number call = record {
   state = state;
@@ -111,6 +132,7 @@ withCall s state number call = record {
   outgoing = noMessage 0;
   incoming = cleared;
   resends = 0;
+  seen = 0;
   tickets = s .tickets;
   resend = Off;
 }

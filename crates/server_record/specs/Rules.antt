@@ -41,6 +41,7 @@ outgoingSound state o =
     both (bounded o) (messageRule state (hasNothing o) (both (hasMessage o) (ltb (o .sent) (o .count))) (hasMessage o))
 
 -- The record keeps its rules: the count at most 5, the message sent, the fragments held, and RESEND armed only in HELD.
+-- The cancel number last seen may be any.
 unfoldable pub sound : Server → Bool
 sound s =
     both (leb (s .resends) retryLimit)

@@ -8,7 +8,7 @@ use words::RETRY_LIMIT;
 ghost use mathlib.Core.Path.{_≡_};
 ghost use Rattle.server_record.specs.States.{neverCalled, isFresh, isRunning, isReplying, isHeld};
 ghost use Rattle.server_record.specs.Rules.{idleRule, heldRule, messageRule, outgoingSound, sound};
-ghost use Rattle.server_record.specs.Record.{fresh as freshRecord, timed, holding, unarmed, withOutgoing, withIncoming, withResends, withCall};
+ghost use Rattle.server_record.specs.Record.{fresh as freshRecord, timed, holding, unarmed, withOutgoing, withIncoming, withResends, withSeen, withCall};
 ghost use Rattle.server_record.specs.Arming.{runsAgain, armsResend, heldArmsAgain, armsAgain};
 
 // What became of the last call.
@@ -45,6 +45,8 @@ pub struct Server {
     pub outgoing: Outgoing,
     pub incoming: Incoming,
     pub resends: u8,
+    // The cancel number last seen.
+    pub seen: u32,
     pub tickets: u64,
     pub resend: Timer,
 }
@@ -188,6 +190,7 @@ pub fn fresh(activity: [u8; 16], boot: u32, tickets: u64) -> Server
         outgoing: outgoing::nothing(0),
         incoming: incoming::empty(),
         resends: 0,
+        seen: 0,
         tickets,
         resend: Timer::Off,
     }
@@ -210,6 +213,7 @@ fn with_timer(s: Server, state: State, tickets: u64, resend: Timer) -> Server
         outgoing,
         incoming,
         resends: s.resends,
+        seen: s.seen,
         tickets,
         resend,
     }
@@ -258,6 +262,15 @@ pub fn with_resends(s: Server, resends: u8) -> Server
     next
 }
 
+// The record with another cancel number last seen.
+pub fn with_seen(s: Server, seen: u32) -> Server
+    ensures { λ r. ⌜ r ≡ withSeen s seen ⌝ }
+{
+    let mut next = s;
+    next.seen = seen;
+    next
+}
+
 // Another call in place of the last one, of which nothing stays.
 pub fn with_call(s: Server, state: State, number: u32, call: Call) -> Server
     ensures { λ r. ⌜ r ≡ withCall s state number call ⌝ }
@@ -272,6 +285,7 @@ pub fn with_call(s: Server, state: State, number: u32, call: Call) -> Server
         outgoing: outgoing::nothing(0),
         incoming: incoming::empty(),
         resends: 0,
+        seen: 0,
         tickets: s.tickets,
         resend: Timer::Off,
     }
