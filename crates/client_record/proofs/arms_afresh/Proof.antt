@@ -7,4 +7,4 @@ use Rattle.client_record.proofs.arms_afresh.Tie as tie
 
 pub arms-afresh-spec : {M : Type 1} → statement M
 unfolding pings
-arms-afresh-spec = tie.close (tie.spec (λ c. search needs) (λ c. search needs) (λ c. cc) (λ c. search tests))
+arms-afresh-spec = tie.close (tie.spec (λ c. search needs) (λ c. search needs) (λ c. search needs) (λ c. cc) (λ c. search tests) (λ c. search tests))

@@ -14,4 +14,15 @@ timers-are-sound-spec =
     (λ c κs. search needs)
     (λ c κs. search needs)
     (λ c κs. search needs)
-    (λ c. rw (c .both .ensures, c .before .is-sound-where2 .ensures, c .before .before .is-sound-where .ensures, c .before .before .before .is-ack-pending .ensures, c .before .before .before .before .is-waiting .ensures)))
+    (λ c κs. search needs)
+    (λ c κs. search needs)
+    (λ c κs. search needs)
+    (λ c. rw (
+      c .both2 .ensures,
+      c .before .both .ensures,
+      c .before .before .is-sound-where3 .ensures,
+      c .before .before .before .is-active .ensures,
+      c .before .before .before .before .is-sound-where2 .ensures,
+      c .before .before .before .before .before .is-ack-pending .ensures,
+      c .before .before .before .before .before .before .is-sound-where .ensures,
+      c .before .before .before .before .before .before .before .is-waiting .ensures)))
