@@ -14,9 +14,9 @@ use reader::Reading;
 ghost use mathlib.Core.Path.{_≡_};
 ghost use mathlib.Core.List.{[]};
 ghost use Rattle.calls.specs.Sent.{Posted};
-ghost use Rattle.client.specs.Sending.{pduHeader, requestSent, emptySent, fackSent, sentOut};
+ghost use Rattle.client.specs.Sending.{pduHeader, requestSent, emptySent, fackSent, cancelSent, sentOut};
 ghost use Rattle.calls.specs.Events.{Stepped, Arrived};
-ghost use Rattle.client.specs.Machine.{outcomeOf, starting, transmitting, timing, planOf, acted, arriving, handedUpOf};
+ghost use Rattle.client.specs.Machine.{outcomeOf, starting, transmitting, timing, cancelling, planOf, acted, arriving, handedUpOf};
 
 // What an event gives back.
 pub struct Outcome {
@@ -74,6 +74,15 @@ fn send_fack(serial: u16, c: Client, out: &mut [u8]) -> Sent
     calls::post(h, &body, out)
 }
 
+// Sends a cancel of that number.
+fn send_cancel(number: u32, c: Client, out: &mut [u8]) -> Sent
+    ensures { λ r. ⌜ Posted (cancelSent number c (now (out .entry))) r (now (out .exit)) ⌝ }
+{
+    let h = header(8, 0, 0, c);
+    let body = bodies::write_cancel(number);
+    calls::post(h, &body, out)
+}
+
 // Sends what a plan says, from the record after the step.
 fn send_out(send: Send, c: Client, lent: &[u8], out: &mut [u8]) -> Sent
     ensures { λ r. ⌜ Posted (sentOut send c (now (lent .entry)) (now (out .entry))) r (now (out .exit)) ⌝ }
@@ -84,6 +93,7 @@ fn send_out(send: Send, c: Client, lent: &[u8], out: &mut [u8]) -> Sent
         Send::Ping => send_empty(1, c, out),
         Send::Ack => send_empty(7, c, out),
         Send::Fack(serial) => send_fack(serial, c, out),
+        Send::Cancel(number) => send_cancel(number, c, out),
     }
 }
 
@@ -129,6 +139,18 @@ pub fn timer(c: Client, kind: TimerKind, ticket: u64, out: &mut [u8]) -> Outcome
 {
     let ground = client_table::timer(c, kind, ticket, out.len());
     let plan = client_steps::timer(ground, kind, c);
+    let client = plan.client;
+    let send = plan.send;
+    let none: [u8; 0] = [];
+    outcome_of(plan, send_out(send, client, &none, out))
+}
+
+// Local cancel: the fitter presses stop.
+pub fn cancel(c: Client, out: &mut [u8]) -> Outcome
+    ensures { λ r. ⌜ Stepped (cancelling c (now (out .entry))) r (now (out .exit)) ⌝ }
+{
+    let ground = client_table::cancel(c, out.len());
+    let plan = client_steps::cancel(ground, c);
     let client = plan.client;
     let send = plan.send;
     let none: [u8; 0] = [];

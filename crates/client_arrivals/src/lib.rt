@@ -13,7 +13,7 @@ use words::RETRY_LIMIT;
 ghost use mathlib.Core.Path.{_≡_};
 ghost use Prim.Native.Nat.{_<_};
 ghost use Rattle.words.specs.Sizes.{retryLimit};
-ghost use Rattle.client_arrivals.specs.Rows.{acknowledged as acknowledgedRecord, fackPlan, putRecord, received as receivedRecord, putNotice, fackFor, putPlan, responsePlan, workingPlan, resent as resentRecord, nocallPlan};
+ghost use Rattle.client_arrivals.specs.Rows.{acknowledged as acknowledgedRecord, fackPlan, putRecord, received as receivedRecord, putNotice, fackFor, putPlan, responsePlan, workingPlan, resent as resentRecord, nocallPlan, cancelAckPlan};
 ghost use Rattle.client_arrivals.specs.Table.{arrivalRow, arrivalPlan};
 
 // The record after a fack of number g.
@@ -119,7 +119,7 @@ fn resent(c: Client) -> Client
     let o = c.outgoing;
     let resends = c.resends + 1;
     let next = client_record::with_outgoing(c, outgoing::rewind(o));
-    client_record::with_resends(client_record::to_unarmed(next, State::SendFrags), resends)
+    client_record::with_resends(client_record::to_sending(next), resends)
 }
 
 // Nocall.
@@ -130,6 +130,17 @@ fn nocall(c: Client) -> Plan
         return client_steps::accepted(resent(c), Send::Nothing, Notice::Nothing);
     }
     client_steps::failed(c, Notice::Cause(2))
+}
+
+// Cancel_ack, the current one.
+fn cancel_ack(c: Client) -> Plan
+    ensures { λ r. ⌜ r ≡ cancelAckPlan c ⌝ }
+{
+    client_steps::accepted(
+        client_record::disarm_cancel(c),
+        Send::Nothing,
+        Notice::Nothing,
+    )
 }
 
 // The row of an event.
@@ -143,6 +154,7 @@ fn row(event: Event, c: Client, h: Header, length: u16, status: u32) -> Plan
         Event::Working => working(c),
         Event::Nocall => nocall(c),
         Event::Fack => fack(c, h.fragment),
+        Event::CancelAck => cancel_ack(c),
         Event::Foreign => client_steps::refused(c, Answer::WrongSide),
     }
 }

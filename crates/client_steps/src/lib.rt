@@ -1,5 +1,5 @@
 // What an event's row makes of the client's record: the plan of the step, before anything is
-// written. Here are start, transmit and the timers, and what the rows of arriving PDUs share.
+// written. Here are start, transmit, local cancel and the timers, and what the rows of arriving PDUs share.
 use answers::Answer;
 use answers::Ground;
 use calls::Call;
@@ -12,16 +12,17 @@ ghost use mathlib.Core.Path.{_≡_};
 ghost use Prim.Native.Nat.{_<_};
 ghost use Rattle.words.specs.Sizes.{retryLimit};
 ghost use Rattle.client_steps.specs.Plan.{refused as refusedPlan, accepted as acceptedPlan, failed as failedPlan};
-ghost use Rattle.client_steps.specs.Rows.{nextNumber, started as startedRecord, startPlan, transmitted as transmittedRecord, transmitPlan, pinged as pingedRecord, waitPlan, ackPlan, timerRow, timerPlan};
+ghost use Rattle.client_steps.specs.Rows.{nextNumber, started as startedRecord, startPlan, transmitted as transmittedRecord, transmitPlan, pinged as pingedRecord, waitPlan, ackPlan, cancelTimerPlan, timerRow, timerPlan, cancelled as cancelledRecord, cancelPlan};
 
-// What is to be sent: nothing, the request's fragment of that number, a ping, an ack, or a fack for
-// the serial answered.
+// What is to be sent: nothing, the request's fragment of that number, a ping, an ack, a fack for the
+// serial answered, or a cancel of that number.
 pub enum Send {
     Nothing,
     Request(u16),
     Ping,
     Ack,
     Fack(u16),
+    Cancel(u32),
 }
 
 // What a step is to do: the answer, the next record, the PDU to send, the notice, and whether the
@@ -162,12 +163,20 @@ fn ack(c: Client) -> Plan
     )
 }
 
+// CANCEL acts.
+fn cancel_timer(c: Client) -> Plan
+    ensures { λ r. ⌜ r ≡ cancelTimerPlan c ⌝ }
+{
+    failed(c, Notice::Cause(3))
+}
+
 fn timer_row(kind: TimerKind, c: Client) -> Plan
     ensures { λ r. ⌜ r ≡ timerRow kind c ⌝ }
 {
     match kind {
         TimerKind::Wait => wait(c),
         TimerKind::Ack => ack(c),
+        TimerKind::Cancel => cancel_timer(c),
     }
 }
 
@@ -178,5 +187,26 @@ pub fn timer(ground: Ground, kind: TimerKind, c: Client) -> Plan
     match ground {
         Ground::Refuse(answer) => refused(c, answer),
         Ground::Pass => timer_row(kind, c),
+    }
+}
+
+// The record after a local cancel: the cancel number goes up, CANCEL is armed if it is not.
+fn cancelled(c: Client) -> Client
+    ensures { λ r. ⌜ r ≡ cancelledRecord c ⌝ }
+{
+    let number = std::num::wrapping_add_u32(c.cancels, 1);
+    client_record::with_cancels(client_record::arm_cancel(c), number)
+}
+
+// Local cancel, judged.
+pub fn cancel(ground: Ground, c: Client) -> Plan
+    ensures { λ r. ⌜ r ≡ cancelPlan ground c ⌝ }
+{
+    match ground {
+        Ground::Refuse(answer) => refused(c, answer),
+        Ground::Pass => {
+            let next = cancelled(c);
+            accepted(next, Send::Cancel(next.cancels), Notice::Nothing)
+        }
     }
 }

@@ -6,7 +6,7 @@ use lib.Dec.{ltb, leb, eqb}
 use borrow.Author.Tests.{eqb-true}
 use Rattle.words.specs.Choice.{choose}
 use Rattle.client_table.specs.declared.Event.{Event}
-use Rattle.client_table.specs.declared.Event.the-variants.{Response, Fault, Reject, Working, Nocall, Fack, Foreign}
+use Rattle.client_table.specs.declared.Event.the-variants.{Response, Fault, Reject, Working, Nocall, Fack, CancelAck, Foreign}
 use Rattle.client_table.specs.Events.{serverEvent, eventOf}
 
 -- No type but 2 is one.
@@ -17,12 +17,13 @@ isResponse Reject = false
 isResponse Working = false
 isResponse Nocall = false
 isResponse Fack = false
+isResponse CancelAck = false
 isResponse Foreign = false
 
 pub response-kind : (kind : ℕ) → eventOf kind ≡ Response → kind ≡ 2
 unfolding eventOf serverEvent choose
 response-kind kind e =
-    eqb-true kind 2 (by-tests (ltb kind 2) (leb kind 6) (eqb kind 2) (eqb kind 3) (eqb kind 4) (eqb kind 5) (eqb kind 9) (ap isResponse e))
+    eqb-true kind 2 (by-tests (ltb kind 2) (leb kind 6) (eqb kind 2) (eqb kind 3) (eqb kind 4) (eqb kind 5) (eqb kind 9) (eqb kind 10) (ap isResponse e))
   where
     others : (c d f : Bool) → isResponse (choose c Fault (choose d Working (choose f Nocall Reject))) ≡ false
     others true d f = refl
@@ -30,13 +31,15 @@ response-kind kind e =
     others false false true = refl
     others false false false = refl
 
-    by-tests : (a b t c d f g : Bool)
+    by-tests : (a b t c d f g h : Bool)
         → isResponse
-        (choose a Foreign (choose b (choose t Response (choose c Fault (choose d Working (choose f Nocall Reject)))) (choose g Fack Foreign)))
+        (choose a Foreign
+        (choose b (choose t Response (choose c Fault (choose d Working (choose f Nocall Reject)))) (choose g Fack (choose h CancelAck Foreign))))
         ≡ true
         → t ≡ true
-    by-tests a b true c d f g q = refl
-    by-tests true b false c d f g q = absurd (false≢true q)
-    by-tests false true false c d f g q = absurd (false≢true (sym (others c d f) ∙ q))
-    by-tests false false false c d f true q = absurd (false≢true q)
-    by-tests false false false c d f false q = absurd (false≢true q)
+    by-tests a b true c d f g h q = refl
+    by-tests true b false c d f g h q = absurd (false≢true q)
+    by-tests false true false c d f g h q = absurd (false≢true (sym (others c d f) ∙ q))
+    by-tests false false false c d f true h q = absurd (false≢true q)
+    by-tests false false false c d f false true q = absurd (false≢true q)
+    by-tests false false false c d f false false q = absurd (false≢true q)

@@ -7,11 +7,12 @@ use client_record::State;
 use client_record::TimerKind;
 use incoming::Incoming;
 use reader::Reading;
+use timers::Timer;
 use words::MESSAGE_SIZE;
 ghost use mathlib.Core.Path.{_≡_};
 ghost use Rattle.client_table.specs.Events.{serverEvent, eventOf, byEvent, sideGround, hasRow, arms as armsTimer};
-ghost use Rattle.client_table.specs.Arrival.{numberGround, pduGround, completes as completesMessage, rowGround, tableGround, arrivalGround};
-ghost use Rattle.client_table.specs.Local.{startGround, transmitGround, timerGround};
+ghost use Rattle.client_table.specs.Arrival.{numberGround, isCurrent, pduGround, completes as completesMessage, rowGround, tableGround, arrivalGround};
+ghost use Rattle.client_table.specs.Local.{startGround, transmitGround, timerGround, mayCancel, cancelGround};
 
 // What an arriving PDU is to the client.
 pub enum Event {
@@ -21,12 +22,16 @@ pub enum Event {
     Working,
     Nocall,
     Fack,
+    CancelAck,
     // A type that is not for this side.
     Foreign,
 }
 
 // The last call number.
 const LAST_CALL_NUMBER: u32 = 4294967295;
+
+// The last cancel number.
+const LAST_CANCEL_NUMBER: u32 = 4294967295;
 
 // What the server answers a call with: types 2 to 6.
 fn server_event(kind: u8) -> Event
@@ -41,22 +46,23 @@ fn server_event(kind: u8) -> Event
     }
 }
 
-// The client takes types 2 to 6 and 9.
+// The client takes types 2 to 6, 9 and 10.
 pub fn event_of(kind: u8) -> Event
     ensures { λ r. ⌜ r ≡ eventOf kind ⌝ }
 {
     match kind {
         2..=6 => server_event(kind),
         9 => Event::Fack,
+        10 => Event::CancelAck,
         0..=1 => Event::Foreign,
         7..=8 => Event::Foreign,
-        10..=255 => Event::Foreign,
+        11..=255 => Event::Foreign,
     }
 }
 
-// What is judged of a response, of a fault or reject, and of a fack.
-fn by_event(event: Event, response: Ground, status: Ground, fack: Ground) -> Ground
-    ensures { λ r. ⌜ r ≡ byEvent event response status fack ⌝ }
+// What is judged of a response, of a fault or reject, of a fack, and of a cancel_ack.
+fn by_event(event: Event, response: Ground, status: Ground, fack: Ground, ack: Ground) -> Ground
+    ensures { λ r. ⌜ r ≡ byEvent event response status fack ack ⌝ }
 {
     match event {
         Event::Response => response,
@@ -65,6 +71,7 @@ fn by_event(event: Event, response: Ground, status: Ground, fack: Ground) -> Gro
         Event::Working => Ground::Pass,
         Event::Nocall => Ground::Pass,
         Event::Fack => fack,
+        Event::CancelAck => ack,
         Event::Foreign => Ground::Pass,
     }
 }
@@ -80,13 +87,15 @@ fn side(event: Event) -> Ground
         Event::Working => Ground::Pass,
         Event::Nocall => Ground::Pass,
         Event::Fack => Ground::Pass,
+        Event::CancelAck => Ground::Pass,
         Event::Foreign => Ground::Refuse(Answer::WrongSide),
     }
 }
 
-// Whether the table has a row for the event: by whether the state is active, and whether it is DISPATCHED.
-fn has_row(event: Event, active: bool, dispatched: bool) -> bool
-    ensures { λ r. ⌜ r ≡ hasRow event active dispatched ⌝ }
+// Whether the table has a row for the event: by whether the state is active, whether it is DISPATCHED, and
+// whether a cancel_ack is the current one.
+fn has_row(event: Event, active: bool, dispatched: bool, current: bool) -> bool
+    ensures { λ r. ⌜ r ≡ hasRow event active dispatched current ⌝ }
 {
     match event {
         Event::Response => active,
@@ -95,6 +104,7 @@ fn has_row(event: Event, active: bool, dispatched: bool) -> bool
         Event::Working => dispatched,
         Event::Nocall => dispatched,
         Event::Fack => active,
+        Event::CancelAck => current,
         Event::Foreign => false,
     }
 }
@@ -110,6 +120,7 @@ fn arms(event: Event, finishes: bool) -> bool
         Event::Working => true,
         Event::Nocall => false,
         Event::Fack => false,
+        Event::CancelAck => false,
         Event::Foreign => false,
     }
 }
@@ -122,15 +133,31 @@ fn number(state: State, mine: u32, theirs: u32) -> Ground
     grounds::refuse_if(words::either(queued, mine != theirs), Answer::OldCall)
 }
 
-// 10, 12, 13, 14.
-fn pdu_ground(event: Event, number: Ground, flags1: u8, f: u16, body: &[u8], little: bool) -> Ground
-    ensures { λ r. ⌜ r ≡ pduGround event number flags1 f (now (body .entry)) little ⌝ }
+// Whether a cancel_ack is the current one: CANCEL is armed, and the number is the record's.
+fn is_current(cancel: Timer, mine: u32, theirs: u32) -> bool
+    ensures { λ r. ⌜ r ≡ isCurrent cancel mine theirs ⌝ }
+{
+    let off = timers::is_off(cancel);
+    words::both(!off, mine == theirs)
+}
+
+// 10, 12, 13, 14; ack is the ground of a cancel_ack's body.
+fn pdu_ground(
+    event: Event,
+    number: Ground,
+    ack: Ground,
+    flags1: u8,
+    f: u16,
+    body: &[u8],
+    little: bool,
+) -> Ground
+    ensures { λ r. ⌜ r ≡ pduGround event number ack flags1 f (now (body .entry)) little ⌝ }
 {
     let part = grounds::fragment(flags1, f);
-    let fragment = by_event(event, part, Ground::Pass, Ground::Pass);
+    let fragment = by_event(event, part, Ground::Pass, Ground::Pass, Ground::Pass);
     let status = grounds::status_body(body, little);
     let fack = grounds::fack_body(body, little);
-    let malformed = by_event(event, Ground::Pass, status, fack);
+    let malformed = by_event(event, Ground::Pass, status, fack, ack);
     let rest = grounds::first_of(fragment, grounds::first_of(number, malformed));
     grounds::first_of(side(event), rest)
 }
@@ -157,15 +184,15 @@ fn row_ground(
 {
     let put = grounds::put(m, f, last);
     let fack = grounds::fack(count, f);
-    let clash = by_event(event, put, Ground::Pass, fack);
+    let clash = by_event(event, put, Ground::Pass, fack, Ground::Pass);
     let ticket = grounds::tickets(arms(event, finishes), tickets);
     let rest = grounds::first_of(clash, ticket);
     grounds::first_of(grounds::refuse_if(!row, Answer::NoRow), rest)
 }
 
-// 15 to 20, of a PDU that is the event.
-fn table_ground(event: Event, c: Client, flags1: u8, f: u16, length: u16) -> Ground
-    ensures { λ r. ⌜ r ≡ tableGround event c flags1 f length ⌝ }
+// 15 to 20, of a PDU that is the event; current tells whether a cancel_ack is the current one.
+fn table_ground(event: Event, c: Client, current: bool, flags1: u8, f: u16, length: u16) -> Ground
+    ensures { λ r. ⌜ r ≡ tableGround event c current flags1 f length ⌝ }
 {
     let state = c.state;
     let m = c.incoming;
@@ -173,7 +200,7 @@ fn table_ground(event: Event, c: Client, flags1: u8, f: u16, length: u16) -> Gro
     let o = c.outgoing;
     let active = client_record::is_active(state);
     let dispatched = client_record::is_dispatched(state);
-    let row = has_row(event, active, dispatched);
+    let row = has_row(event, active, dispatched, current);
     let last = grounds::is_last(flags1);
     let finishes = words::both(completes(m, f, length, last), call.idempotent);
     row_ground(event, row, m, o.count, f, last, finishes, c.tickets)
@@ -192,9 +219,14 @@ pub fn arrival(c: Client, lent: Ground, reading: Reading, body: &[u8]) -> Ground
     let entry = grounds::entry(lent, sound, answer, mine, theirs);
     let event = event_of(h.kind);
     let old = number(state, c.number, h.number);
-    let pdu = pdu_ground(event, old, h.flags1, h.fragment, body, reading.little);
+    let ack = bodies::read_cancel_ack(body, reading.little);
+    let read = ack.answer;
+    let formed = grounds::of_answer(read);
+    let pdu = pdu_ground(event, old, formed, h.flags1, h.fragment, body, reading.little);
+    let cancel = c.cancel;
+    let current = is_current(cancel, c.cancels, ack.number);
     let length = grounds::body_length(body.len());
-    let table = table_ground(event, c, h.flags1, h.fragment, length);
+    let table = table_ground(event, c, current, h.flags1, h.fragment, length);
     grounds::first_of(entry, grounds::first_of(pdu, table))
 }
 
@@ -242,13 +274,40 @@ pub fn timer(c: Client, kind: TimerKind, ticket: u64, out: usize) -> Ground
     let state = c.state;
     let wait = c.wait;
     let ack = c.ack;
+    let cancel = c.cancel;
     let lent = grounds::refuse_if(out != words::PDU_SIZE, Answer::WrongLength);
     let sound = client_record::is_sound(c);
     let rules = grounds::refuse_if(!sound, Answer::BrokenRecord);
     let named = client_record::is_named(kind, state);
     let row = grounds::refuse_if(!named, Answer::NoRow);
-    let late = grounds::late(client_record::timer_of(kind, wait, ack), ticket);
+    let late = grounds::late(client_record::timer_of(kind, wait, ack, cancel), ticket);
     let fresh = grounds::tickets(client_record::arms_afresh(kind, c.waits), c.tickets);
     let rest = grounds::first_of(row, grounds::first_of(late, fresh));
     grounds::first_of(lent, grounds::first_of(rules, rest))
+}
+
+// Whether a local cancel has a row.
+fn may_cancel(state: State, cancels: u32) -> bool
+    ensures { λ r. ⌜ r ≡ mayCancel state cancels ⌝ }
+{
+    let active = client_record::is_active(state);
+    words::both(active, cancels != LAST_CANCEL_NUMBER)
+}
+
+// The ground of a local cancel.
+pub fn cancel(c: Client, out: usize) -> Ground
+    ensures { λ r. ⌜ r ≡ cancelGround c out ⌝ }
+{
+    let state = c.state;
+    let timer = c.cancel;
+    let lent = grounds::refuse_if(out != words::PDU_SIZE, Answer::WrongLength);
+    let sound = client_record::is_sound(c);
+    let rules = grounds::refuse_if(!sound, Answer::BrokenRecord);
+    let may = may_cancel(state, c.cancels);
+    let row = grounds::refuse_if(!may, Answer::NoRow);
+    let ticket = grounds::tickets(timers::is_off(timer), c.tickets);
+    grounds::first_of(
+        lent,
+        grounds::first_of(rules, grounds::first_of(row, ticket)),
+    )
 }

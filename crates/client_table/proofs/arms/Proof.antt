@@ -17,6 +17,8 @@ arms-spec =
     (λ c. search needs)
     (λ c. search needs)
     (λ c. search needs)
+    (λ c. search needs)
+    (λ c. search tests)
     (λ c. search tests)
     (λ c. search tests)
     (λ c. search tests)

@@ -1,11 +1,12 @@
 -- `client_table::arrival` meets its contract.
+use Rattle.grounds.specs.Cancel.{cancelAckBodyGround}
 use Rattle.client_table.specs.Arrival.{arrivalGround}
 use borrow.Author.Needs.{needs}
 use Rattle.client_table.proofs.arrival.Statement.{statement}
 use Rattle.client_table.proofs.arrival.Tie as tie
 
 pub arrival-spec : {M : Type 1} → statement M
-unfolding arrivalGround
+unfolding arrivalGround cancelAckBodyGround
 arrival-spec =
     tie.close
     (tie.spec
@@ -18,4 +19,7 @@ arrival-spec =
     (λ c κs. search needs)
     (λ c κs. search needs)
     (λ c κs. search needs)
-    (λ c. rw (c .first-of2 .ensures, c .before .first-of .ensures, c .before .before .table-ground .ensures, c .before .before .before .body-length .ensures, c .before .before .before .before .pdu-ground .ensures, c .before .before .before .before .before .number .ensures, c .before .before .before .before .before .before .event-of .ensures, c .before .before .before .before .before .before .before .entry .ensures, c .before .before .before .before .before .before .before .before .is-sound .ensures)))
+    (λ c κs. search needs)
+    (λ c κs. search needs)
+    (λ c κs. search needs)
+    (λ c. rw (c .first-of2 .ensures, c .before .first-of .ensures, c .before .before .table-ground .ensures, c .before .before .before .body-length .ensures, c .before .before .before .before .is-current .ensures, c .before .before .before .before .before .pdu-ground .ensures, c .before .before .before .before .before .before .of-answer .ensures, c .before .before .before .before .before .before .before .read-cancel-ack .ensures, c .before .before .before .before .before .before .before .before .number .ensures, c .before .before .before .before .before .before .before .before .before .event-of .ensures, c .before .before .before .before .before .before .before .before .before .before .entry .ensures, c .before .before .before .before .before .before .before .before .before .before .before .is-sound .ensures)))

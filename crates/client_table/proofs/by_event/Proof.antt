@@ -17,6 +17,8 @@ by-event-spec =
     (λ c. search needs)
     (λ c. search needs)
     (λ c. search needs)
+    (λ c. search needs)
+    (λ c. search tests)
     (λ c. search tests)
     (λ c. search tests)
     (λ c. search tests)

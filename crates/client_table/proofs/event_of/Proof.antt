@@ -18,10 +18,22 @@ returns : tie.Need-returns
 unfolding eventOf choose
 returns c = rw (c .match .keys1)
 
-returns-3 : tie.Need-returns-3
-returns-3 c = c .server-event .ensures ∙ sym (answers (c .before .before .before .before .args .kind) (omega arith) (omega arith))
+returns-2 : tie.Need-returns-2
+unfolding eventOf choose
+returns-2 c = rw (c .match .keys2)
+
+returns-4 : tie.Need-returns-4
+returns-4 c = c .server-event .ensures ∙ sym (answers (c .before .before .before .before .args .kind) (omega arith) (omega arith))
 
 pub event-of-spec : {M : Type 1} → statement M
 unfolding eventOf
 event-of-spec =
-    tie.close (tie.spec (λ c κs. search needs) returns (λ c. search tests) returns-3 (λ c. search tests) (λ c. search tests))
+    tie.close
+    (tie.spec
+    (λ c κs. search needs)
+    returns
+    returns-2
+    (λ c. search tests)
+    returns-4
+    (λ c. search tests)
+    (λ c. search tests))

@@ -17,6 +17,8 @@ has-row-spec =
     (λ c. search needs)
     (λ c. search needs)
     (λ c. search needs)
+    (λ c. search needs)
+    (λ c. search tests)
     (λ c. search tests)
     (λ c. search tests)
     (λ c. search tests)

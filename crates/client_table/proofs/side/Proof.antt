@@ -17,6 +17,8 @@ side-spec =
     (λ c. search needs)
     (λ c. search needs)
     (λ c. search needs)
+    (λ c. search needs)
+    (λ c. search tests)
     (λ c. search tests)
     (λ c. search tests)
     (λ c. search tests)

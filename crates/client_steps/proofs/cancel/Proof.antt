@@ -1,0 +1,19 @@
+-- `client_steps::cancel` meets its contract.
+use Rattle.client_record.specs.Record.{withCancels}
+use Rattle.client_steps.specs.Rows.{cancelled, cancelPlan}
+use borrow.Author.Needs.{needs}
+use Rattle.client_steps.proofs.cancel.Statement.{statement}
+use Rattle.client_steps.proofs.cancel.Tie as tie
+
+pub cancel-spec : {M : Type 1} → statement M
+unfolding cancelPlan cancelled withCancels
+cancel-spec =
+    tie.close
+    (tie.spec
+    (λ c. search needs)
+    (λ c κs. search needs)
+    (λ c. search needs)
+    (λ c κs. search needs)
+    (λ c κs. search needs)
+    (λ c. rw (c .before .before .ground .given .1, c .refused .ensures))
+    (λ c. rw (c .before .before .enum-told .given .1, c .accepted .ensures, c .before .cancelled .ensures)))

@@ -1,0 +1,22 @@
+-- `client_table::cancel` meets its contract.
+use Rattle.client_table.specs.Local.{cancelGround}
+use borrow.Author.Needs.{needs}
+use Rattle.client_table.proofs.cancel.Statement.{statement}
+use Rattle.client_table.proofs.cancel.Tie as tie
+
+pub cancel-spec : {M : Type 1} → statement M
+unfolding cancelGround
+cancel-spec =
+    tie.close
+    (tie.spec
+    (λ c κs. search needs)
+    (λ c κs. search needs)
+    (λ c κs. search needs)
+    (λ c κs. search needs)
+    (λ c κs. search needs)
+    (λ c κs. search needs)
+    (λ c κs. search needs)
+    (λ c κs. search needs)
+    (λ c κs. search needs)
+    (λ c κs. search needs)
+    (λ c. rw (c .first-of3 .ensures, c .before .first-of2 .ensures, c .before .before .first-of .ensures, c .before .before .before .tickets .ensures, c .before .before .before .before .is-off .ensures, c .before .before .before .before .before .refuse-if3 .ensures, c .before .before .before .before .before .before .may-cancel .ensures, c .before .before .before .before .before .before .before .refuse-if2 .ensures, c .before .before .before .before .before .before .before .before .is-sound .ensures, c .before .before .before .before .before .before .before .before .before .refuse-if .ensures)))
