@@ -14,4 +14,4 @@ resent-spec =
     (λ c κs. search needs)
     (λ c κs. search needs)
     (λ c κs. search needs)
-    (λ c. rw (c .with-resends .ensures, c .before .to-unarmed .ensures, c .before .before .with-outgoing .ensures, c .before .before .before .rewind .ensures)))
+    (λ c. rw (c .with-resends .ensures, c .before .to-sending .ensures, c .before .before .with-outgoing .ensures, c .before .before .before .rewind .ensures)))
