@@ -36,7 +36,7 @@ use Rattle.grounds.proofs.GroundLaws.{lent-passes, body-length, fack-passes}
 use Rattle.client_record.specs.declared.Client.{Client}
 use Rattle.client_record.specs.States.{isQueued}
 use Rattle.client_record.specs.Rules.{sound}
-use Rattle.client_record.specs.Record.{withOutgoing, withIncoming, withWaits}
+use Rattle.client_record.specs.Record.{withOutgoing, withIncoming, withWaits, withCancels}
 use Rattle.client_record.proofs.StateLaws.{active-state}
 use Rattle.client_record.proofs.RecordLaws.{untimed-told}
 use Rattle.client_record.proofs.RuleLaws.{rules-told}
@@ -45,13 +45,13 @@ use Rattle.client_table.specs.declared.Event.the-variants.{Response, Fack}
 use Rattle.client_table.specs.Events.{serverEvent, eventOf, byEvent, hasRow}
 use Rattle.client_steps.specs.declared.Plan.{Plan}
 use Rattle.client_steps.specs.Plan.{accepted}
-use Rattle.client_steps.specs.Rows.{started, startPlan, transmitPlan}
-use Rattle.client_steps.proofs.StepLaws.{next-number, transmitted-one-more}
+use Rattle.client_steps.specs.Rows.{started, startPlan, transmitPlan, cancelled, cancelPlan}
+use Rattle.client_steps.proofs.StepLaws.{next-number, next-cancel, transmitted-one-more}
 use Rattle.client_arrivals.specs.Rows.{acknowledged, fackPlan, putPlan, responsePlan}
 use Rattle.client_arrivals.specs.Table.{arrivalRow}
-use Rattle.client.specs.Machine.{outcomeOf, sending, acted, starting, transmitting, arriving}
-use Rattle.client.proofs.Judging.{CanArrive, response-can, start-passes, transmit-passes, arrival-passes}
-use Rattle.client.proofs.Accepting.{start-accepted, transmit-accepted, arrive-accepted, arrive-row}
+use Rattle.client.specs.Machine.{outcomeOf, sending, acted, starting, transmitting, cancelling, arriving}
+use Rattle.client.proofs.Judging.{CanArrive, response-can, start-passes, transmit-passes, cancel-passes, arrival-passes}
+use Rattle.client.proofs.Accepting.{start-accepted, transmit-accepted, cancel-accepted, arrive-accepted, arrive-row}
 
 -- A start gives the next number of a record whose number is a u32,
 module _ (c : Client) (call : Call) (n : ℕ) (done : starting c call n .answer ≡ Done) where
@@ -79,6 +79,15 @@ transmit-sent c message out done =
     let j = transmit-passes c (length message) (length out) pass in
     subst (λ (g : Ground). transmitPlan g c .client .outgoing .sent ≡ c .outgoing .sent + 1) (sym pass)
     (transmitted-one-more c (j .kept) (j .row) (sendsLast (c .outgoing)))
+
+-- A local cancel raises the cancel number of a record, a u32, by one.
+pub cancel-number : (c : Client) (out : List ℕ) → c .cancels < 4294967296 → cancelling c out .outcome .answer ≡ Done
+    → cancelling c out .outcome .client .cancels ≡ c .cancels + 1
+unfolding cancelling sending outcomeOf cancelPlan accepted cancelled withCancels
+cancel-number c out small done =
+    let pass = cancel-accepted c out done in
+    subst (λ (g : Ground). cancelPlan g c .client .cancels ≡ c .cancels + 1) (sym pass)
+    (next-cancel (c .cancels) small (cancel-passes c (length out) pass .numbered))
 
 -- An arriving datagram.
 module _ (c : Client) (datagram slots out : List ℕ) (done : arriving c datagram slots out .outcome .answer ≡ Done) where

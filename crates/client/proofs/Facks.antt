@@ -36,14 +36,14 @@ use Rattle.client_record.specs.declared.Client.{Client}
 use Rattle.client_record.specs.Record.{waiting, ackPending, unarmed, withIncoming, withWaits}
 use Rattle.client_record.proofs.RuleLaws.{rules-told}
 use Rattle.client_table.specs.declared.Event.{Event}
-use Rattle.client_table.specs.declared.Event.the-variants.{Response, Fault, Reject, Working, Nocall, Fack, Foreign}
+use Rattle.client_table.specs.declared.Event.the-variants.{Response, Fault, Reject, Working, Nocall, Fack, CancelAck, Foreign}
 use Rattle.client_table.specs.Events.{serverEvent, eventOf}
 use Rattle.client_table.proofs.EventLaws.{response-kind}
 use Rattle.client_steps.specs.declared.Plan.{Plan}
 use Rattle.client_steps.specs.declared.Send.{Send}
 use Rattle.client_steps.specs.declared.Send.the-variants.{Nothing, Fack as SendFack}
 use Rattle.client_steps.specs.Plan.{accepted, failed, refused}
-use Rattle.client_arrivals.specs.Rows.{putRecord, received, fackFor, putPlan, responsePlan, workingPlan, resent, nocallPlan, fackPlan}
+use Rattle.client_arrivals.specs.Rows.{putRecord, received, fackFor, putPlan, responsePlan, workingPlan, resent, nocallPlan, fackPlan, cancelAckPlan}
 use Rattle.client_arrivals.specs.Table.{arrivalRow}
 use Rattle.client.specs.Sending.{pduHeader, sentOut}
 use Rattle.client.specs.Machine.{outcomeOf, sending, planOf, acted, arriving}
@@ -148,13 +148,14 @@ module _ (c : Client) (datagram slots out : List ℕ) (done : arriving c datagra
   limited false = refl
 
   others-send : (event : Event) → (event ≡ Response → ⊥) → row event .send ≡ Nothing
-  unfolding arrivalRow workingPlan nocallPlan fackPlan accepted failed refused
+  unfolding arrivalRow workingPlan nocallPlan fackPlan cancelAckPlan accepted failed refused
   others-send Response other = absurd (other refl)
   others-send Fault other = refl
   others-send Reject other = refl
   others-send Working other = refl
   others-send Nocall other = limited (ltb (c .resends) retryLimit)
   others-send Fack other = refl
+  others-send CancelAck other = refl
   others-send Foreign other = refl
 
   pub others-unsent : (h .kind ≡ 2 → ⊥) → sent ≡ Unsent

@@ -1,4 +1,4 @@
--- The client sends no fack at a start, at a transmit or at a timer.
+-- The client sends no fack at a start, at a transmit, at a local cancel or at a timer.
 use Prim.Native.Nat.{ℕ, _≤_}
 use mathlib.Core.Bool.{Bool, true, false, false≢true}
 use mathlib.Core.List.{List, []}
@@ -13,6 +13,7 @@ use Rattle.words.specs.Sizes.{bodySize, pduSize, retryLimit}
 use Rattle.answers.specs.declared.Answer.the-variants.{Done}
 use Rattle.answers.specs.declared.Ground.{Ground}
 use Rattle.answers.specs.declared.Ground.the-variants.{Pass, Refuse}
+use Rattle.bodies.specs.Cancel.{cancelBytes}
 use Rattle.calls.specs.declared.Call.{Call}
 use Rattle.calls.specs.declared.Notice.the-variants.{Nothing as Untold, Cause}
 use Rattle.calls.specs.declared.Sent.the-variants.{Nothing as Unsent}
@@ -25,17 +26,17 @@ use Rattle.facks.proofs.TellingLaws.{sent-other}
 use Rattle.writer.proofs.Returns.{Sized}
 use Rattle.client_record.specs.declared.Client.{Client}
 use Rattle.client_record.specs.declared.TimerKind.{TimerKind}
-use Rattle.client_record.specs.declared.TimerKind.the-variants.{Wait, Ack}
-use Rattle.client_table.specs.Local.{transmitGround, timerGround}
+use Rattle.client_record.specs.declared.TimerKind.the-variants.{Wait, Ack, Cancel}
+use Rattle.client_table.specs.Local.{transmitGround, timerGround, cancelGround}
 use Rattle.client_steps.specs.declared.Send.{Send}
-use Rattle.client_steps.specs.declared.Send.the-variants.{Nothing, Request, Ping, Ack as SendAck, Fack as SendFack}
+use Rattle.client_steps.specs.declared.Send.the-variants.{Nothing, Request, Ping, Ack as SendAck, Fack as SendFack, Cancel as SendCancel}
 use Rattle.client_steps.specs.Plan.{accepted, failed, refused}
-use Rattle.client_steps.specs.Rows.{transmitPlan, pinged, waitPlan, ackPlan, timerRow, timerPlan}
+use Rattle.client_steps.specs.Rows.{transmitPlan, pinged, waitPlan, ackPlan, cancelTimerPlan, timerRow, timerPlan, cancelPlan}
 use Rattle.client.specs.Sending.{pduHeader, requestSent, sentOut}
-use Rattle.client.specs.Machine.{outcomeOf, starting, sending, transmitting, timing}
-use Rattle.client.proofs.Judging.{transmit-passes, timer-passes}
-use Rattle.client.proofs.Accepting.{transmit-accepted, timer-accepted}
-use Rattle.client.proofs.Sends.{empty-whole}
+use Rattle.client.specs.Machine.{outcomeOf, starting, sending, transmitting, timing, cancelling}
+use Rattle.client.proofs.Judging.{transmit-passes, timer-passes, cancel-passes}
+use Rattle.client.proofs.Accepting.{transmit-accepted, timer-accepted, cancel-accepted}
+use Rattle.client.proofs.Sends.{empty-whole, cancel-whole}
 
 -- Whether it is a fack.
 abbrev isFack : Send → Bool
@@ -44,6 +45,7 @@ isFack (Request f) = false
 isFack Ping = false
 isFack SendAck = false
 isFack (SendFack serial) = true
+isFack (SendCancel n) = false
 
 -- Whatever else is sent is read as what it is.
 module _ (c : Client) (lent out : List ℕ) (short : length lent ≤ bodySize) (room : length out ≡ pduSize) where
@@ -65,6 +67,9 @@ module _ (c : Client) (lent out : List ℕ) (short : length lent ≤ bodySize) (
       inr (sent-other _ [] out (sized-as 7 0 0 z) (omega arith) refl (omega arith) (eqb-false 7 9 refl) room _
       (empty-whole c out room 7 (omega arith)))
   unfacked (SendFack serial) e z = absurd (false≢true (sym e))
+  unfacked (SendCancel n) e z =
+      inr (sent-other _ (cancelBytes n) out (sized-as 8 0 0 z) (omega arith) refl (unfold cancelBytes in omega arith) (eqb-false 8 9 refl) room _
+      (cancel-whole c out room n))
 
 -- A start sends nothing.
 pub start-unsent : (c : Client) (call : Call) (n : ℕ) → starting c call n .sent ≡ Unsent
@@ -88,11 +93,26 @@ transmit-unfacked c message out done z =
     unfacked (transmitPlan g c .client) (fragmentOf message f) out (fragment-most message f)
     (transmit-passes c (length message) (length out) pass .buffer) (transmitPlan g c .send) (transmit-sends c g) z
 
+-- nor at a local cancel,
+cancel-sends : (c : Client) (g : Ground) → isFack (cancelPlan g c .send) ≡ false
+unfolding cancelPlan accepted refused
+cancel-sends c Pass = refl
+cancel-sends c (Refuse a) = refl
+
+pub cancel-unfacked : (c : Client) (out : List ℕ) → cancelling c out .outcome .answer ≡ Done
+    → Sized (pduHeader 0 0 0 (cancelling c out .outcome .client)) → Unfacked (cancelling c out .outcome .sent) (cancelling c out .out)
+unfolding cancelling sending outcomeOf
+cancel-unfacked c out done z =
+    let g = cancelGround c (length out) in
+    unfacked (cancelPlan g c .client) [] out (omega arith) (cancel-passes c (length out) (cancel-accepted c out done) .buffer)
+    (cancelPlan g c .send) (cancel-sends c g) z
+
 -- nor at a timer.
 timer-sends : (c : Client) (g : Ground) (kind : TimerKind) → isFack (timerPlan g kind c .send) ≡ false
-unfolding timerPlan timerRow waitPlan ackPlan accepted failed refused choose
+unfolding timerPlan timerRow waitPlan ackPlan cancelTimerPlan accepted failed refused choose
 timer-sends c (Refuse a) kind = refl
 timer-sends c Pass Ack = refl
+timer-sends c Pass Cancel = refl
 timer-sends c Pass Wait = by-limit (ltb (c .waits) retryLimit)
   where
     by-limit : (t : Bool) → isFack (choose t (accepted (pinged c) Ping Untold) (failed c (Cause 1)) .send) ≡ false
