@@ -26,11 +26,17 @@ returns-5 : tie.Need-returns-5
 unfolding sentOut
 returns-5 c = sent-as _ _ _ _ _ _ _ (c .before .before .before .before .before .send2 .given .1) (c .before .before .send-fack .ensures)
 
+returns-6 : tie.Need-returns-6
+unfolding sentOut
+returns-6 c = sent-as _ _ _ _ _ _ _ (c .before .before .before .before .before .send3 .given .1) (c .before .before .send-cancel .ensures)
+
 pub send-out-spec : {M : Type 1} → statement M
 send-out-spec =
     tie.close
     (tie.spec
     (λ c. search needs)
+    (λ c. search needs)
+    (λ c κs. search needs)
     (λ c. search needs)
     (λ c κs. search needs)
     (λ c. search needs)
@@ -47,4 +53,6 @@ send-out-spec =
     (λ c. search needs)
     returns-4
     (λ c. search needs)
-    returns-5)
+    returns-5
+    (λ c. search needs)
+    returns-6)
