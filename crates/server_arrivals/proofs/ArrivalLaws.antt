@@ -3,7 +3,7 @@ use Prim.Native.Nat.{ℕ, _≤_}
 use mathlib.Core.Bool.{Bool, true, false}
 use mathlib.Core.Path.{_≡_, refl, subst}
 use native.Mathlib.Omega.{arith}
-use lib.Dec.{leb, ltb}
+use lib.Dec.{leb}
 use Rattle.words.specs.Choice.{choose, both}
 use Rattle.words.specs.Sizes.{retryLimit}
 use Rattle.incoming.specs.declared.Incoming.{Incoming}
@@ -20,9 +20,10 @@ use Rattle.server_record.specs.Rules.{messageRule, outgoingSound, sound}
 use Rattle.server_record.specs.Record.{unarmed, withOutgoing, withIncoming, withSeen}
 use Rattle.server_record.proofs.RuleLaws.{rules-told, rules-hold, out-told, out-holds, collect-told, count-most}
 use Rattle.server_record.proofs.RecordLaws.{unarmed-sound, spent-sound}
-use Rattle.server_steps.specs.declared.Send.the-variants.{CancelAck}
+use Rattle.server_steps.specs.declared.Plan.{Plan}
 use Rattle.server_steps.specs.Plan.{accepted}
 use Rattle.server_arrivals.specs.Rows.{begun, putState, putPlan, requestPlan, beginPlan, workingPlan, nocallPlan, fackPlan, ackPlan, declinePlan, heardPlan, acceptPlan}
+use Rattle.server_arrivals.proofs.CancelLaws.{heard-or-not}
 
 -- A request is put where no message is out: to COLLECT, or to RUNNING where all is held.
 module _ (s : Server) (m : Incoming) (count : leb (s .resends) retryLimit ≡ true) (out : outgoingSound Collect (s .outgoing) ≡ true)
@@ -91,12 +92,8 @@ module _ (s : Server) (kept : sound s ≡ true) where
 
   -- and where it is accepted the rules do not speak of the number remembered.
   pub accept-sound : (n : ℕ) → sound (acceptPlan s n .server) ≡ true
-  unfolding acceptPlan heardPlan accepted withSeen sound choose
-  accept-sound n = by-seen (ltb (s .seen) n)
-    where
-      by-seen : (above : Bool) → sound (choose above (heardPlan s n) (accepted s (CancelAck n true)) .server) ≡ true
-      by-seen true = kept
-      by-seen false = kept
+  unfolding heardPlan accepted withSeen sound
+  accept-sound n = heard-or-not s n (λ (p : Plan). sound (p .server) ≡ true) kept kept
 
 module _ (s : Server) where
   -- What is held: after a put what it makes,
@@ -136,9 +133,5 @@ module _ (s : Server) where
 
   -- or accepted.
   pub accept-held : (n : ℕ) → acceptPlan s n .server .incoming ≡ s .incoming
-  unfolding acceptPlan heardPlan accepted withSeen choose
-  accept-held n = by-seen (ltb (s .seen) n)
-    where
-      by-seen : (above : Bool) → choose above (heardPlan s n) (accepted s (CancelAck n true)) .server .incoming ≡ s .incoming
-      by-seen true = refl
-      by-seen false = refl
+  unfolding heardPlan accepted withSeen
+  accept-held n = heard-or-not s n (λ (p : Plan). p .server .incoming ≡ s .incoming) refl refl
