@@ -13,6 +13,7 @@ use Rattle.words.specs.Sizes.{bodySize, slotsSize, lastNumber}
 use Rattle.words.proofs.Place.{placed-fits}
 use Rattle.answers.specs.declared.Answer.the-variants.{Done}
 use Rattle.answers.specs.declared.Ground.{Ground}
+use Rattle.bodies.specs.Cancel.{cancelReading}
 use Rattle.incoming.specs.Slots.{cleared, stored}
 use Rattle.fragments.specs.Judgement.{held}
 use Rattle.fragments.specs.Slots.{storing}
@@ -77,15 +78,18 @@ module _ (s : Server) (datagram slots out : List ℕ) (done : arriving s datagra
   abbrev n : ℕ
   n = bodyLength (bodyOf datagram)
 
+  abbrev cancel : ℕ
+  cancel = cancelReading (reading datagram .little) (bodyOf datagram) .number
+
   -- It has entered and passed its row's judgement, and leaves what its row leaves.
   record Accepted : Type 0 where
     kept : sound s ≡ true
     room : length slots ≡ slotsSize
     short : length (bodyOf datagram) ≤ bodySize
     can : CanArrive s h
-    leaves : (row : Row) → rowFor s h ≡ row → arriving s datagram slots out .outcome .server ≡ arrivalRow row s h n .server
+    leaves : (row : Row) → rowFor s h ≡ row → arriving s datagram slots out .outcome .server ≡ arrivalRow row s h n cancel .server
     stores : (row : Row) → rowFor s h ≡ row
-        → arriving s datagram slots out .slots ≡ storing (arrivalRow row s h n .put) (h .fragment) (bodyOf datagram) slots
+        → arriving s datagram slots out .slots ≡ storing (arrivalRow row s h n cancel .put) (h .fragment) (bodyOf datagram) slots
 
   accepted-so : Accepted
   unfolding arriving acted sending outcomeOf
@@ -99,11 +103,11 @@ module _ (s : Server) (datagram slots out : List ℕ) (done : arriving s datagra
         short = body-short datagram (j .0 .done);
         can = j .1;
         leaves =
-            λ (row : Row) (e : rowFor s h ≡ row). ap (λ (p : Plan). p .server) (is ∙ ap (λ (r : Row). arrivalRow r s h n) e);
+            λ (row : Row) (e : rowFor s h ≡ row). ap (λ (p : Plan). p .server) (is ∙ ap (λ (r : Row). arrivalRow r s h n cancel) e);
         stores =
             λ (row : Row) (e : rowFor s h ≡ row).
             ap (λ (p : Plan). storing (p .put) (h .fragment) (bodyOf datagram) slots)
-            (is ∙ ap (λ (r : Row). arrivalRow r s h n) e);
+            (is ∙ ap (λ (r : Row). arrivalRow r s h n cancel) e);
       }
 
   -- After a fack, type 9, acknowledged is the larger of itself and what the fack acknowledges.

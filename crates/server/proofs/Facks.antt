@@ -9,6 +9,7 @@ use lib.ListN.{length}
 use Rattle.words.specs.Bit.{bit}
 use Rattle.words.specs.Choice.{choose}
 use Rattle.answers.specs.declared.Answer.the-variants.{Done}
+use Rattle.bodies.specs.Cancel.{cancelReading}
 use Rattle.calls.specs.declared.Sent.{Sent}
 use Rattle.calls.specs.declared.Sent.the-variants.{Nothing as Unsent}
 use Rattle.calls.specs.Sent.{sentHeader, Posting, sentBytes}
@@ -34,15 +35,16 @@ use Rattle.server_record.specs.declared.Server.{Server}
 use Rattle.server_record.specs.Record.{unarmed, withIncoming}
 use Rattle.server_record.proofs.RuleLaws.{rules-told}
 use Rattle.server_rows.specs.declared.Row.{Row}
-use Rattle.server_rows.specs.declared.Row.the-variants.{Old, Missing, Repeat, Begin, Put, Working, Nocall, Replay, Acknowledge, Finish}
+use Rattle.server_rows.specs.declared.Row.the-variants.{Old, Missing, Repeat, Begin, Put, Working, Nocall, Replay, Acknowledge, Finish, AcceptCancel, DeclineCancel}
 use Rattle.server_rows.specs.Rows.{rowFor}
 use Rattle.server_steps.specs.declared.Plan.{Plan}
 use Rattle.server_steps.specs.declared.Send.{Send}
 use Rattle.server_steps.specs.declared.Send.the-variants.{Nothing, Fack}
 use Rattle.server_steps.specs.Plan.{accepted, refused}
 use Rattle.server_steps.specs.Rows.{replayHeld, replayPlan}
-use Rattle.server_arrivals.specs.Rows.{begun, fackFor, putPlan, requestPlan, beginPlan, workingPlan, nocallPlan, fackPlan, ackPlan}
+use Rattle.server_arrivals.specs.Rows.{begun, fackFor, putPlan, requestPlan, beginPlan, workingPlan, nocallPlan, fackPlan, ackPlan, declinePlan, heardPlan}
 use Rattle.server_arrivals.specs.Table.{arrivalRow}
+use Rattle.server_arrivals.proofs.CancelLaws.{heard-or-not}
 use Rattle.server.specs.Sending.{echoed, echoHeader, sentOut}
 use Rattle.server.specs.Machine.{outcomeOf, sending, planOf, acted, arriving}
 use Rattle.server.proofs.Accepting.{arrive-row, arrive-room}
@@ -62,6 +64,8 @@ puts Nocall = false
 puts Replay = false
 puts Acknowledge = false
 puts Finish = false
+puts AcceptCancel = false
+puts DeclineCancel = false
 
 -- What an arriving datagram has the server send.
 module _ (s : Server) (datagram slots out : List ℕ) (done : arriving s datagram slots out .outcome .answer ≡ Done) where
@@ -82,8 +86,11 @@ module _ (s : Server) (datagram slots out : List ℕ) (done : arriving s datagra
   abbrev plan : Plan
   plan = planOf s (lentGround (length slots) (length out)) (reading datagram) (bodyOf datagram)
 
+  abbrev cancel : ℕ
+  cancel = cancelReading (reading datagram .little) (bodyOf datagram) .number
+
   abbrev row : Row → Plan
-  row r = arrivalRow r s h (bodyLength (bodyOf datagram))
+  row r = arrivalRow r s h (bodyLength (bodyOf datagram)) cancel
 
   -- What goes out is what the row sends, of the record after it.
   posts : (send : Send) → row (rowFor s h) .send ≡ send
@@ -105,6 +112,8 @@ module _ (s : Server) (datagram slots out : List ℕ) (done : arriving s datagra
   put-sends Replay e wanted k = absurd (false≢true e)
   put-sends Acknowledge e wanted k = absurd (false≢true e)
   put-sends Finish e wanted k = absurd (false≢true e)
+  put-sends AcceptCancel e wanted k = absurd (false≢true e)
+  put-sends DeclineCancel e wanted k = absurd (false≢true e)
 
   -- A request that is put, with no fack, bit 3, clear and fragment, bit 2, set: a fack goes out, which tells its
   -- reader what is held after the put. It is of the request's call, has the record's serial, and answers the
@@ -153,7 +162,7 @@ module _ (s : Server) (datagram slots out : List ℕ) (done : arriving s datagra
 
   -- These rows put the fragment, and no other;
   pub puts-put : (r : Row) → row r .put ≡ puts r
-  unfolding arrivalRow beginPlan requestPlan putPlan workingPlan nocallPlan fackPlan ackPlan accepted refused
+  unfolding arrivalRow beginPlan requestPlan putPlan workingPlan nocallPlan fackPlan ackPlan declinePlan heardPlan accepted refused
   puts-put Old = refl
   puts-put Missing = refl
   puts-put Repeat = refl
@@ -164,10 +173,12 @@ module _ (s : Server) (datagram slots out : List ℕ) (done : arriving s datagra
   puts-put Replay = replays (s .state) .0
   puts-put Acknowledge = refl
   puts-put Finish = refl
+  puts-put AcceptCancel = heard-or-not s cancel (λ (p : Plan). p .put ≡ false) refl refl
+  puts-put DeclineCancel = refl
 
   -- and what is not put gets no fack.
   others-send : (r : Row) → puts r ≡ false → isFack (row r .send) ≡ false
-  unfolding arrivalRow workingPlan nocallPlan fackPlan ackPlan accepted refused
+  unfolding arrivalRow workingPlan nocallPlan fackPlan ackPlan declinePlan heardPlan accepted refused
   others-send Old e = refl
   others-send Missing e = refl
   others-send Repeat e = refl
@@ -178,6 +189,8 @@ module _ (s : Server) (datagram slots out : List ℕ) (done : arriving s datagra
   others-send Replay e = replays (s .state) .1
   others-send Acknowledge e = refl
   others-send Finish e = refl
+  others-send AcceptCancel e = heard-or-not s cancel (λ (p : Plan). isFack (p .send) ≡ false) refl refl
+  others-send DeclineCancel e = refl
 
   pub others-unfacked : puts (rowFor s h) ≡ false → SizedHeaders after h → Unfacked sent (arriving s datagram slots out .out)
   others-unfacked other z =

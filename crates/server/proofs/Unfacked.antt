@@ -14,6 +14,7 @@ use Rattle.answers.specs.declared.Answer.the-variants.{Done}
 use Rattle.answers.specs.declared.Ground.{Ground}
 use Rattle.answers.specs.declared.Ground.the-variants.{Pass, Refuse}
 use Rattle.bodies.specs.Status.{statusBytes}
+use Rattle.bodies.specs.Cancel.{cancelAckBytes}
 use Rattle.calls.specs.declared.Sent.the-variants.{Nothing as Unsent}
 use Rattle.calls.specs.Sent.{sentHeader}
 use Rattle.calls.proofs.PostLaws.{posted-whole, same-sized}
@@ -32,14 +33,14 @@ use Rattle.server_record.specs.declared.Server.{Server}
 use Rattle.server_table.specs.Local.{transmitGround, timerGround, faultGround}
 use Rattle.server_steps.specs.declared.Plan.{Plan}
 use Rattle.server_steps.specs.declared.Send.{Send}
-use Rattle.server_steps.specs.declared.Send.the-variants.{Nothing, Response, Fault, Working as SendWorking, Nocall as SendNocall, Fack}
+use Rattle.server_steps.specs.declared.Send.the-variants.{Nothing, Response, Fault, Working as SendWorking, Nocall as SendNocall, Fack, CancelAck}
 use Rattle.server_steps.specs.Plan.{accepted, refused}
 use Rattle.server_steps.specs.Rows.{transmitPlan, faultPlan, resendHeld, resendRow, timerRow, timerPlan}
 use Rattle.server.specs.Sending.{echoed, echoHeader, replyHeader, responseSent, emptySent, sentOut}
 use Rattle.server.specs.Machine.{outcomeOf, replying, sending, transmitting, timing, faulting}
 use Rattle.server.proofs.Judging.{transmit-passes, fault-passes, timer-passes}
 use Rattle.server.proofs.Accepting.{transmit-accepted, fault-accepted, timer-accepted}
-use Rattle.server.proofs.Sends.{fault-whole, empty-whole}
+use Rattle.server.proofs.Sends.{fault-whole, empty-whole, cancel-ack-short, cancel-ack-whole}
 
 -- Whether it is a fack.
 abbrev pub isFack : Send → Bool
@@ -49,6 +50,7 @@ isFack (Fault status) = false
 isFack SendWorking = false
 isFack SendNocall = false
 isFack (Fack serial) = true
+isFack (CancelAck n accepts) = false
 
 -- The headers of what the server sends have UUIDs of sixteen bytes.
 pub record SizedHeaders (s : Server) (h : Header) : Type 0 where
@@ -64,7 +66,7 @@ module _ (s : Server) (h : Header) (lent out : List ℕ) (short : length lent �
   reply-sized kind flags1 f =
       same-sized 0 0 (s .outgoing .serial) (s .activity) (s .boot) (s .number) (s .call) 0 kind flags1 f (z .replies)
 
-  -- working and nocall that of an echo.
+  -- working, nocall and cancel_ack that of an echo.
   echo-sized : (kind : ℕ) → Sized (echoHeader kind 0 s h)
   unfolding echoHeader
   echo-sized kind =
@@ -78,7 +80,7 @@ module _ (s : Server) (h : Header) (lent out : List ℕ) (short : length lent �
 
   pub unfacked : (send : Send) → isFack send ≡ false
       → Unfacked (sentOut send s h lent out .sent) (sentOut send s h lent out .out)
-  unfolding sentOut responseSent replyHeader sentHeader
+  unfolding sentOut responseSent replyHeader echoHeader sentHeader
   unfacked Nothing e = inl refl
   unfacked (Response f) e =
       inr (sent-other _ lent out (reply-sized 2 _ _) (omega arith) refl short (eqb-false 2 9 refl) room _
@@ -89,6 +91,9 @@ module _ (s : Server) (h : Header) (lent out : List ℕ) (short : length lent �
   unfacked SendWorking e = echo-other 4 (omega arith) (eqb-false 4 9 refl)
   unfacked SendNocall e = echo-other 5 (omega arith) (eqb-false 5 9 refl)
   unfacked (Fack serial) e = absurd (false≢true (sym e))
+  unfacked (CancelAck n accepts) e =
+      inr (sent-other _ (cancelAckBytes n accepts) out (echo-sized 10) (omega arith) refl (cancel-ack-short n accepts)
+      (eqb-false 10 9 refl) room _ (cancel-ack-whole s out room n accepts h))
 
 -- A reply sends nothing.
 pub reply-unsent : (s : Server) (n : ℕ) → replying s n .sent ≡ Unsent

@@ -13,7 +13,7 @@ use server_steps::Send;
 ghost use mathlib.Core.Path.{_≡_};
 ghost use mathlib.Core.List.{[]};
 ghost use Rattle.calls.specs.Sent.{Posted};
-ghost use Rattle.server.specs.Sending.{replyHeader, echoed as echoedCall, echoHeader, responseSent, faultSent, emptySent, fackSent, sentOut};
+ghost use Rattle.server.specs.Sending.{replyHeader, echoed as echoedCall, echoHeader, responseSent, faultSent, emptySent, fackSent, cancelAckSent, sentOut};
 ghost use Rattle.calls.specs.Events.{Stepped, Arrived};
 ghost use Rattle.server.specs.Machine.{outcomeOf, replying, transmitting, timing, faulting, planOf, acted, arriving, handedUpOf};
 
@@ -114,6 +114,15 @@ fn send_fack(serial: u16, s: Server, h: Header, out: &mut [u8]) -> Sent
     calls::post(header, &body, out)
 }
 
+// Sends a cancel_ack for the cancel of that number.
+fn send_cancel_ack(number: u32, accepts: bool, s: Server, h: Header, out: &mut [u8]) -> Sent
+    ensures { λ r. ⌜ Posted (cancelAckSent number accepts s h (now (out .entry))) r (now (out .exit)) ⌝ }
+{
+    let header = echo_header(10, 0, s, h);
+    let body = bodies::write_cancel_ack(number, accepts);
+    calls::post(header, &body, out)
+}
+
 // Sends what a plan says, from the record after the step; h is the header of the PDU answered.
 fn send_out(send: Send, s: Server, h: Header, lent: &[u8], out: &mut [u8]) -> Sent
     ensures { λ r. ⌜ Posted (sentOut send s h (now (lent .entry)) (now (out .entry))) r (now (out .exit)) ⌝ }
@@ -125,6 +134,7 @@ fn send_out(send: Send, s: Server, h: Header, lent: &[u8], out: &mut [u8]) -> Se
         Send::Working => send_empty(4, s, h, out),
         Send::Nocall => send_empty(5, s, h, out),
         Send::Fack(serial) => send_fack(serial, s, h, out),
+        Send::CancelAck(number, accepts) => send_cancel_ack(number, accepts, s, h, out),
     }
 }
 
@@ -198,7 +208,8 @@ fn plan_arrival(s: Server, lent: Ground, reading: Reading, body: &[u8]) -> Plan
     let h = reading.header;
     let ground = server_table::arrival(s, lent, reading, body);
     let length = grounds::body_length(body.len());
-    server_arrivals::arrive(ground, s, h, length)
+    let cancel = bodies::read_cancel(body, reading.little);
+    server_arrivals::arrive(ground, s, h, length, cancel.number)
 }
 
 // Acts on the plan of an arriving PDU.

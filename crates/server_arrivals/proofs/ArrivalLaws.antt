@@ -17,11 +17,13 @@ use Rattle.server_record.specs.declared.State.{State}
 use Rattle.server_record.specs.declared.State.the-variants.{Collect, Running}
 use Rattle.server_record.specs.declared.Server.{Server}
 use Rattle.server_record.specs.Rules.{messageRule, outgoingSound, sound}
-use Rattle.server_record.specs.Record.{unarmed, withOutgoing, withIncoming}
+use Rattle.server_record.specs.Record.{unarmed, withOutgoing, withIncoming, withSeen}
 use Rattle.server_record.proofs.RuleLaws.{rules-told, rules-hold, out-told, out-holds, collect-told, count-most}
 use Rattle.server_record.proofs.RecordLaws.{unarmed-sound, spent-sound}
+use Rattle.server_steps.specs.declared.Plan.{Plan}
 use Rattle.server_steps.specs.Plan.{accepted}
-use Rattle.server_arrivals.specs.Rows.{begun, putState, putPlan, requestPlan, beginPlan, workingPlan, nocallPlan, fackPlan, ackPlan}
+use Rattle.server_arrivals.specs.Rows.{begun, putState, putPlan, requestPlan, beginPlan, workingPlan, nocallPlan, fackPlan, ackPlan, declinePlan, heardPlan, acceptPlan}
+use Rattle.server_arrivals.proofs.CancelLaws.{heard-or-not}
 
 -- A request is put where no message is out: to COLLECT, or to RUNNING where all is held.
 module _ (s : Server) (m : Incoming) (count : leb (s .resends) retryLimit ≡ true) (out : outgoingSound Collect (s .outgoing) ≡ true)
@@ -83,6 +85,16 @@ module _ (s : Server) (kept : sound s ≡ true) where
   unfolding ackPlan accepted
   ack-sound = spent-sound s kept
 
+  -- Cancel, declined: the record stays,
+  pub decline-sound : (n : ℕ) → sound (declinePlan s n .server) ≡ true
+  unfolding declinePlan accepted
+  decline-sound n = kept
+
+  -- and where it is accepted the rules do not speak of the number remembered.
+  pub accept-sound : (n : ℕ) → sound (acceptPlan s n .server) ≡ true
+  unfolding heardPlan accepted withSeen sound
+  accept-sound n = heard-or-not s n (λ (p : Plan). sound (p .server) ≡ true) kept kept
+
 module _ (s : Server) where
   -- What is held: after a put what it makes,
   pub put-held : (m : Incoming) (flags1 serial : ℕ) → putPlan s m flags1 serial .server .incoming ≡ m
@@ -109,7 +121,17 @@ module _ (s : Server) where
   unfolding fackPlan accepted withOutgoing
   fack-held g = refl
 
-  -- and an ack too.
+  -- an ack
   pub ack-held : ackPlan s .server .incoming ≡ s .incoming
   unfolding ackPlan accepted unarmed
   ack-held = refl
+
+  -- and a cancel too, whether it is declined
+  pub decline-held : (n : ℕ) → declinePlan s n .server .incoming ≡ s .incoming
+  unfolding declinePlan accepted
+  decline-held n = refl
+
+  -- or accepted.
+  pub accept-held : (n : ℕ) → acceptPlan s n .server .incoming ≡ s .incoming
+  unfolding heardPlan accepted withSeen
+  accept-held n = heard-or-not s n (λ (p : Plan). p .server .incoming ≡ s .incoming) refl refl

@@ -1,11 +1,12 @@
 -- The server's rows of arriving PDUs.
 use Prim.Native.Nat.{ℕ}
-use mathlib.Core.Bool.{Bool, true}
+use mathlib.Core.Bool.{Bool, true, false}
+use lib.Dec.{ltb}
 use Rattle.words.specs.Choice.{choose}
 use Rattle.answers.specs.declared.Answer.the-variants.{Done}
 use Rattle.calls.specs.declared.Call.{Call}
 use Rattle.calls.specs.declared.Notice.{Notice}
-use Rattle.calls.specs.declared.Notice.the-variants.{Nothing as Untold, Dispatch}
+use Rattle.calls.specs.declared.Notice.the-variants.{Nothing as Untold, Dispatch, Cancel}
 use Rattle.flags.specs.Flags.{idempotent, hasFlag}
 use Rattle.pdu.specs.declared.Header.{Header}
 use Rattle.incoming.specs.declared.Incoming.{Incoming}
@@ -17,9 +18,9 @@ use Rattle.server_record.specs.declared.Idle.the-variants.{Spent}
 use Rattle.server_record.specs.declared.State.{State}
 use Rattle.server_record.specs.declared.State.the-variants.{Idle as IdleState, Collect, Running}
 use Rattle.server_record.specs.declared.Server.{Server}
-use Rattle.server_record.specs.Record.{unarmed, withOutgoing, withIncoming, withCall}
+use Rattle.server_record.specs.Record.{unarmed, withOutgoing, withIncoming, withSeen, withCall}
 use Rattle.server_steps.specs.declared.Send.{Send}
-use Rattle.server_steps.specs.declared.Send.the-variants.{Nothing, Working, Nocall, Fack}
+use Rattle.server_steps.specs.declared.Send.the-variants.{Nothing, Working, Nocall, Fack, CancelAck}
 use Rattle.server_steps.specs.declared.Plan.{Plan}
 use Rattle.server_steps.specs.Plan.{accepted}
 
@@ -81,3 +82,21 @@ fackPlan s g = accepted (withOutgoing s (acknowledgedTo (s .outgoing) (acknowled
 -- Ack: to IDLE spent.
 unfoldable pub ackPlan : Server → Plan
 ackPlan s = accepted (unarmed s (IdleState Spent)) Nothing
+
+-- Cancel, in COLLECT, REPLYING or HELD: cancel_ack with its number and 0; the record stays.
+unfoldable pub declinePlan : Server → ℕ → Plan
+declinePlan s n = accepted s (CancelAck n false)
+
+-- A cancel that is heard: its number is remembered, notice "cancel".
+unfoldable pub heardPlan : Server → ℕ → Plan
+heardPlan s n = record {
+  answer = Done;
+  server = withSeen s n;
+  send = CancelAck n true;
+  notice = Cancel;
+  put = false;
+}
+
+-- Cancel, in RUNNING: cancel_ack with its number and 1. A number above the last seen is heard; else the record stays.
+unfoldable pub acceptPlan : Server → ℕ → Plan
+acceptPlan s n = choose (ltb (s .seen) n) (heardPlan s n) (accepted s (CancelAck n true))

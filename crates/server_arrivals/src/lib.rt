@@ -12,7 +12,7 @@ use server_rows::Row;
 use server_steps::Plan;
 use server_steps::Send;
 ghost use mathlib.Core.Path.{_≡_};
-ghost use Rattle.server_arrivals.specs.Rows.{callOf, begun as begunRecord, putState, putNotice, fackFor, putPlan, requestPlan, beginPlan, fackPlan, ackPlan};
+ghost use Rattle.server_arrivals.specs.Rows.{callOf, begun as begunRecord, putState, putNotice, fackFor, putPlan, requestPlan, beginPlan, fackPlan, ackPlan, declinePlan, heardPlan, acceptPlan};
 ghost use Rattle.server_arrivals.specs.Table.{arrivalRow, arrivalPlan};
 
 // The call that a request carries.
@@ -120,9 +120,40 @@ fn ack(s: Server) -> Plan
     )
 }
 
-// What each row does; the first three were refused with 13, 15 and 16.
-fn act(row: Row, s: Server, h: Header, length: u16) -> Plan
-    ensures { λ r. ⌜ r ≡ arrivalRow row s h length ⌝ }
+// Cancel, in COLLECT, REPLYING or HELD: it is answered.
+fn decline(s: Server, number: u32) -> Plan
+    ensures { λ r. ⌜ r ≡ declinePlan s number ⌝ }
+{
+    server_steps::accepted(s, Send::CancelAck(number, false))
+}
+
+// A cancel that is heard: its number is remembered, and the stub is told.
+fn heard(s: Server, number: u32) -> Plan
+    ensures { λ r. ⌜ r ≡ heardPlan s number ⌝ }
+{
+    let server = server_record::with_seen(s, number);
+    Plan {
+        answer: Answer::Done,
+        server,
+        send: Send::CancelAck(number, true),
+        notice: Notice::Cancel,
+        put: false,
+    }
+}
+
+// Cancel, in RUNNING: one above the last seen is heard.
+fn accept(s: Server, number: u32) -> Plan
+    ensures { λ r. ⌜ r ≡ acceptPlan s number ⌝ }
+{
+    if s.seen < number {
+        return heard(s, number);
+    }
+    server_steps::accepted(s, Send::CancelAck(number, true))
+}
+
+// What each row does; a cancel has its number besides. The first three were refused with 13, 15 and 16.
+fn act(row: Row, s: Server, h: Header, length: u16, cancel: u32) -> Plan
+    ensures { λ r. ⌜ r ≡ arrivalRow row s h length cancel ⌝ }
 {
     let state = s.state;
     match row {
@@ -136,15 +167,17 @@ fn act(row: Row, s: Server, h: Header, length: u16) -> Plan
         Row::Replay => server_steps::replay(state, s),
         Row::Acknowledge => fack(s, h.fragment),
         Row::Finish => ack(s),
+        Row::AcceptCancel => accept(s, cancel),
+        Row::DeclineCancel => decline(s, cancel),
     }
 }
 
 // An arriving PDU, judged.
-pub fn arrive(ground: Ground, s: Server, h: Header, length: u16) -> Plan
-    ensures { λ r. ⌜ r ≡ arrivalPlan ground s h length ⌝ }
+pub fn arrive(ground: Ground, s: Server, h: Header, length: u16, cancel: u32) -> Plan
+    ensures { λ r. ⌜ r ≡ arrivalPlan ground s h length cancel ⌝ }
 {
     match ground {
         Ground::Refuse(answer) => server_steps::refused(s, answer),
-        Ground::Pass => act(server_rows::row_for(s, h), s, h, length),
+        Ground::Pass => act(server_rows::row_for(s, h), s, h, length, cancel),
     }
 }

@@ -9,14 +9,14 @@ use Rattle.words.specs.Choice.{choose, either}
 use Rattle.server_record.specs.declared.Idle.the-variants.{Fresh, Spent, Repeatable}
 use Rattle.server_record.specs.declared.State.{State}
 use Rattle.server_record.specs.declared.State.the-variants.{Idle as IdleState, Collect, Running, Replying, Held}
-use Rattle.server_record.specs.States.{isRunning, isHeld}
+use Rattle.server_record.specs.States.{isIdle, isRunning, isHeld}
 use Rattle.server_rows.specs.declared.Event.{Event}
-use Rattle.server_rows.specs.declared.Event.the-variants.{Request, Ping, Ack, Fack, Foreign}
+use Rattle.server_rows.specs.declared.Event.the-variants.{Request, Ping, Ack, Cancel, Fack, Foreign}
 use Rattle.server_rows.specs.declared.Order.{Order}
 use Rattle.server_rows.specs.declared.Order.the-variants.{Below, Equal, Newer}
 use Rattle.server_rows.specs.declared.Row.{Row}
-use Rattle.server_rows.specs.declared.Row.the-variants.{Old, Missing, Repeat, Begin, Put, Working, Nocall, Replay, Acknowledge, Finish}
-use Rattle.server_rows.specs.Table.{orderBy, orderOf, requestNewer, requestAgain, requestIdle, requestEqual, requestRow, pingEqual, pingRow, whereReplied, acknowledgementRow, finishRow, fackRow, ackRow, rowOf}
+use Rattle.server_rows.specs.declared.Row.the-variants.{Old, Missing, Repeat, Begin, Put, Working, Nocall, Replay, Acknowledge, Finish, AcceptCancel, DeclineCancel}
+use Rattle.server_rows.specs.Table.{orderBy, orderOf, requestNewer, requestAgain, requestIdle, requestEqual, requestRow, pingEqual, pingRow, whereReplied, acknowledgementRow, finishRow, fackRow, ackRow, cancelEqual, cancelRow, rowOf}
 
 -- What an order tells of the two numbers.
 OrderTells : Bool → ℕ → ℕ → Order → Type 0
@@ -66,6 +66,8 @@ RowTells event order state bit mark Nocall = event ≡ Ping
 RowTells event order state bit mark Replay = (order ≡ Equal) × (isHeld state ≡ true)
 RowTells event order state bit mark Acknowledge = (event ≡ Fack) × (order ≡ Equal) × ((state ≡ Replying) ⊎ (isHeld state ≡ true))
 RowTells event order state bit mark Finish = (order ≡ Equal) × (mark ≡ false) × ((state ≡ Replying) ⊎ (isHeld state ≡ true))
+RowTells event order state bit mark AcceptCancel = (event ≡ Cancel) × (order ≡ Equal) × (state ≡ Running)
+RowTells event order state bit mark DeclineCancel = (event ≡ Cancel) × (order ≡ Equal) × (isIdle state ≡ false) × (isRunning state ≡ false)
 
 -- The row of a request tells it,
 request-tells : (bit mark : Bool) (order : Order) (state : State) → RowTells Request order state bit mark (requestRow order state bit)
@@ -109,6 +111,17 @@ ack-tells bit true Equal (Held reply) = tt
 ack-tells bit false Equal (Held reply) = (refl, refl, inr refl)
 ack-tells bit mark Newer state = tt
 
+-- of a cancel,
+cancel-tells : (bit mark : Bool) (order : Order) (state : State) → RowTells Cancel order state bit mark (cancelRow order state)
+unfolding RowTells cancelRow cancelEqual isIdle isRunning
+cancel-tells bit mark Below state = tt
+cancel-tells bit mark Equal (IdleState idle) = tt
+cancel-tells bit mark Equal Collect = (refl, refl, refl, refl)
+cancel-tells bit mark Equal Running = (refl, refl, refl)
+cancel-tells bit mark Equal Replying = (refl, refl, refl, refl)
+cancel-tells bit mark Equal (Held reply) = (refl, refl, refl, refl)
+cancel-tells bit mark Newer state = tt
+
 -- of a fack,
 fack-tells : (bit mark : Bool) (order : Order) (state : State) → RowTells Fack order state bit mark (fackRow order state)
 unfolding RowTells fackRow acknowledgementRow whereReplied isHeld
@@ -126,6 +139,7 @@ unfolding RowTells rowOf
 row-tells Request order state bit mark = request-tells bit mark order state
 row-tells Ping order state bit mark = ping-tells bit mark order state
 row-tells Ack order state bit mark = ack-tells bit mark order state
+row-tells Cancel order state bit mark = cancel-tells bit mark order state
 row-tells Fack order state bit mark = fack-tells bit mark order state
 row-tells Foreign order state bit mark = tt
 
@@ -166,3 +180,14 @@ module _ (event : Event) (order : Order) (state : State) (bit mark : Bool) where
   pub finish-told : rowOf event order state bit mark ≡ Finish → (order ≡ Equal) × (mark ≡ false) × ((state ≡ Replying) ⊎ (isHeld state ≡ true))
   unfolding RowTells
   finish-told e = subst (RowTells event order state bit mark) e (row-tells event order state bit mark)
+
+  -- A cancel is accepted: one of an equal number, in RUNNING.
+  pub accept-told : rowOf event order state bit mark ≡ AcceptCancel → (event ≡ Cancel) × (order ≡ Equal) × (state ≡ Running)
+  unfolding RowTells
+  accept-told e = subst (RowTells event order state bit mark) e (row-tells event order state bit mark)
+
+  -- A cancel is declined: one of an equal number, in COLLECT, REPLYING or HELD.
+  pub decline-told : rowOf event order state bit mark ≡ DeclineCancel
+      → (event ≡ Cancel) × (order ≡ Equal) × (isIdle state ≡ false) × (isRunning state ≡ false)
+  unfolding RowTells
+  decline-told e = subst (RowTells event order state bit mark) e (row-tells event order state bit mark)

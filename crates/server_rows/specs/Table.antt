@@ -8,11 +8,11 @@ use Rattle.server_record.specs.declared.Idle.the-variants.{Fresh, Spent, Repeat
 use Rattle.server_record.specs.declared.State.{State}
 use Rattle.server_record.specs.declared.State.the-variants.{Idle as IdleState, Collect, Running, Replying, Held}
 use Rattle.server_rows.specs.declared.Event.{Event}
-use Rattle.server_rows.specs.declared.Event.the-variants.{Request, Ping, Ack, Fack, Foreign}
+use Rattle.server_rows.specs.declared.Event.the-variants.{Request, Ping, Ack, Cancel, Fack, Foreign}
 use Rattle.server_rows.specs.declared.Order.{Order}
 use Rattle.server_rows.specs.declared.Order.the-variants.{Below, Equal, Newer}
 use Rattle.server_rows.specs.declared.Row.{Row}
-use Rattle.server_rows.specs.declared.Row.the-variants.{Old, Missing, Repeat, Begin, Put, Working, Nocall, Replay, Acknowledge, Finish}
+use Rattle.server_rows.specs.declared.Row.the-variants.{Old, Missing, Repeat, Begin, Put, Working, Nocall, Replay, Acknowledge, Finish, AcceptCancel, DeclineCancel}
 
 -- A number that is not newer is equal or below.
 unfoldable pub orderBy : Bool → ℕ → ℕ → Order
@@ -92,10 +92,25 @@ finishRow idempotent = choose idempotent Missing Finish
 unfoldable pub ackRow : Order → State → Bool → Row
 ackRow order state idempotent = acknowledgementRow order state (finishRow idempotent)
 
+-- Cancel, equal: RUNNING accepts it; COLLECT, REPLYING and HELD answer too, and decline it. IDLE: 15.
+unfoldable pub cancelEqual : State → Row
+cancelEqual (IdleState idle) = Missing
+cancelEqual Collect = DeclineCancel
+cancelEqual Running = AcceptCancel
+cancelEqual Replying = DeclineCancel
+cancelEqual (Held reply) = DeclineCancel
+
+-- Cancel: of a call below the server's 13; newer or fresh, in any state, 15.
+unfoldable pub cancelRow : Order → State → Row
+cancelRow Below state = Old
+cancelRow Equal state = cancelEqual state
+cancelRow Newer state = Missing
+
 -- The row of an arriving PDU: bit is the PDU's idempotent bit, mark the call's. What is foreign was refused with 10.
 unfoldable pub rowOf : Event → Order → State → Bool → Bool → Row
 rowOf Request order state bit mark = requestRow order state bit
 rowOf Ping order state bit mark = pingRow order state
 rowOf Ack order state bit mark = ackRow order state mark
+rowOf Cancel order state bit mark = cancelRow order state
 rowOf Fack order state bit mark = fackRow order state
 rowOf Foreign order state bit mark = Missing

@@ -6,7 +6,7 @@ use server_record::Server;
 use server_record::State;
 ghost use mathlib.Core.Path.{_≡_};
 ghost use Rattle.server_rows.specs.Events.{clientEvent, eventOf};
-ghost use Rattle.server_rows.specs.Table.{orderBy, orderOf, requestNewer, requestAgain, requestIdle, requestEqual, requestRow, pingEqual, pingRow, whereReplied, acknowledgementRow, finishRow, rowOf};
+ghost use Rattle.server_rows.specs.Table.{orderBy, orderOf, requestNewer, requestAgain, requestIdle, requestEqual, requestRow, pingEqual, pingRow, whereReplied, acknowledgementRow, finishRow, cancelEqual, cancelRow, rowOf};
 ghost use Rattle.server_rows.specs.Rows.{orderFor, rowFor};
 
 // What an arriving PDU is to the server.
@@ -14,6 +14,7 @@ pub enum Event {
     Request,
     Ping,
     Ack,
+    Cancel,
     Fack,
     // A type that is not for this side.
     Foreign,
@@ -38,6 +39,8 @@ pub enum Row {
     Replay,
     Acknowledge,
     Finish,
+    AcceptCancel,
+    DeclineCancel,
 }
 
 // What the client calls with: types 0 and 1.
@@ -50,16 +53,16 @@ fn client_event(kind: u8) -> Event
     }
 }
 
-// The server takes types 0, 1, 7 and 9.
+// The server takes types 0, 1, 7, 8 and 9.
 pub fn event_of(kind: u8) -> Event
     ensures { λ r. ⌜ r ≡ eventOf kind ⌝ }
 {
     match kind {
         0..=1 => client_event(kind),
         7 => Event::Ack,
+        8 => Event::Cancel,
         9 => Event::Fack,
         2..=6 => Event::Foreign,
-        8 => Event::Foreign,
         10..=255 => Event::Foreign,
     }
 }
@@ -198,6 +201,29 @@ fn finish_row(idempotent: bool) -> Row
     Row::Finish
 }
 
+// The row of an equal cancel.
+fn cancel_equal(state: State) -> Row
+    ensures { λ r. ⌜ r ≡ cancelEqual state ⌝ }
+{
+    match state {
+        State::Idle(idle) => Row::Missing,
+        State::Collect => Row::DeclineCancel,
+        State::Running => Row::AcceptCancel,
+        State::Replying => Row::DeclineCancel,
+        State::Held(reply) => Row::DeclineCancel,
+    }
+}
+
+fn cancel_row(order: Order, state: State) -> Row
+    ensures { λ r. ⌜ r ≡ cancelRow order state ⌝ }
+{
+    match order {
+        Order::Below => Row::Old,
+        Order::Equal => cancel_equal(state),
+        Order::Newer => Row::Missing,
+    }
+}
+
 // The row of an arriving PDU: bit is the PDU's idempotent bit, mark the call's.
 fn row_of(event: Event, order: Order, state: State, bit: bool, mark: bool) -> Row
     ensures { λ r. ⌜ r ≡ rowOf event order state bit mark ⌝ }
@@ -206,6 +232,7 @@ fn row_of(event: Event, order: Order, state: State, bit: bool, mark: bool) -> Ro
         Event::Request => request_row(order, state, bit),
         Event::Ping => ping_row(order, state),
         Event::Ack => acknowledgement_row(order, state, finish_row(mark)),
+        Event::Cancel => cancel_row(order, state),
         Event::Fack => acknowledgement_row(order, state, Row::Acknowledge),
         Event::Foreign => Row::Missing,
     }

@@ -16,7 +16,8 @@ ghost use Rattle.server_steps.specs.Plan.{refused as refusedPlan, accept
 ghost use Rattle.server_steps.specs.Rows.{answered as answeredRecord, replyPlan, settled as settledRecord, transmitted as transmittedRecord, transmitPlan, faultPlan, rewinding as rewindingRecord, replayHeld, replayPlan, resendHeld, resendRow, timerRow, timerPlan};
 
 // What is to be sent: nothing, the response's fragment of that number, a fault with its status, and
-// for the PDU answered working, nocall, or a fack.
+// for the PDU answered working, nocall, a fack for its serial, or a cancel_ack with its cancel number
+// and whether the server accepts cancels.
 pub enum Send {
     Nothing,
     Response(u16),
@@ -24,6 +25,7 @@ pub enum Send {
     Working,
     Nocall,
     Fack(u16),
+    CancelAck(u32, bool),
 }
 
 // What a step is to do: the answer, the next record, the PDU to send, the notice, and whether the
@@ -49,7 +51,7 @@ pub fn refused(s: Server, answer: Answer) -> Plan
     }
 }
 
-// An accepted event that puts nothing.
+// An accepted event that puts nothing and tells the stub nothing.
 pub fn accepted(s: Server, send: Send) -> Plan
     ensures { λ r. ⌜ r ≡ acceptedPlan s send ⌝ }
 {

@@ -17,14 +17,15 @@ ghost use Rattle.server_table.specs.Events.{byEvent, sideGround};
 ghost use Rattle.server_table.specs.Arrival.{requestGround, oldGround, rowGround, agree, sameCall, callGround, contradictionGround, slotGround, pduGround, tableGround, arrivalGround};
 ghost use Rattle.server_table.specs.Local.{transmitGround, timerGround, replyGround, faultGround};
 
-// What is judged of a request and of a fack.
-fn by_event(event: Event, request: Ground, fack: Ground) -> Ground
-    ensures { λ r. ⌜ r ≡ byEvent event request fack ⌝ }
+// What is judged of a request, of a cancel and of a fack.
+fn by_event(event: Event, request: Ground, cancel: Ground, fack: Ground) -> Ground
+    ensures { λ r. ⌜ r ≡ byEvent event request cancel fack ⌝ }
 {
     match event {
         Event::Request => request,
         Event::Ping => Ground::Pass,
         Event::Ack => Ground::Pass,
+        Event::Cancel => cancel,
         Event::Fack => fack,
         Event::Foreign => Ground::Pass,
     }
@@ -38,6 +39,7 @@ fn side(event: Event) -> Ground
         Event::Request => Ground::Pass,
         Event::Ping => Ground::Pass,
         Event::Ack => Ground::Pass,
+        Event::Cancel => Ground::Pass,
         Event::Fack => Ground::Pass,
         Event::Foreign => Ground::Refuse(Answer::WrongSide),
     }
@@ -67,6 +69,8 @@ fn old(row: Row) -> Ground
         Row::Replay => Ground::Pass,
         Row::Acknowledge => Ground::Pass,
         Row::Finish => Ground::Pass,
+        Row::AcceptCancel => Ground::Pass,
+        Row::DeclineCancel => Ground::Pass,
     }
 }
 
@@ -85,6 +89,8 @@ fn row_ground(row: Row) -> Ground
         Row::Replay => Ground::Pass,
         Row::Acknowledge => Ground::Pass,
         Row::Finish => Ground::Pass,
+        Row::AcceptCancel => Ground::Pass,
+        Row::DeclineCancel => Ground::Pass,
     }
 }
 
@@ -150,6 +156,8 @@ fn slot(row: Row, m: Incoming, f: u16, last: bool) -> Ground
         Row::Replay => contradiction(m, f, last),
         Row::Acknowledge => Ground::Pass,
         Row::Finish => Ground::Pass,
+        Row::AcceptCancel => Ground::Pass,
+        Row::DeclineCancel => Ground::Pass,
     }
 }
 
@@ -158,8 +166,10 @@ fn pdu_ground(event: Event, row: Row, flags1: u8, f: u16, body: &[u8], little: b
     ensures { λ r. ⌜ r ≡ pduGround event row flags1 f (now (body .entry)) little ⌝ }
 {
     let part = grounds::first_of(request(flags1), grounds::fragment(flags1, f));
-    let fragment = by_event(event, part, Ground::Pass);
-    let malformed = by_event(event, Ground::Pass, grounds::fack_body(body, little));
+    let fragment = by_event(event, part, Ground::Pass, Ground::Pass);
+    let cancel = grounds::cancel_body(body, little);
+    let fack = grounds::fack_body(body, little);
+    let malformed = by_event(event, Ground::Pass, cancel, fack);
     let rest = grounds::first_of(fragment, grounds::first_of(old(row), malformed));
     grounds::first_of(side(event), rest)
 }
@@ -175,7 +185,7 @@ fn table_ground(event: Event, order: Order, row: Row, s: Server, h: Header) -> G
     let slots = slot(row, m, h.fragment, last);
     let same = call_ground(order, is_same_call(call, h));
     let fack = grounds::fack(o.count, h.fragment);
-    let clash = by_event(event, grounds::first_of(slots, same), fack);
+    let clash = by_event(event, grounds::first_of(slots, same), Ground::Pass, fack);
     grounds::first_of(row_ground(row), clash)
 }
 

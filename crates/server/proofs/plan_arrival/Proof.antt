@@ -12,4 +12,5 @@ plan-arrival-spec =
     (λ c κs. search needs)
     (λ c κs. search needs)
     (λ c κs. search needs)
-    (λ c. rw (c .arrive .ensures, c .before .body-length .ensures, c .before .before .arrival .ensures)))
+    (λ c κs. search needs)
+    (λ c. rw (c .arrive .ensures, c .before .read-cancel .ensures, c .before .before .body-length .ensures, c .before .before .before .arrival .ensures)))

@@ -30,11 +30,17 @@ returns-6 : tie.Need-returns-6
 unfolding sentOut
 returns-6 c = sent-as _ _ _ _ _ _ _ _ (c .before .before .before .before .before .send3 .given .1) (c .before .before .send-fack .ensures)
 
+returns-7 : tie.Need-returns-7
+unfolding sentOut
+returns-7 c = sent-as _ _ _ _ _ _ _ _ (c .before .before .before .before .before .send4 .given .1) (c .before .before .send-cancel-ack .ensures)
+
 pub send-out-spec : {M : Type 1} → statement M
 send-out-spec =
     tie.close
     (tie.spec
     (λ c. search needs)
+    (λ c. search needs)
+    (λ c κs. search needs)
     (λ c. search needs)
     (λ c κs. search needs)
     (λ c. search needs)
@@ -55,4 +61,6 @@ send-out-spec =
     (λ c. search needs)
     returns-5
     (λ c. search needs)
-    returns-6)
+    returns-6
+    (λ c. search needs)
+    returns-7)

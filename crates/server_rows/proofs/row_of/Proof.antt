@@ -23,8 +23,11 @@ row-of-spec =
     (λ c. search needs)
     (λ c κs. search needs)
     (λ c. search needs)
+    (λ c κs. search needs)
+    (λ c. search needs)
     (λ c. rw (c .before .enum-told .given .1, c .request-row .ensures))
     (λ c. rw (c .before .enum-told2 .given .1, c .ping-row .ensures))
     returns-3
-    (λ c. rw (c .before .enum-told4 .given .1, c .acknowledgement-row2 .ensures))
-    (λ c. rw (c .enum-told5 .given .1)))
+    (λ c. rw (c .before .enum-told4 .given .1, c .cancel-row .ensures))
+    (λ c. rw (c .before .enum-told5 .given .1, c .acknowledgement-row2 .ensures))
+    (λ c. rw (c .enum-told6 .given .1)))

@@ -15,6 +15,8 @@ by-event-spec =
     (λ c. search needs)
     (λ c. search needs)
     (λ c. search needs)
+    (λ c. search needs)
+    (λ c. search tests)
     (λ c. search tests)
     (λ c. search tests)
     (λ c. search tests)

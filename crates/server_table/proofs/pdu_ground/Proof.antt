@@ -20,4 +20,5 @@ pdu-ground-spec =
     (λ c κs. search needs)
     (λ c κs. search needs)
     (λ c κs. search needs)
-    (λ c. rw (c .first-of4 .ensures, c .before .side .ensures, c .before .before .first-of3 .ensures, c .before .before .before .first-of2 .ensures, c .before .before .before .before .old .ensures, c .before .before .before .before .before .by-event2 .ensures, c .before .before .before .before .before .before .fack-body .ensures, c .before .before .before .before .before .before .before .by-event .ensures, c .before .before .before .before .before .before .before .before .first-of .ensures, c .before .before .before .before .before .before .before .before .before .fragment .ensures, c .before .before .before .before .before .before .before .before .before .before .request .ensures)))
+    (λ c κs. search needs)
+    (λ c. rw (c .first-of4 .ensures, c .before .side .ensures, c .before .before .first-of3 .ensures, c .before .before .before .first-of2 .ensures, c .before .before .before .before .old .ensures, c .before .before .before .before .before .by-event2 .ensures, c .before .before .before .before .before .before .fack-body .ensures, c .before .before .before .before .before .before .before .cancel-body .ensures, c .before .before .before .before .before .before .before .before .by-event .ensures, c .before .before .before .before .before .before .before .before .before .first-of .ensures, c .before .before .before .before .before .before .before .before .before .before .fragment .ensures, c .before .before .before .before .before .before .before .before .before .before .before .request .ensures)))
