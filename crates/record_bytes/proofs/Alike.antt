@@ -24,7 +24,7 @@ use Rattle.record_bytes.specs.Layout.{callIn, outgoingIn, incomingIn, fi
 use Rattle.record_bytes.proofs.PartLaws.{uuid-part}
 
 -- The ticket of a timer that is not armed, and the length of a slot that is not held, may be any.
-timer-alike : (armed : Bool) (t u : ℕ) → (armed ≡ true → t ≡ u) → timerWhere armed t ≡ timerWhere armed u
+pub timer-alike : (armed : Bool) (t u : ℕ) → (armed ≡ true → t ≡ u) → timerWhere armed t ≡ timerWhere armed u
 unfolding timerWhere choose
 timer-alike true t u h = ap (timerWhere true) (h refl)
 timer-alike false t u h = refl
@@ -35,7 +35,7 @@ length-alike true m n h = h refl
 length-alike false m n h = refl
 
 -- A mark of 1 is not 0.
-mark-not-zero : (m : ℕ) → eqb m 1 ≡ true → m ≡ 0 → ⊥
+pub mark-not-zero : (m : ℕ) → eqb m 1 ≡ true → m ≡ 0 → ⊥
 mark-not-zero m e z = omega (arith, eqb-true m 1 e, z)
 
 pub timer-at-alike : (b c : List ℕ) (mark at : ℕ) → getD c mark 0 ≡ getD b mark 0
