@@ -103,10 +103,9 @@ module _ (b : List ℕ) (size : length b ≡ 272) (octets : Octets b) (allowed :
   digits-at n at = digits-part n b at byte
 
   front-again
-      : frontBytes (getD b 0 0) (markOf (eqb (getD b 1 0) 1)) (getD b 2 0) (getD b 3 0) (outgoingIn b)
-      (lastField (lastOf (number 2 true b 10))) (number 2 true b 14)
+      : frontBytes (getD b 0 0) (getD b 2 0) (getD b 3 0) (callIn b) (outgoingIn b) (lastOf (number 2 true b 10))
       ≡ part 16 b 0
-  unfolding outgoingIn
+  unfolding callIn outgoingIn
   front-again =
       let r = known b allowed in
       let last : digits 2 (lastField (lastOf (number 2 true b 10))) ≡ part 2 b 10 =

@@ -52,9 +52,7 @@ spelled f = record {
 
 -- Three of the ten parts that its bytes are, the first without its first four bytes too.
 abbrev frontOf : Fields → List ℕ
-frontOf f =
-    frontBytes (f .state) (markOf (f .call .idempotent)) (f .count) (f .extra) (f .outgoing)
-    (lastField (f .incoming .last)) (f .call .operation)
+frontOf f = frontBytes (f .state) (f .count) (f .extra) (f .call) (f .outgoing) (f .incoming .last)
 
 abbrev countsOf : Fields → List ℕ
 countsOf f = drop 4 (frontOf f)

@@ -8,6 +8,7 @@ use Rattle.words.specs.Choice.{both, either, markOf}
 use Rattle.words.specs.Number.{digits, number}
 use Rattle.calls.specs.declared.Call.{Call}
 use Rattle.incoming.specs.declared.Incoming.{Incoming}
+use Rattle.incoming.specs.declared.Last.{Last}
 use Rattle.outgoing.specs.declared.Outgoing.{Outgoing}
 use Rattle.timers.specs.declared.Timer.{Timer}
 use Rattle.record_bytes.specs.declared.Fields.{Fields}
@@ -80,18 +81,18 @@ fieldsIn s = record {
 }
 
 -- Bytes 0 to 15: state, idempotent, two counts; fragment count, sent, acknowledged; known last, serial, operation.
-abbrev pub frontBytes : ℕ → ℕ → ℕ → ℕ → Outgoing → ℕ → ℕ → List ℕ
-frontBytes state idempotent count extra outgoing last operation =
+abbrev pub frontBytes : ℕ → ℕ → ℕ → Call → Outgoing → Last → List ℕ
+frontBytes state count extra call outgoing last =
     state
-    ∷ (idempotent
+    ∷ (markOf (call .idempotent)
     ∷ (count
     ∷ (extra
     ∷ (digits 2 (outgoing .count)
     ++ (digits 2 (outgoing .sent)
     ++ (digits 2 (outgoing .acknowledged)
-    ++ (digits 2 last
+    ++ (digits 2 (lastField last)
     ++ (digits 2 (outgoing .serial)
-    ++ digits 2 operation))))))))
+    ++ digits 2 (call .operation)))))))))
 
 -- Bytes 16 to 31: number, interface version, message length, boot.
 abbrev pub numberBytes : ℕ → ℕ → ℕ → ℕ → List ℕ
@@ -117,8 +118,7 @@ laidBytes front numbers tickets first second back activity object interface held
 unfoldable pub fieldBytes : Fields → List ℕ
 fieldBytes f =
     laidBytes
-    (frontBytes (f .state) (markOf (f .call .idempotent)) (f .count) (f .extra) (f .outgoing)
-    (lastField (f .incoming .last)) (f .call .operation))
+    (frontBytes (f .state) (f .count) (f .extra) (f .call) (f .outgoing) (f .incoming .last))
     (numberBytes (f .number) (f .call .version) (f .outgoing .length) (f .boot))
     (digits 8 (f .tickets))
     (digits 8 (timerTicket (f .timer)))

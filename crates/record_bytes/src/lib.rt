@@ -368,23 +368,16 @@ pub fn decode(s: &[u8]) -> Fields
 }
 
 // Bytes 0 to 15.
-fn front(
-    state: u8,
-    idempotent: u8,
-    count: u8,
-    extra: u8,
-    outgoing: Outgoing,
-    last: u16,
-    operation: u16,
-) -> [u8; 16]
-    ensures { λ r. ⌜ r ≡ frontBytes state idempotent count extra outgoing last operation ⌝ }
+fn front(state: u8, count: u8, extra: u8, call: Call, outgoing: Outgoing, last: Last) -> [u8; 16]
+    ensures { λ r. ⌜ r ≡ frontBytes state count extra call outgoing last ⌝ }
 {
+    let idempotent = words::mark(call.idempotent);
     let fragments = words::split16(outgoing.count);
     let sent = words::split16(outgoing.sent);
     let acknowledged = words::split16(outgoing.acknowledged);
-    let known = words::split16(last);
+    let known = words::split16(last_number(last));
     let serial = words::split16(outgoing.serial);
-    let called = words::split16(operation);
+    let operation = words::split16(call.operation);
     [
         state,
         idempotent,
@@ -400,8 +393,8 @@ fn front(
         known[1],
         serial[0],
         serial[1],
-        called[0],
-        called[1],
+        operation[0],
+        operation[1],
     ]
 }
 
@@ -541,15 +534,7 @@ pub fn encode(fields: Fields, out: &mut [u8])
     let activity = fields.activity;
     let object = call.object;
     let interface = call.interface;
-    let front = front(
-        fields.state,
-        words::mark(call.idempotent),
-        fields.count,
-        fields.extra,
-        outgoing,
-        last_number(last),
-        call.operation,
-    );
+    let front = front(fields.state, fields.count, fields.extra, call, outgoing, last);
     let numbers = numbers(fields.number, call.version, outgoing.length, fields.boot);
     let tickets = split64(fields.tickets);
     let first = split64(timer_ticket(timer));

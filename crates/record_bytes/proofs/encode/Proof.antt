@@ -6,22 +6,19 @@ use mathlib.Core.Path.{ap, _∙_}
 use Rattle.words.specs.Number.{digits}
 use Rattle.words.specs.Place.{placed}
 use Rattle.record_bytes.specs.Layout.{fieldBytes}
-use Rattle.record_bytes.proofs.Laying.{front-same, parts-same}
+use Rattle.record_bytes.proofs.Laying.{parts-same}
 use Rattle.record_bytes.proofs.encode.Statement.{statement}
 use Rattle.record_bytes.proofs.encode.Tie as tie
 
 returns : tie.Need-returns
 unfolding fieldBytes
 returns c =
-    let start = c .before .before .before .before .before .before .before .before .before .before .before .before .before .before .before .before .before .before .before .before .before .before in
+    let start = c .before .before .before .before .before .before .before .before .before .before .before .before .before .before .before .before .before .before .before .before in
     let r = start .args .fields in
     c .before .before .lay .ensures
     ∙ ap (λ (l : List ℕ). placed 0 l (start .args .out .now))
     (parts-same (r .activity) (r .call .object) (r .call .interface)
-    (c .before .before .before .before .before .before .before .before .before .before .before .front .ensures
-    ∙ front-same (r .state) (r .count) (r .extra) (r .call .operation) (r .outgoing)
-    (c .before .before .before .before .before .before .before .before .before .before .before .before .before .mark .ensures)
-    (c .before .before .before .before .before .before .before .before .before .before .before .before .last-number .ensures))
+    (c .before .before .before .before .before .before .before .before .before .before .before .front .ensures)
     (c .before .before .before .before .before .before .before .before .before .before .numbers .ensures)
     (c .before .before .before .before .before .before .before .before .before .split64 .ensures)
     (c .before .before .before .before .before .before .before .split642 .ensures
@@ -34,8 +31,6 @@ pub encode-spec : {M : Type 1} → statement M
 encode-spec =
     tie.close
     (tie.spec
-    (λ c κs. search needs)
-    (λ c κs. search needs)
     (λ c κs. search needs)
     (λ c κs. search needs)
     (λ c κs. search needs)
