@@ -11,11 +11,11 @@ use Rattle.words.specs.Choice.{choose, both}
 use Rattle.words.specs.Number.{le, number}
 use Rattle.words.proofs.Tests.{both-hold, both-true}
 use Rattle.record_bytes.specs.Fits.{Octets, FitsFields}
-use Rattle.record_bytes.specs.Parts.{clear, countWhere, timerWhere, uuidIn}
+use Rattle.record_bytes.specs.Parts.{clear, countWhere, timerIn, uuidIn}
 use Rattle.record_bytes.specs.Layout.{readable as sharedReadable, callIn, outgoingIn, incomingIn, fieldsIn, fieldBytes}
 use Rattle.record_bytes.proofs.PartLaws.{timer-same, ticket-small, ticket-clear}
 use Rattle.record_bytes.proofs.FieldsBack.{fields-back, bytes-readable, length-fields, octets-fields}
-use Rattle.record_bytes.proofs.FieldsBack.{slots-clear, timer-clear}
+use Rattle.record_bytes.proofs.FieldsBack.{slots-clear, timer-clear, cancel-clear}
 use Rattle.record_bytes.proofs.Reading.{clear-part, armed-again, ticket-again, timer-fits, count-again, count-broken}
 use Rattle.record_bytes.proofs.FieldsAgain.{known as shared-known, bytes-fit, fields-again}
 use Rattle.client_record.specs.declared.Client.{Client}
@@ -42,6 +42,8 @@ module _ (c : Client) (fits : FitsClient c) where
     tickets = fits .tickets;
     timer = fits .wait;
     word = ticket-small (c .ack) (fits .ack);
+    cancel = fits .cancel;
+    cancels = fits .cancels;
   }
 
   pub client-readable : readable (clientBytes c) ≡ true
@@ -61,9 +63,11 @@ module _ (c : Client) (fits : FitsClient c) where
     incoming = c .incoming;
     waits = c .waits;
     resends = c .resends;
+    cancels = c .cancels;
     tickets = c .tickets;
     wait = c .wait;
     ack = timer-same (c .ack) i;
+    cancel = c .cancel;
   }
 
   -- A record as bytes and back is the record again.
@@ -83,6 +87,7 @@ module _ (c : Client) (fits : FitsClient c) where
     readable = client-readable;
     wait = timer-clear (fieldsOf c) fields-fit;
     ack = ticket-clear (c .ack);
+    cancel = cancel-clear (fieldsOf c) fields-fit;
     slots = slots-clear (fieldsOf c) fields-fit;
   }
 
@@ -116,9 +121,11 @@ client-fits b size octets allowed =
       incoming = f .incoming;
       waits = subst (λ (n : ℕ). n < 256) (sym (count-again (readable b) _ allowed)) (f .count);
       resends = f .extra;
+      cancels = f .cancels;
       tickets = f .tickets;
       wait = f .timer;
       ack = timer-fits _ _ (f .word);
+      cancel = f .cancel;
     }
 
 -- Bytes that are not readable stand for a record that breaks its rules, so every event refuses them with 2.
@@ -140,9 +147,11 @@ module _ (b : List ℕ) (canonical : Canonical b) where
     outgoing = outgoingIn b;
     incoming = incomingIn b;
     tickets = number 8 true b 32;
-    timer = timerWhere (eqb (getD b 64 0) 1) (number 8 true b 40);
+    timer = timerIn b 64 40;
     armed = armed-again (eqb (getD b 65 0) 1) (number 8 true b 48) i;
     word = ticket-again b 65 48 (shared-known b (known b (canonical .readable) .shared) .second) (canonical .ack) i;
+    cancel = timerIn b 66 56;
+    cancels = number 4 true b 68;
   }
 
   -- Canonical bytes as a record and back are the bytes again.
@@ -151,4 +160,4 @@ module _ (b : List ℕ) (canonical : Canonical b) where
   client-again =
       ap fieldBytes fields-same
       ∙ fields-again b (canonical .size) (canonical .octets) (known b (canonical .readable) .shared) (canonical .wait)
-      (canonical .slots)
+      (canonical .cancel) (canonical .slots)

@@ -11,6 +11,8 @@ pub record FitsClient (c : Client) : Type 0 where
   pub incoming : FitsIncoming (c .incoming)
   pub waits : c .waits < 256
   pub resends : c .resends < 256
+  pub cancels : c .cancels < 4294967296
   pub tickets : c .tickets < 18446744073709551616
   pub wait : FitsTimer (c .wait)
   pub ack : FitsTimer (c .ack)
+  pub cancel : FitsTimer (c .cancel)

@@ -48,9 +48,11 @@ clientOf readable f = record {
   incoming = f .incoming;
   waits = countWhere readable (f .count);
   resends = f .extra;
+  cancels = f .cancels;
   tickets = f .tickets;
   wait = f .timer;
   ack = timerWhere (f .armed) (f .word);
+  cancel = f .cancel;
 }
 
 -- The record that bytes stand for.
@@ -73,6 +75,8 @@ fieldsOf c = record {
   timer = c .wait;
   armed = isArmed (c .ack);
   word = timerTicket (c .ack);
+  cancel = c .cancel;
+  cancels = c .cancels;
 }
 
 -- The bytes of a record.

@@ -64,6 +64,7 @@ fn client_of(readable: bool, f: Fields) -> Client
     let outgoing = f.outgoing;
     let incoming = f.incoming;
     let wait = f.timer;
+    let cancel = f.cancel;
     let state = state_of(f.state);
     let ack = record_bytes::timer_where(f.armed, f.word);
     Client {
@@ -75,9 +76,11 @@ fn client_of(readable: bool, f: Fields) -> Client
         incoming,
         waits: record_bytes::count_where(readable, f.count),
         resends: f.extra,
+        cancels: f.cancels,
         tickets: f.tickets,
         wait,
         ack,
+        cancel,
     }
 }
 
@@ -100,6 +103,7 @@ fn fields_of(c: Client) -> Fields
     let incoming = c.incoming;
     let timer = c.wait;
     let ack = c.ack;
+    let cancel = c.cancel;
     Fields {
         state: state_number(state),
         count: c.waits,
@@ -114,6 +118,8 @@ fn fields_of(c: Client) -> Fields
         timer,
         armed: record_bytes::is_armed(ack),
         word: record_bytes::timer_ticket(ack),
+        cancel,
+        cancels: c.cancels,
     }
 }
 

@@ -14,9 +14,10 @@ use Rattle.words.specs.Number.{le, part, number}
 use Rattle.words.specs.Place.{putAt, placed}
 use Rattle.words.specs.Sizes.{windowSize}
 use Rattle.words.proofs.Place.{placed-fits, length-putAt}
+use Rattle.timers.specs.declared.Timer.{Timer}
 use Rattle.record_bytes.specs.declared.Fields.{Fields}
 use Rattle.record_bytes.specs.Canonical.{SharedUnjudged, SameButAt}
-use Rattle.record_bytes.specs.Parts.{timerWhere, lastOf, uuidIn, clear}
+use Rattle.record_bytes.specs.Parts.{timerWhere, timerIn, lastOf, uuidIn, clear}
 use Rattle.record_bytes.specs.Held.{lengthWhere, slotIn, slotsBelow, slotsIn, slotReadable, readableBelow, slotsReadable}
 use Rattle.record_bytes.specs.Layout.{sparesReadable, readable}
 use Rattle.record_bytes.specs.Layout.{callIn, outgoingIn, incomingIn, fieldsIn}
@@ -36,6 +37,13 @@ length-alike false m n h = refl
 -- A mark of 1 is not 0.
 pub mark-not-zero : (m : ℕ) → eqb m 1 ≡ true → m ≡ 0 → ⊥
 mark-not-zero m e z = omega (arith, eqb-true m 1 e, z)
+
+pub timer-at-alike : (b c : List ℕ) (mark at : ℕ) → getD c mark 0 ≡ getD b mark 0
+    → ((getD b mark 0 ≡ 0 → ⊥) → number 8 true c at ≡ number 8 true b at) → timerIn c mark at ≡ timerIn b mark at
+timer-at-alike b c mark at same ticket =
+    ap (λ (m : ℕ). timerWhere (eqb m 1) (number 8 true c at)) same
+    ∙ timer-alike (eqb (getD b mark 0) 1) _ _
+    (λ (e : eqb (getD b mark 0) 1 ≡ true). ticket (mark-not-zero (getD b mark 0) e))
 
 -- Slots by their bytes.
 module _ (s t : List ℕ) (mark : (f : ℕ) → getD t (4 * f + 2) 0 ≡ getD s (4 * f + 2) 0) where
@@ -81,9 +89,9 @@ clear-alike (suc n) b c at h =
     λ i.
     both (clear-alike n b c at (λ (k : ℕ) (low : at ≤ k) (high : k < at + n). h k low (omega arith)) i) (eqb (here i) 0)
 
--- What stands in bytes, with another word at 48.
-abbrev pub withWord : ℕ → Fields → Fields
-withWord word f = record {
+-- What stands in bytes, with another word at 48 and another third timer.
+abbrev pub withOwn : ℕ → Timer → Fields → Fields
+withOwn word cancel f = record {
   state = f .state;
   count = f .count;
   extra = f .extra;
@@ -97,15 +105,17 @@ withWord word f = record {
   timer = f .timer;
   armed = f .armed;
   word = word;
+  cancel = cancel;
+  cancels = f .cancels;
 }
 
--- Each side has its own places that are not judged beside those of both, and they are among bytes 48 to 55.
+-- Each side has its own places that are not judged beside those of both, and they are among bytes 48 to 63.
 module _ (Unjudged : ℕ → Type 0) (b c : List ℕ) (alike : SameButAt Unjudged b c)
-    (own : (i : ℕ) → Unjudged i → SharedUnjudged b i ⊎ ((48 ≤ i) × (i < 56))) where
-  judged : (i : ℕ) → (SharedUnjudged b i → ⊥) → ((48 ≤ i) × (i < 56) → ⊥) → getD c i 0 ≡ getD b i 0
+    (own : (i : ℕ) → Unjudged i → SharedUnjudged b i ⊎ ((48 ≤ i) × (i < 64))) where
+  judged : (i : ℕ) → (SharedUnjudged b i → ⊥) → ((48 ≤ i) × (i < 64) → ⊥) → getD c i 0 ≡ getD b i 0
   judged i p q = alike .same i (λ (u : Unjudged i). by-side (own i u))
     where
-      by-side : SharedUnjudged b i ⊎ ((48 ≤ i) × (i < 56)) → ⊥
+      by-side : SharedUnjudged b i ⊎ ((48 ≤ i) × (i < 64)) → ⊥
       by-side (inl u) = p u
       by-side (inr u) = q u
 
@@ -117,8 +127,8 @@ module _ (Unjudged : ℕ → Type 0) (b c : List ℕ) (alike : SameButAt Unjudge
       shared (inl u) = omega (arith, u .1)
       shared (inr u) = omega (arith, u .from)
 
-  -- those from 56 to 143,
-  pub back-alike : (i : ℕ) → 56 ≤ i → i < 144 → getD c i 0 ≡ getD b i 0
+  -- those from 64 to 143,
+  pub back-alike : (i : ℕ) → 64 ≤ i → i < 144 → getD c i 0 ≡ getD b i 0
   back-alike i low high = judged i shared (λ u. omega (arith, u .1))
     where
       shared : SharedUnjudged b i → ⊥
@@ -172,34 +182,31 @@ module _ (Unjudged : ℕ → Type 0) (b c : List ℕ) (alike : SameButAt Unjudge
   unfolding readable sparesReadable slotsReadable
   shared-readable =
       let front : (i : ℕ) → i < 40 → getD c i 0 ≡ getD b i 0 = front-alike in
-      let back : (i : ℕ) → 56 ≤ i → i < 144 → getD c i 0 ≡ getD b i 0 = back-alike in
+      let back : (i : ℕ) → 64 ≤ i → i < 144 → getD c i 0 ≡ getD b i 0 = back-alike in
       rw (
         front 1 (omega arith),
         back 64 (omega arith) (omega arith),
         back 65 (omega arith) (omega arith),
+        back 66 (omega arith) (omega arith),
         low-number 2 10 (omega arith),
-        clear-alike 8 b c 56 (λ (k : ℕ) (low : 56 ≤ k) (high : k < 64). back k low (omega arith)),
-        clear-alike 30 b c 66 (λ (k : ℕ) (low : 66 ≤ k) (high : k < 96). back k (omega arith) (omega arith)),
+        back 67 (omega arith) (omega arith),
+        clear-alike 24 b c 72 (λ (k : ℕ) (low : 72 ≤ k) (high : k < 96). back k (omega arith) (omega arith)),
         readable-alike (drop 144 b) (drop 144 c) mark-alike spare-alike windowSize,
       )
 
-  uuid-alike : (at : ℕ) → 56 ≤ at → at + 16 ≤ 144 → uuidIn c at ≡ uuidIn b at
+  uuid-alike : (at : ℕ) → 64 ≤ at → at + 16 ≤ 144 → uuidIn c at ≡ uuidIn b at
   uuid-alike at low high =
       uuid-part c at (omega (arith, alike .other-size))
       ∙ part-alike 16 b c at (λ (i : ℕ) (from : at ≤ i) (to : i < at + 16). back-alike i (omega arith) (omega arith))
       ∙ sym (uuid-part b at (omega (arith, alike .size)))
 
-  -- and the same stands in them, but for the word at 48.
-  pub fields-alike : fieldsIn c ≡ withWord (number 8 true c 48) (fieldsIn b)
+  -- and the same stands in them, but for the word at 48 and the third timer.
+  pub fields-alike : fieldsIn c ≡ withOwn (number 8 true c 48) (timerIn c 66 56) (fieldsIn b)
   unfolding fieldsIn callIn outgoingIn incomingIn slotsIn
   fields-alike =
       let front : (i : ℕ) → i < 40 → getD c i 0 ≡ getD b i 0 = front-alike in
-      let armed : getD c 64 0 ≡ getD b 64 0 = back-alike 64 (omega arith) (omega arith) in
-      let timer : timerWhere (eqb (getD c 64 0) 1) (number 8 true c 40)
-      ≡ timerWhere (eqb (getD b 64 0) 1) (number 8 true b 40) =
-      ap (λ (m : ℕ). timerWhere (eqb m 1) (number 8 true c 40)) armed
-      ∙ timer-alike (eqb (getD b 64 0) 1) _ _
-      (λ (e : eqb (getD b 64 0) 1 ≡ true). ticket-alike (mark-not-zero (getD b 64 0) e)) in
+      let cancels : number 4 true c 68 ≡ number 4 true b 68 =
+      number-alike 4 b c 68 (λ (k : ℕ) (low : 68 ≤ k) (high : k < 72). back-alike k (omega arith) (omega arith)) in
       λ i. record {
         state = front 0 (omega arith) i;
         count = front 2 (omega arith) i;
@@ -226,9 +233,11 @@ module _ (Unjudged : ℕ → Type 0) (b c : List ℕ) (alike : SameButAt Unjudge
           last = lastOf (low-number 2 10 (omega arith) i);
         };
         tickets = low-number 8 32 (omega arith) i;
-        timer = timer i;
+        timer = timer-at-alike b c 64 40 (back-alike 64 (omega arith) (omega arith)) ticket-alike i;
         armed = eqb (back-alike 65 (omega arith) (omega arith) i) 1;
         word = number 8 true c 48;
+        cancel = timerIn c 66 56;
+        cancels = cancels i;
       }
 
 -- Bytes put into places that are not judged: any ticket, length or status there.

@@ -16,8 +16,8 @@ use Rattle.record_bytes.specs.Parts.{isArmed, timerTicket, lastField, cl
 use Rattle.record_bytes.specs.Held.{slotsBytes}
 use Rattle.record_bytes.specs.Layout.{marksReadable, sparesReadable, readable}
 use Rattle.record_bytes.specs.Layout.{callIn, outgoingIn, incomingIn, fieldsIn}
-use Rattle.record_bytes.specs.Layout.{frontBytes, numberBytes, backBytes, fieldBytes}
-use Rattle.record_bytes.proofs.ByteLaws.{octets-joined, octets-three, octets-four, octets-digits, octets-zeros}
+use Rattle.record_bytes.specs.Layout.{frontBytes, numberBytes, markBytes, backBytes, fieldBytes}
+use Rattle.record_bytes.proofs.ByteLaws.{octets-three, octets-four, octets-digits, octets-zeros}
 use Rattle.record_bytes.proofs.HeldLaws.{length-slots}
 use Rattle.record_bytes.proofs.Laying.{octets-laid}
 use Rattle.record_bytes.proofs.PartLaws.{mark-back, mark-readable, mark-small, timer-back, ticket-clear}
@@ -46,13 +46,13 @@ spelled f = record {
   timer = f .timer;
   armed = f .armed;
   word = f .word;
+  cancel = f .cancel;
+  cancels = f .cancels;
 }
 
 -- Three of the ten parts that its bytes are, the first without its first four bytes too.
 abbrev frontOf : Fields → List ℕ
-frontOf f =
-    frontBytes (f .state) (markOf (f .call .idempotent)) (f .count) (f .extra) (f .outgoing)
-    (lastField (f .incoming .last)) (f .call .operation)
+frontOf f = frontBytes (f .state) (f .count) (f .extra) (f .call) (f .outgoing) (f .incoming .last)
 
 abbrev countsOf : Fields → List ℕ
 countsOf f = drop 4 (frontOf f)
@@ -61,7 +61,7 @@ abbrev numbersOf : Fields → List ℕ
 numbersOf f = numberBytes (f .number) (f .call .version) (f .outgoing .length) (f .boot)
 
 abbrev backOf : Fields → List ℕ
-backOf f = backBytes (markOf (isArmed (f .timer))) (markOf (f .armed))
+backOf f = backBytes (f .timer) (f .armed) (f .cancel) (f .cancels)
 
 module _ (f : Fields) (fits : FitsFields f) where
   spelled-same : spelled f ≡ f
@@ -86,6 +86,8 @@ module _ (f : Fields) (fits : FitsFields f) where
     timer = f .timer;
     armed = f .armed;
     word = f .word;
+    cancel = f .cancel;
+    cancels = f .cancels;
   }
 
   size-spelled : length (fieldBytes (spelled f)) ≡ 272
@@ -126,6 +128,8 @@ module _ (f : Fields) (fits : FitsFields f) where
     timer = timer-back (f .timer) (fits .timer) i;
     armed = mark-back (f .armed) i;
     word = value-bytes 8 true (f .word) (fits .word) i;
+    cancel = timer-back (f .cancel) (fits .cancel) i;
+    cancels = value-bytes 4 true (f .cancels) (fits .cancels) i;
   }
 
   readable-spelled : readable (fieldBytes (spelled f)) ≡ true
@@ -133,7 +137,8 @@ module _ (f : Fields) (fits : FitsFields f) where
   readable-spelled =
       both-hold _ _
       (both-hold _ _ (mark-readable (f .call .idempotent))
-      (both-hold _ _ (mark-readable (isArmed (f .timer))) (mark-readable (f .armed))))
+      (both-hold _ _ (mark-readable (isArmed (f .timer)))
+      (both-hold _ _ (mark-readable (f .armed)) (mark-readable (isArmed (f .cancel))))))
       (both-hold _ _ (last-readable (f .incoming .last) (fits .incoming .last))
       (slots-readable (f .incoming .slots) (fits .incoming .size)))
 
@@ -159,10 +164,14 @@ module _ (f : Fields) (fits : FitsFields f) where
       octets-four (digits 4 (f .number)) (digits 4 (f .call .version)) (digits 4 (f .outgoing .length))
       (digits 4 (f .boot)) (octets-digits 4 _) (octets-digits 4 _) (octets-digits 4 _) (octets-digits 4 _)
 
+  octets-marks : Octets (markBytes (f .timer) (f .armed) (f .cancel))
+  octets-marks =
+      (mark-small (isArmed (f .timer)), (mark-small (f .armed), (mark-small (isArmed (f .cancel)), (omega arith, tt))))
+
   octets-back : Octets (backOf f)
   octets-back =
-      octets-joined (replicate 8 0) (markOf (isArmed (f .timer)) ∷ (markOf (f .armed) ∷ replicate 30 0))
-      (octets-zeros 8) (mark-small (isArmed (f .timer)), (mark-small (f .armed), octets-zeros 30))
+      octets-four (digits 8 (timerTicket (f .cancel))) (markBytes (f .timer) (f .armed) (f .cancel))
+      (digits 4 (f .cancels)) (replicate 24 0) (octets-digits 8 _) octets-marks (octets-digits 4 _) (octets-zeros 24)
 
   pub octets-fields : Octets (fieldBytes f)
   unfolding fieldBytes
@@ -174,7 +183,7 @@ module _ (f : Fields) (fits : FitsFields f) where
       octets-back (fits .activity .octets) (fits .call .object .octets) (fits .call .interface .octets)
       (octets-slots (f .incoming .slots))
 
-  -- What is not judged is written 0: the length of a slot that is not held, and the first timer's ticket.
+  -- What is not judged is written 0: the length of a slot that is not held, and the first and the third timer's ticket.
   pub slots-clear : LengthsClear (drop 144 (fieldBytes f))
   unfolding fieldBytes spelled
   slots-clear =
@@ -183,6 +192,10 @@ module _ (f : Fields) (fits : FitsFields f) where
   pub timer-clear : TicketClear 64 40 (fieldBytes f)
   unfolding fieldBytes number
   timer-clear e = ticket-clear (f .timer) e
+
+  pub cancel-clear : TicketClear 66 56 (fieldBytes f)
+  unfolding fieldBytes number
+  cancel-clear e = ticket-clear (f .cancel) e
 
   pub fields-back : fieldsIn (fieldBytes f) ≡ f
   fields-back = subst (λ (g : Fields). fieldsIn (fieldBytes g) ≡ g) spelled-same back-spelled

@@ -16,7 +16,9 @@ use Rattle.incoming.specs.Slots.{cleared, slotsWith, lastWith, stored}
 use Rattle.outgoing.specs.declared.Outgoing.{Outgoing}
 use Rattle.outgoing.specs.Message.{fragments}
 use Rattle.outgoing.specs.Sending.{nextSerial, oneMore, afterSend, afterPing, inField, acknowledgedTo, firstToSend, rewound, messageOf, started, replied, noMessage}
-use Rattle.timers.specs.Tickets.{usedUp, nextTicket, armedAfresh}
+use Rattle.timers.specs.declared.Timer.{Timer}
+use Rattle.timers.specs.declared.Timer.the-variants.{Off, Armed}
+use Rattle.timers.specs.Tickets.{usedUp, nextTicket, armedAfresh, armedIfOff, ticketsIfOff}
 use Rattle.record_bytes.specs.Fits.{Uuid, FitsCall, FitsOutgoing, FitsLast, FitsSlots, FitsIncoming, FitsTimer}
 use Rattle.record_bytes.proofs.ByteLaws.{octets-zeros}
 
@@ -160,6 +162,19 @@ next-ticket-fits tickets h =
 pub armed-fits : (tickets : ℕ) → tickets < 18446744073709551616 → FitsTimer (armedAfresh tickets)
 unfolding armedAfresh
 armed-fits tickets h = next-ticket-fits tickets h
+
+-- A timer that is armed if it is off, and the counter then.
+pub armed-if-off-fits : (timer : Timer) (tickets : ℕ) → FitsTimer timer → tickets < 18446744073709551616
+    → FitsTimer (armedIfOff timer tickets)
+unfolding armedIfOff
+armed-if-off-fits Off tickets fits h = armed-fits tickets h
+armed-if-off-fits (Armed ticket) tickets fits h = fits
+
+pub tickets-if-off-fits : (timer : Timer) (tickets : ℕ) → tickets < 18446744073709551616
+    → ticketsIfOff timer tickets < 18446744073709551616
+unfolding ticketsIfOff
+tickets-if-off-fits Off tickets h = next-ticket-fits tickets h
+tickets-if-off-fits (Armed ticket) tickets h = h
 
 -- The UUID and the call of a record that has none.
 pub blank-uuid : Uuid (replicate 16 0)

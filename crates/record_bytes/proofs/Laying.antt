@@ -4,11 +4,10 @@ use mathlib.Core.List.{List, _++_, append-assoc}
 use mathlib.Core.Path.{_≡_}
 use native.Mathlib.Omega.{arith}
 use lib.ListN.{length, length-append}
-use Rattle.outgoing.specs.declared.Outgoing.{Outgoing}
 use Rattle.words.specs.Place.{placed}
 use Rattle.words.proofs.Place.{put-behind, placed-none}
 use Rattle.record_bytes.specs.Fits.{Octets}
-use Rattle.record_bytes.specs.Layout.{frontBytes, laidBytes}
+use Rattle.record_bytes.specs.Layout.{laidBytes}
 use Rattle.record_bytes.proofs.ByteLaws.{octets-four}
 
 next : (k : ℕ) (p b d : List ℕ) → length p ≡ k → k + length b ≤ length d → placed k b (placed 0 p d) ≡ placed 0 (p ++ b) d
@@ -47,13 +46,7 @@ octets-laid a b t u v n x y z h pa pb pt pu pv pn px py pz ph =
     octets-four a b t (u ++ (v ++ (n ++ (x ++ (y ++ (z ++ h)))))) pa pb pt
     (octets-four u v n (x ++ (y ++ (z ++ h))) pu pv pn (octets-four x y z h px py pz ph))
 
--- Equal fields give equal bytes.
-pub front-same : {idempotent idempotent' last last' : ℕ} (state count extra operation : ℕ) (outgoing : Outgoing)
-    → idempotent ≡ idempotent' → last ≡ last'
-    → frontBytes state idempotent count extra outgoing last operation
-    ≡ frontBytes state idempotent' count extra outgoing last' operation
-front-same state count extra operation outgoing p q = λ i. frontBytes state (p i) count extra outgoing (q i) operation
-
+-- Equal parts give equal bytes.
 pub parts-same : {a a' b b' t t' u u' v v' n n' h h' : List ℕ} (x y z : List ℕ)
     → a ≡ a' → b ≡ b' → t ≡ t' → u ≡ u' → v ≡ v' → n ≡ n' → h ≡ h'
     → laidBytes a b t u v n x y z h ≡ laidBytes a' b' t' u' v' n' x y z h'

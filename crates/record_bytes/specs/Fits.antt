@@ -80,3 +80,5 @@ pub record FitsFields (f : Fields) : Type 0 where
   pub tickets : f .tickets < 18446744073709551616
   pub timer : FitsTimer (f .timer)
   pub word : f .word < 18446744073709551616
+  pub cancel : FitsTimer (f .cancel)
+  pub cancels : f .cancels < 4294967296

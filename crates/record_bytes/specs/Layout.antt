@@ -1,34 +1,37 @@
 -- A record of either side in 272 bytes: numbers little-endian, each field at its fixed place.
 use Prim.Native.Nat.{ℕ}
 use mathlib.Core.Bool.{Bool, true}
-use mathlib.Core.List.{List, _∷_, _++_}
+use mathlib.Core.List.{List, [], _∷_, _++_}
 use lib.ListN.{getD, drop, replicate}
 use lib.Dec.{eqb, ltb, leb}
 use Rattle.words.specs.Choice.{both, either, markOf}
 use Rattle.words.specs.Number.{digits, number}
 use Rattle.calls.specs.declared.Call.{Call}
 use Rattle.incoming.specs.declared.Incoming.{Incoming}
+use Rattle.incoming.specs.declared.Last.{Last}
 use Rattle.outgoing.specs.declared.Outgoing.{Outgoing}
+use Rattle.timers.specs.declared.Timer.{Timer}
 use Rattle.record_bytes.specs.declared.Fields.{Fields}
-use Rattle.record_bytes.specs.Parts.{timerWhere, isArmed, timerTicket, lastField, lastOf, uuidIn, clear}
+use Rattle.record_bytes.specs.Parts.{timerIn, isArmed, timerTicket, lastField, lastOf, uuidIn, clear}
 use Rattle.record_bytes.specs.Held.{slotsBytes, slotsIn, slotsReadable}
 
 -- The known last fits a byte, or is 65535: unknown.
 unfoldable pub lastReadable : ℕ → Bool
 lastReadable number = either (ltb number 256) (eqb number 65535)
 
--- The marks are 0 or 1: idempotent, and armed of both timers.
-unfoldable pub marksReadable : ℕ → ℕ → ℕ → Bool
-marksReadable idempotent first second = both (leb idempotent 1) (both (leb first 1) (leb second 1))
+-- The marks are 0 or 1: idempotent, and armed of the three timers.
+unfoldable pub marksReadable : ℕ → ℕ → ℕ → ℕ → Bool
+marksReadable idempotent first second third =
+    both (leb idempotent 1) (both (leb first 1) (both (leb second 1) (leb third 1)))
 
--- The bytes that are spare on both sides are 0: 56 to 63, and 66 to 95.
+-- The bytes that are spare on both sides are 0: 67, and 72 to 95.
 unfoldable pub sparesReadable : List ℕ → Bool
-sparesReadable s = both (clear 8 (drop 56 s)) (clear 30 (drop 66 s))
+sparesReadable s = both (eqb (getD s 67 0) 0) (clear 24 (drop 72 s))
 
 -- What makes bytes readable on both sides.
 unfoldable pub readable : List ℕ → Bool
 readable s =
-    both (marksReadable (getD s 1 0) (getD s 64 0) (getD s 65 0))
+    both (marksReadable (getD s 1 0) (getD s 64 0) (getD s 65 0) (getD s 66 0))
     (both (lastReadable (number 2 true s 10))
     (both (sparesReadable s)
     (slotsReadable (drop 144 s))))
@@ -70,32 +73,39 @@ fieldsIn s = record {
   outgoing = outgoingIn s;
   incoming = incomingIn s;
   tickets = number 8 true s 32;
-  timer = timerWhere (eqb (getD s 64 0) 1) (number 8 true s 40);
+  timer = timerIn s 64 40;
   armed = eqb (getD s 65 0) 1;
   word = number 8 true s 48;
+  cancel = timerIn s 66 56;
+  cancels = number 4 true s 68;
 }
 
 -- Bytes 0 to 15: state, idempotent, two counts; fragment count, sent, acknowledged; known last, serial, operation.
-abbrev pub frontBytes : ℕ → ℕ → ℕ → ℕ → Outgoing → ℕ → ℕ → List ℕ
-frontBytes state idempotent count extra outgoing last operation =
+abbrev pub frontBytes : ℕ → ℕ → ℕ → Call → Outgoing → Last → List ℕ
+frontBytes state count extra call outgoing last =
     state
-    ∷ (idempotent
+    ∷ (markOf (call .idempotent)
     ∷ (count
     ∷ (extra
     ∷ (digits 2 (outgoing .count)
     ++ (digits 2 (outgoing .sent)
     ++ (digits 2 (outgoing .acknowledged)
-    ++ (digits 2 last
+    ++ (digits 2 (lastField last)
     ++ (digits 2 (outgoing .serial)
-    ++ digits 2 operation))))))))
+    ++ digits 2 (call .operation)))))))))
 
 -- Bytes 16 to 31: number, interface version, message length, boot.
 abbrev pub numberBytes : ℕ → ℕ → ℕ → ℕ → List ℕ
 numberBytes number version length boot = digits 4 number ++ (digits 4 version ++ (digits 4 length ++ digits 4 boot))
 
--- Bytes 56 to 95: eight spare bytes, whether each timer is armed, thirty spare bytes.
-abbrev pub backBytes : ℕ → ℕ → List ℕ
-backBytes first second = replicate 8 0 ++ (first ∷ (second ∷ replicate 30 0))
+-- Bytes 64 to 67: whether each timer is armed, and a spare byte.
+abbrev pub markBytes : Timer → Bool → Timer → List ℕ
+markBytes timer armed cancel = markOf (isArmed timer) ∷ (markOf armed ∷ (markOf (isArmed cancel) ∷ (0 ∷ [])))
+
+-- Bytes 56 to 95: the third timer's ticket, the marks, the cancel number, 24 spare bytes.
+abbrev pub backBytes : Timer → Bool → Timer → ℕ → List ℕ
+backBytes timer armed cancel cancels =
+    digits 8 (timerTicket cancel) ++ (markBytes timer armed cancel ++ (digits 4 cancels ++ replicate 24 0))
 
 -- Ten parts, one behind the other: the ticket counter is bytes 32 to 39, the first timer's ticket 40 to 47, the
 -- second's, at a server the status, 48 to 55, the UUIDs are 96 to 143, the slots the rest.
@@ -108,13 +118,12 @@ laidBytes front numbers tickets first second back activity object interface held
 unfoldable pub fieldBytes : Fields → List ℕ
 fieldBytes f =
     laidBytes
-    (frontBytes (f .state) (markOf (f .call .idempotent)) (f .count) (f .extra) (f .outgoing)
-    (lastField (f .incoming .last)) (f .call .operation))
+    (frontBytes (f .state) (f .count) (f .extra) (f .call) (f .outgoing) (f .incoming .last))
     (numberBytes (f .number) (f .call .version) (f .outgoing .length) (f .boot))
     (digits 8 (f .tickets))
     (digits 8 (timerTicket (f .timer)))
     (digits 8 (f .word))
-    (backBytes (markOf (isArmed (f .timer))) (markOf (f .armed)))
+    (backBytes (f .timer) (f .armed) (f .cancel) (f .cancels))
     (f .activity)
     (f .call .object)
     (f .call .interface)

@@ -5,16 +5,22 @@ use mathlib.Core.List.{List}
 use lib.ListN.{getD, take, drop, replicate}
 use lib.Dec.{eqb}
 use Rattle.words.specs.Choice.{choose, both}
+use Rattle.words.specs.Number.{number}
 use Rattle.words.specs.Place.{placed}
 use Rattle.incoming.specs.declared.Last.{Last}
 use Rattle.incoming.specs.declared.Last.the-variants.{Unknown, At}
 use Rattle.timers.specs.declared.Timer.{Timer}
 use Rattle.timers.specs.declared.Timer.the-variants.{Off, Armed}
 
--- The timer with that ticket where it is armed; and whether one is armed, and its ticket, 0 where none is.
+-- The timer with that ticket where it is armed.
 unfoldable pub timerWhere : Bool → ℕ → Timer
 timerWhere armed ticket = choose armed (Armed ticket) Off
 
+-- The timer whose mark and ticket of 8 bytes stand in s at these places.
+abbrev pub timerIn : List ℕ → ℕ → ℕ → Timer
+timerIn s mark at = timerWhere (eqb (getD s mark 0) 1) (number 8 true s at)
+
+-- Whether a timer is armed, and its ticket, 0 where none is.
 abbrev pub isArmed : Timer → Bool
 isArmed Off = false
 isArmed (Armed ticket) = true

@@ -12,9 +12,9 @@ ghost use mathlib.Core.Path.{_≡_};
 ghost use Prim.Native.Nat.{_+_, _*_};
 ghost use Rattle.words.specs.Number.{digits, number};
 ghost use Rattle.words.specs.Place.{placed};
-ghost use Rattle.record_bytes.specs.Parts.{timerWhere, isArmed, timerTicket, lastField, lastOf, uuidIn, clear, countWhere};
+ghost use Rattle.record_bytes.specs.Parts.{timerWhere, timerIn, isArmed, timerTicket, lastField, lastOf, uuidIn, clear, countWhere};
 ghost use Rattle.record_bytes.specs.Held.{lengthWhere, slotBytes, slotsBytes, slotIn, slotsIn, slotReadable, slotsReadable};
-ghost use Rattle.record_bytes.specs.Layout.{lastReadable, marksReadable, sparesReadable, readable, callIn, outgoingIn, incomingIn, fieldsIn, frontBytes, numberBytes, backBytes, laidBytes, fieldBytes};
+ghost use Rattle.record_bytes.specs.Layout.{lastReadable, marksReadable, sparesReadable, readable, callIn, outgoingIn, incomingIn, fieldsIn, frontBytes, numberBytes, markBytes, backBytes, laidBytes, fieldBytes};
 
 // How many bytes a record has.
 pub const SIZE: usize = 272;
@@ -40,6 +40,10 @@ pub struct Fields {
     pub armed: bool,
     // The ticket of a client's ACK timer, the status of a server's fault.
     pub word: u64,
+    // The CANCEL timer of a client; off at a server.
+    pub cancel: Timer,
+    // The cancel number of a client, the one last seen of a server.
+    pub cancels: u32,
 }
 
 // The timer with that ticket, where it is armed.
@@ -254,20 +258,21 @@ fn is_last_readable(number: u16) -> bool
     words::either(number < 256, number == 65535)
 }
 
-// Whether the marks idempotent, first and second armed are 0 or 1.
-fn are_marks_readable(idempotent: u8, first: u8, second: u8) -> bool
-    ensures { λ r. ⌜ r ≡ marksReadable idempotent first second ⌝ }
+// Whether the marks idempotent, first, second and third armed are 0 or 1.
+fn are_marks_readable(idempotent: u8, first: u8, second: u8, third: u8) -> bool
+    ensures { λ r. ⌜ r ≡ marksReadable idempotent first second third ⌝ }
 {
-    words::both(idempotent <= 1, words::both(first <= 1, second <= 1))
+    let others = words::both(second <= 1, third <= 1);
+    words::both(idempotent <= 1, words::both(first <= 1, others))
 }
 
 // Whether the places that are spare on both sides are 0.
 fn are_spares_readable(s: &[u8]) -> bool
     ensures { λ r. ⌜ r ≡ sparesReadable (now (s .entry)) ⌝ }
 {
-    let ticket = is_clear(words::behind(s, 56), 8);
-    let rest = is_clear(words::behind(s, 66), 30);
-    words::both(ticket, rest)
+    let one = words::byte_at(s, 67);
+    let rest = is_clear(words::behind(s, 72), 24);
+    words::both(one == 0, rest)
 }
 
 // Whether bytes are readable as a record of either side, but for what is the side's own.
@@ -278,6 +283,7 @@ pub fn is_readable(s: &[u8]) -> bool
         words::byte_at(s, 1),
         words::byte_at(s, 64),
         words::byte_at(s, 65),
+        words::byte_at(s, 66),
     );
     let last = is_last_readable(words::number16(s, 10, true));
     let spares = are_spares_readable(s);
@@ -323,6 +329,14 @@ fn incoming(s: &[u8]) -> Incoming
     Incoming { slots, last }
 }
 
+// The timer whose mark and ticket stand in a record at these places.
+fn timer_at(s: &[u8], mark: usize, ticket: usize) -> Timer
+    ensures { λ r. ⌜ r ≡ timerIn (now (s .entry)) mark ticket ⌝ }
+{
+    let armed = words::byte_at(s, mark) == 1;
+    timer_where(armed, number64(s, ticket))
+}
+
 // What stands in the bytes of a record.
 pub fn decode(s: &[u8]) -> Fields
     ensures { λ r. ⌜ r ≡ fieldsIn (now (s .entry)) ⌝ }
@@ -331,7 +345,8 @@ pub fn decode(s: &[u8]) -> Fields
     let call = call(s);
     let outgoing = outgoing(s);
     let incoming = incoming(s);
-    let timer = timer_where(words::byte_at(s, 64) == 1, number64(s, 40));
+    let timer = timer_at(s, 64, 40);
+    let cancel = timer_at(s, 66, 56);
     let armed = words::byte_at(s, 65) == 1;
     Fields {
         state: words::byte_at(s, 0),
@@ -347,27 +362,22 @@ pub fn decode(s: &[u8]) -> Fields
         timer,
         armed,
         word: number64(s, 48),
+        cancel,
+        cancels: words::number32(s, 68, true),
     }
 }
 
 // Bytes 0 to 15.
-fn front(
-    state: u8,
-    idempotent: u8,
-    count: u8,
-    extra: u8,
-    outgoing: Outgoing,
-    last: u16,
-    operation: u16,
-) -> [u8; 16]
-    ensures { λ r. ⌜ r ≡ frontBytes state idempotent count extra outgoing last operation ⌝ }
+fn front(state: u8, count: u8, extra: u8, call: Call, outgoing: Outgoing, last: Last) -> [u8; 16]
+    ensures { λ r. ⌜ r ≡ frontBytes state count extra call outgoing last ⌝ }
 {
+    let idempotent = words::mark(call.idempotent);
     let fragments = words::split16(outgoing.count);
     let sent = words::split16(outgoing.sent);
     let acknowledged = words::split16(outgoing.acknowledged);
-    let known = words::split16(last);
+    let known = words::split16(last_number(last));
     let serial = words::split16(outgoing.serial);
-    let called = words::split16(operation);
+    let operation = words::split16(call.operation);
     [
         state,
         idempotent,
@@ -383,8 +393,8 @@ fn front(
         known[1],
         serial[0],
         serial[1],
-        called[0],
-        called[1],
+        operation[0],
+        operation[1],
     ]
 }
 
@@ -416,13 +426,27 @@ fn numbers(number: u32, version: u32, length: u32, boot: u32) -> [u8; 16]
     ]
 }
 
-// Bytes 56 to 95: two marks behind eight spare bytes, and spare ones behind them.
-fn back(first: u8, second: u8) -> [u8; 40]
-    ensures { λ r. ⌜ r ≡ backBytes first second ⌝ }
+// Bytes 64 to 67: whether each timer is armed, and a spare byte.
+fn marks(timer: Timer, armed: bool, cancel: Timer) -> [u8; 4]
+    ensures { λ r. ⌜ r ≡ markBytes timer armed cancel ⌝ }
 {
+    let first = words::mark(is_armed(timer));
+    let second = words::mark(armed);
+    let third = words::mark(is_armed(cancel));
+    [first, second, third, 0]
+}
+
+// Bytes 56 to 95: the ticket of CANCEL, the marks, the cancel number, spare bytes.
+fn back(timer: Timer, armed: bool, cancel: Timer, cancels: u32) -> [u8; 40]
+    ensures { λ r. ⌜ r ≡ backBytes timer armed cancel cancels ⌝ }
+{
+    let ticket = split64(timer_ticket(cancel));
+    let marks = marks(timer, armed, cancel);
+    let number = words::split32(cancels);
     let mut bytes = [0u8; 40];
-    bytes[8] = first;
-    bytes[9] = second;
+    words::put(&mut bytes, 0, &ticket);
+    words::put(&mut bytes, 8, &marks);
+    words::put(&mut bytes, 12, &number);
     bytes
 }
 
@@ -506,23 +530,16 @@ pub fn encode(fields: Fields, out: &mut [u8])
     let last = incoming.last;
     let slots = incoming.slots;
     let timer = fields.timer;
+    let cancel = fields.cancel;
     let activity = fields.activity;
     let object = call.object;
     let interface = call.interface;
-    let front = front(
-        fields.state,
-        words::mark(call.idempotent),
-        fields.count,
-        fields.extra,
-        outgoing,
-        last_number(last),
-        call.operation,
-    );
+    let front = front(fields.state, fields.count, fields.extra, call, outgoing, last);
     let numbers = numbers(fields.number, call.version, outgoing.length, fields.boot);
     let tickets = split64(fields.tickets);
     let first = split64(timer_ticket(timer));
     let second = split64(fields.word);
-    let back = back(words::mark(is_armed(timer)), words::mark(fields.armed));
+    let back = back(timer, fields.armed, cancel, fields.cancels);
     let held = slots_bytes(slots);
     lay(
         front,

@@ -44,14 +44,14 @@ state-alike n status other same =
     (held-alike (eqb n 7) status other same)
 
 module _ (b c : List ℕ) (alike : SameButAt (Unjudged b) b c) where
-  own : (i : ℕ) → Unjudged b i → SharedUnjudged b i ⊎ ((48 ≤ i) × (i < 56))
+  own : (i : ℕ) → Unjudged b i → SharedUnjudged b i ⊎ ((48 ≤ i) × (i < 64))
   own i (inl u) = inl u
   own i (inr u) = inr (u .1, omega (arith, u .2))
 
   front : (i : ℕ) → i < 40 → getD c i 0 ≡ getD b i 0
   front = front-alike (Unjudged b) b c alike own
 
-  -- The status is judged in HELD with fault, and the bytes behind it always.
+  -- The status is judged in HELD with fault, and the twelve bytes behind it always.
   status-alike : eqb (getD b 0 0) 7 ≡ true → number 4 true c 48 ≡ number 4 true b 48
   status-alike held =
       number-alike 4 b c 48 (λ (i : ℕ) (low : 48 ≤ i) (high : i < 52). alike .same i (judged i low high))
@@ -61,11 +61,11 @@ module _ (b c : List ℕ) (alike : SameButAt (Unjudged b) b c) where
       judged i low high (inl (inr u)) = omega (arith, u .from)
       judged i low high (inr u) = true≢false (sym held ∙ u .0)
 
-  behind-status : clear 4 (drop 52 c) ≡ clear 4 (drop 52 b)
+  behind-status : clear 12 (drop 52 c) ≡ clear 12 (drop 52 b)
   behind-status =
-      clear-alike 4 b c 52 (λ (i : ℕ) (low : 52 ≤ i) (high : i < 56). alike .same i (judged i low high))
+      clear-alike 12 b c 52 (λ (i : ℕ) (low : 52 ≤ i) (high : i < 64). alike .same i (judged i low high))
     where
-      judged : (i : ℕ) → 52 ≤ i → i < 56 → Unjudged b i → ⊥
+      judged : (i : ℕ) → 52 ≤ i → i < 64 → Unjudged b i → ⊥
       judged i low high (inl (inl u)) = omega (arith, u .2)
       judged i low high (inl (inr u)) = omega (arith, u .from)
       judged i low high (inr u) = omega (arith, u .2)
@@ -73,12 +73,12 @@ module _ (b c : List ℕ) (alike : SameButAt (Unjudged b) b c) where
   pub server-readable-alike : readable c ≡ readable b
   unfolding readable
   server-readable-alike =
-      let second : getD c 65 0 ≡ getD b 65 0 =
-      back-alike (Unjudged b) b c alike own 65 (omega arith) (omega arith) in
+      let back : (i : ℕ) → 64 ≤ i → i < 144 → getD c i 0 ≡ getD b i 0 = back-alike (Unjudged b) b c alike own in
       rw (
         front 0 (omega arith),
         front 3 (omega arith),
-        second,
+        back 65 (omega arith) (omega arith),
+        back 66 (omega arith) (omega arith),
         behind-status,
         shared-readable (Unjudged b) b c alike own,
       )
@@ -97,6 +97,7 @@ module _ (b c : List ℕ) (alike : SameButAt (Unjudged b) b c) where
         outgoing = serverIn b .outgoing;
         incoming = serverIn b .incoming;
         resends = serverIn b .resends;
+        seen = serverIn b .seen;
         tickets = serverIn b .tickets;
         resend = serverIn b .resend;
       })

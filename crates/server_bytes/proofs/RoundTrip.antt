@@ -5,14 +5,16 @@ use mathlib.Core.List.{List, _++_}
 use mathlib.Core.Path.{_≡_, sym, ap, subst, _∙_}
 use native.Mathlib.Omega.{arith}
 use lib.Dec.{eqb}
-use lib.ListN.{length, getD, replicate}
+use lib.ListN.{length, getD, take, drop, replicate}
 use borrow.Author.Tests.{le-leb, leb-true, eqb-true}
 use Rattle.words.specs.Choice.{choose, both, markOf}
 use Rattle.words.specs.Number.{le, digits, part, number}
 use Rattle.words.proofs.Number.{value-bytes}
 use Rattle.words.proofs.Tests.{both-hold, both-true}
+use Rattle.timers.specs.declared.Timer.the-variants.{Off}
 use Rattle.record_bytes.specs.Fits.{Octets, FitsFields}
-use Rattle.record_bytes.specs.Parts.{clear, countWhere, timerWhere, uuidIn}
+use Rattle.record_bytes.specs.Canonical.{TicketClear}
+use Rattle.record_bytes.specs.Parts.{clear, countWhere, timerWhere, timerIn, uuidIn}
 use Rattle.record_bytes.specs.Layout.{readable as sharedReadable, callIn, outgoingIn, incomingIn, fieldsIn, fieldBytes}
 use Rattle.record_bytes.proofs.ByteLaws.{number-below}
 use Rattle.record_bytes.proofs.FieldsBack.{fields-back, bytes-readable, length-fields, octets-fields}
@@ -28,12 +30,13 @@ use Rattle.server_bytes.specs.Layout.{serverBytes}
 use Rattle.server_bytes.proofs.StateLaws.{state-back, state-small, state-again, state-fits}
 use Rattle.server_bytes.proofs.StateLaws.{status-small, status-again, no-status}
 
--- A number of four bytes has four more bytes that are 0.
-high-clear : (v : ℕ) (rest : List ℕ) → v < 4294967296 → clear 4 (digits 4 (v / 256 / 256 / 256 / 256) ++ rest) ≡ true
+-- A number of four bytes has four more bytes that are 0, and a timer that is off has a ticket of zeros.
+high-clear : (v : ℕ) (rest : List ℕ) → v < 4294967296
+    → clear 12 (digits 4 (v / 256 / 256 / 256 / 256) ++ (digits 8 0 ++ rest)) ≡ true
 unfolding clear both choose
 high-clear v rest small =
     let none : v / 256 / 256 / 256 / 256 ≡ 0 = omega arith in
-    ap (λ (n : ℕ). clear 4 (digits 4 n ++ rest)) none
+    ap (λ (n : ℕ). clear 12 (digits 4 n ++ (digits 8 0 ++ rest))) none
 
 module _ (s : Server) (fits : FitsServer s) where
   -- What the bytes hold fits them, and they are readable.
@@ -52,6 +55,8 @@ module _ (s : Server) (fits : FitsServer s) where
     tickets = fits .tickets;
     timer = fits .resend;
     word = omega (arith, status-small (s .state) (fits .state));
+    cancel = tt;
+    cancels = fits .seen;
   }
 
   pub server-readable : readable (serverBytes s) ≡ true
@@ -77,6 +82,7 @@ module _ (s : Server) (fits : FitsServer s) where
     outgoing = s .outgoing;
     incoming = s .incoming;
     resends = s .resends;
+    seen = s .seen;
     tickets = s .tickets;
     resend = s .resend;
   }
@@ -107,7 +113,8 @@ record Known (b : List ℕ) : Type 0 where
   state : getD b 0 0 ≤ 7
   extra : getD b 3 0 ≡ 0
   second : getD b 65 0 ≡ 0
-  high : part 4 b 52 ≡ replicate 4 0
+  third : getD b 66 0 ≡ 0
+  high : part 12 b 52 ≡ replicate 12 0
   shared : sharedReadable b ≡ true
 
 known : (b : List ℕ) → readable b ≡ true → Known b
@@ -116,12 +123,14 @@ known b e =
     let state = both-true _ _ e in
     let rest = both-true _ _ (state .1) in
     let own = both-true _ _ (rest .0) in
-    let second = both-true _ _ (own .1) in
+    let behind = both-true _ _ (own .1) in
+    let unarmed = both-true _ _ (behind .0) in
     record {
       state = leb-true (getD b 0 0) 7 (state .0);
       extra = eqb-true (getD b 3 0) 0 (own .0);
-      second = eqb-true (getD b 65 0) 0 (second .0);
-      high = clear-part 4 b 52 (second .1);
+      second = eqb-true (getD b 65 0) 0 (unarmed .0);
+      third = eqb-true (getD b 66 0) 0 (unarmed .1);
+      high = clear-part 12 b 52 (behind .1);
       shared = rest .1;
     }
 
@@ -138,6 +147,7 @@ server-fits b size octets allowed =
       outgoing = f .outgoing;
       incoming = f .incoming;
       resends = subst (λ (n : ℕ). n < 256) (sym (count-again (readable b) _ allowed)) (f .count);
+      seen = f .cancels;
       tickets = f .tickets;
       resend = f .timer;
       state = state-fits _ _ (number-below 4 true b 48 octets);
@@ -153,16 +163,23 @@ module _ (b : List ℕ) (canonical : Canonical b) where
   status-whole : number 4 true b 48 ≡ number 8 true b 48
   unfolding number
   status-whole =
-      let whole = ap (λ (l : List ℕ). le (part 4 b 48 ++ l)) (known b (canonical .readable) .high) in
+      let whole = ap (λ (l : List ℕ). le (part 4 b 48 ++ take 4 l)) (known b (canonical .readable) .high) in
       omega (arith, whole)
 
+  -- There is no ticket of a third timer.
+  no-ticket : TicketClear 66 56 b
+  unfolding number
+  no-ticket e = ap (λ (l : List ℕ). le (drop 4 l)) (known b (canonical .readable) .high)
+
   fields-same : fieldsOf (serverIn b) ≡ fieldsIn b
-  unfolding fieldsOf serverIn serverOf fieldsIn
+  unfolding fieldsOf serverIn serverOf fieldsIn timerWhere choose
   fields-same =
       let k = known b (canonical .readable) in
       let status : statusOf (stateOf (getD b 0 0) (number 4 true b 48)) ≡ number 8 true b 48 =
       status-again (getD b 0 0) (number 4 true b 48) (k .state) (canonical .status) ∙ status-whole in
       let armed : false ≡ eqb (getD b 65 0) 1 = sym (ap (λ (n : ℕ). eqb n 1) (k .second)) in
+      let cancel : Off ≡ timerIn b 66 56 =
+      sym (ap (λ (n : ℕ). timerWhere (eqb n 1) (number 8 true b 56)) (k .third)) in
       λ i. record {
         state = state-again (getD b 0 0) (number 4 true b 48) (k .state) i;
         count = count-again (readable b) (getD b 2 0) (canonical .readable) i;
@@ -174,9 +191,11 @@ module _ (b : List ℕ) (canonical : Canonical b) where
         outgoing = outgoingIn b;
         incoming = incomingIn b;
         tickets = number 8 true b 32;
-        timer = timerWhere (eqb (getD b 64 0) 1) (number 8 true b 40);
+        timer = timerIn b 64 40;
         armed = armed i;
         word = status i;
+        cancel = cancel i;
+        cancels = number 4 true b 68;
       }
 
   -- Canonical bytes as a record and back are the bytes again.
@@ -185,4 +204,4 @@ module _ (b : List ℕ) (canonical : Canonical b) where
   server-again =
       ap fieldBytes fields-same
       ∙ fields-again b (canonical .size) (canonical .octets) (known b (canonical .readable) .shared)
-      (canonical .resend) (canonical .slots)
+      (canonical .resend) no-ticket (canonical .slots)

@@ -27,6 +27,7 @@ pub record FitsServer (s : Server) : Type 0 where
   pub outgoing : FitsOutgoing (s .outgoing)
   pub incoming : FitsIncoming (s .incoming)
   pub resends : s .resends < 256
+  pub seen : s .seen < 4294967296
   pub tickets : s .tickets < 18446744073709551616
   pub resend : FitsTimer (s .resend)
   pub state : FitsState (s .state)

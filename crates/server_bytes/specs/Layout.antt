@@ -6,6 +6,7 @@ use lib.ListN.{getD, drop}
 use lib.Dec.{eqb, leb}
 use Rattle.words.specs.Choice.{choose, both}
 use Rattle.words.specs.Number.{number}
+use Rattle.timers.specs.declared.Timer.the-variants.{Off}
 use Rattle.record_bytes.specs.declared.Fields.{Fields}
 use Rattle.record_bytes.specs.Parts.{clear, countWhere}
 use Rattle.record_bytes.specs.Layout.{readable as sharedReadable, fieldsIn, fieldBytes}
@@ -58,11 +59,12 @@ statusOf Running = 0
 statusOf Replying = 0
 statusOf (Held reply) = heldStatus reply
 
--- Readable: a state that is listed, no second count, no second timer, a status of four bytes, and what both sides ask.
+-- Readable: a state that is listed, no second count, no second or third timer, a status of four bytes, no ticket behind
+-- it, and what both sides ask.
 unfoldable pub readable : List ℕ → Bool
 readable s =
     both (leb (getD s 0 0) 7)
-    (both (both (eqb (getD s 3 0) 0) (both (eqb (getD s 65 0) 0) (clear 4 (drop 52 s))))
+    (both (both (eqb (getD s 3 0) 0) (both (both (eqb (getD s 65 0) 0) (eqb (getD s 66 0) 0)) (clear 12 (drop 52 s))))
     (sharedReadable s))
 
 -- The record of what stands in bytes, and of the status at 48.
@@ -76,6 +78,7 @@ serverOf readable status f = record {
   outgoing = f .outgoing;
   incoming = f .incoming;
   resends = countWhere readable (f .count);
+  seen = f .cancels;
   tickets = f .tickets;
   resend = f .timer;
 }
@@ -100,6 +103,8 @@ fieldsOf s = record {
   timer = s .resend;
   armed = false;
   word = statusOf (s .state);
+  cancel = Off;
+  cancels = s .seen;
 }
 
 -- The bytes of a record.

@@ -4,6 +4,7 @@ use server_record::Idle;
 use server_record::Reply;
 use server_record::Server;
 use server_record::State;
+use timers::Timer;
 ghost use mathlib.Core.Path.{_≡_};
 ghost use Rattle.words.specs.Place.{placed};
 ghost use Rattle.server_bytes.specs.Layout.{stateOf, idleNumber, heldNumber, stateNumber, heldStatus, statusOf, readable, serverOf, serverIn, fieldsOf, serverBytes};
@@ -96,10 +97,12 @@ fn is_readable(s: &[u8]) -> bool
 {
     let state = words::byte_at(s, 0);
     let count = words::byte_at(s, 3);
-    let armed = words::byte_at(s, 65);
-    let spare = record_bytes::is_clear(words::behind(s, 52), 4);
+    let second = words::byte_at(s, 65);
+    let third = words::byte_at(s, 66);
+    let spare = record_bytes::is_clear(words::behind(s, 52), 12);
     let shared = record_bytes::is_readable(s);
-    let spares = words::both(count == 0, words::both(armed == 0, spare));
+    let unarmed = words::both(second == 0, third == 0);
+    let spares = words::both(count == 0, words::both(unarmed, spare));
     words::both(state <= 7, words::both(spares, shared))
 }
 
@@ -122,6 +125,7 @@ fn server_of(readable: bool, status: u32, f: Fields) -> Server
         outgoing,
         incoming,
         resends: record_bytes::count_where(readable, f.count),
+        seen: f.cancels,
         tickets: f.tickets,
         resend,
     }
@@ -160,6 +164,8 @@ fn fields_of(s: Server) -> Fields
         timer,
         armed: false,
         word: status_of(state) as u64,
+        cancel: Timer::Off,
+        cancels: s.seen,
     }
 }
 

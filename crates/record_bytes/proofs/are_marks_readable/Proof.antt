@@ -6,7 +6,8 @@ use Rattle.record_bytes.proofs.are_marks_readable.Tie as tie
 
 returns : tie.Need-returns
 unfolding marksReadable
-returns c = rw (c .both2 .ensures, c .before .both .ensures)
+returns c = rw (c .both3 .ensures, c .before .both2 .ensures, c .before .before .both .ensures)
 
 pub are-marks-readable-spec : {M : Type 1} → statement M
-are-marks-readable-spec = tie.close (tie.spec (λ c κs. search needs) (λ c κs. search needs) returns)
+are-marks-readable-spec =
+    tie.close (tie.spec (λ c κs. search needs) (λ c κs. search needs) (λ c κs. search needs) returns)

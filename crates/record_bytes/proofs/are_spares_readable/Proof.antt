@@ -9,17 +9,15 @@ unfolding sparesReadable
 returns c =
     rw (
       c .both .ensures,
-      c .before .is-clear2 .ensures,
-      c .before .before .behind2 .ensures,
-      c .before .before .before .is-clear .ensures,
-      c .before .before .before .before .behind .ensures,
+      c .before .is-clear .ensures,
+      c .before .before .behind .ensures,
+      c .before .before .before .byte-at .ensures,
     )
 
 pub are-spares-readable-spec : {M : Type 1} → statement M
 are-spares-readable-spec =
     tie.close
     (tie.spec
-    (λ c κs. search needs)
     (λ c κs. search needs)
     (λ c κs. search needs)
     (λ c κs. search needs)

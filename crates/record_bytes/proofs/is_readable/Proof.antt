@@ -17,15 +17,17 @@ returns c =
       c .before .before .before .before .before .before .is-last-readable .ensures,
       c .before .before .before .before .before .before .before .number16 .ensures,
       c .before .before .before .before .before .before .before .before .are-marks-readable .ensures,
-      c .before .before .before .before .before .before .before .before .before .byte-at3 .ensures,
-      c .before .before .before .before .before .before .before .before .before .before .byte-at2 .ensures,
-      c .before .before .before .before .before .before .before .before .before .before .before .byte-at .ensures,
+      c .before .before .before .before .before .before .before .before .before .byte-at4 .ensures,
+      c .before .before .before .before .before .before .before .before .before .before .byte-at3 .ensures,
+      c .before .before .before .before .before .before .before .before .before .before .before .byte-at2 .ensures,
+      c .before .before .before .before .before .before .before .before .before .before .before .before .byte-at .ensures,
     )
 
 pub is-readable-spec : {M : Type 1} → statement M
 is-readable-spec =
     tie.close
     (tie.spec
+    (λ c κs. search needs)
     (λ c κs. search needs)
     (λ c κs. search needs)
     (λ c κs. search needs)
