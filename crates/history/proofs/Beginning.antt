@@ -20,9 +20,9 @@ use Rattle.timers.proofs.TimerLaws.{off-sound}
 use Rattle.client_record.specs.declared.State.{State as ClientState}
 use Rattle.client_record.specs.declared.Client.{Client}
 use Rattle.client_record.specs.Record.{fresh as clientRecord}
-use Rattle.client_record.specs.States.{isQueued, isWaiting, isAckPending}
-use Rattle.client_record.specs.Rules.{outgoingSound as clientOutgoing, messageRule as clientRule, timersSound}
-use Rattle.client_record.proofs.RuleLaws.{rules-hold as client-rules, counts-hold}
+use Rattle.client_record.specs.States.{isQueued, isActive, isWaiting, isAckPending}
+use Rattle.client_record.specs.Rules.{outgoingSound as clientOutgoing, messageRule as clientRule}
+use Rattle.client_record.proofs.RuleLaws.{rules-hold as client-rules, counts-hold, timers-hold}
 use Rattle.server_record.specs.declared.State.{State as ServerState}
 use Rattle.server_record.specs.declared.Server.{Server}
 use Rattle.server_record.specs.Record.{fresh as serverRecord}
@@ -51,7 +51,7 @@ off-kept named timer tickets e = subst (λ (t : Timer). timerSound named t ticke
 
 -- A fresh client,
 client-fresh : (c : Client) (slots : List ℕ) (starts : List Started) (replies : List Replied) → FreshClient c → starts ≡ [] → ClientInv c slots starts replies
-unfolding clientOutgoing clientRule timersSound isQueued
+unfolding clientOutgoing clientRule isQueued
 client-fresh c slots starts replies f none = record {
   kept =
       client-rules c
@@ -62,7 +62,12 @@ client-fresh c slots starts replies f none = record {
             (both-hold (bounded (c .outgoing)) (hasNothing (c .outgoing)) (sent-bounded (c .outgoing) (f .outgoing)) (sent-none (c .outgoing) (f .outgoing)));
         incoming = none-sound (c .incoming) (f .incoming .slots) (f .incoming .last) (f .incoming .none);
         timers =
-            both-hold _ _ (off-kept (isWaiting (c .state)) (c .wait) (c .tickets) (f .wait)) (off-kept (isAckPending (c .state)) (c .ack) (c .tickets) (f .ack));
+            timers-hold (c .state) (c .wait) (c .ack) (c .cancel) (c .tickets)
+            (record {
+              wait = off-kept (isWaiting (c .state)) (c .wait) (c .tickets) (f .wait);
+              ack = off-kept (isAckPending (c .state)) (c .ack) (c .tickets) (f .ack);
+              cancel = off-kept (isActive (c .state)) (c .cancel) (c .tickets) (f .cancel);
+            });
       });
   activity = f .activity;
   unbegun = λ e. none;
@@ -136,6 +141,7 @@ client-record-fresh activity tickets known = record {
   resends = refl;
   wait = refl;
   ack = refl;
+  cancel = refl;
 }
 
 pub server-record-fresh : (activity : List ℕ) (boot tickets : ℕ) → length activity ≡ 16 → boot < 4294967296 → FreshServer (serverRecord activity boot tickets)

@@ -25,23 +25,23 @@ use Rattle.grounds.specs.Entry.{lentGround}
 use Rattle.grounds.specs.Fragment.{isLast, wantsFack, bodyLength}
 use Rattle.grounds.proofs.GroundLaws.{lent-passes, body-length}
 use Rattle.client_record.specs.declared.Client.{Client}
-use Rattle.client_record.specs.States.{isQueued, isActive, isDispatched}
+use Rattle.client_record.specs.States.{isQueued}
 use Rattle.client_record.specs.Rules.{sound}
 use Rattle.client_record.specs.Record.{waiting, ackPending, unarmed, withIncoming, withWaits}
 use Rattle.client_record.proofs.StateLaws.{dispatched-state, active-state}
 use Rattle.client_record.proofs.RuleLaws.{rules-told}
 use Rattle.client_table.proofs.EventLaws.{response-kind}
 use Rattle.client_table.specs.declared.Event.{Event}
-use Rattle.client_table.specs.declared.Event.the-variants.{Response as ResponseEvent, Fault, Reject, Working, Nocall, Fack as FackEvent, Foreign}
+use Rattle.client_table.specs.declared.Event.the-variants.{Response as ResponseEvent, Fault, Reject, Working, Nocall, Fack as FackEvent, CancelAck, Foreign}
 use Rattle.client_table.specs.Events.{eventOf, byEvent, hasRow}
 use Rattle.client_steps.specs.declared.Send.{Send}
-use Rattle.client_steps.specs.declared.Send.the-variants.{Nothing, Request as SendRequest, Ping, Ack, Fack}
+use Rattle.client_steps.specs.declared.Send.the-variants.{Nothing, Request as SendRequest, Ping, Ack, Fack, Cancel}
 use Rattle.client_steps.specs.Plan.{refused, accepted, failed}
-use Rattle.client_arrivals.specs.Rows.{putNotice, fackPlan, putRecord, fackFor, putPlan, responsePlan, workingPlan, resent, nocallPlan, received}
+use Rattle.client_arrivals.specs.Rows.{putNotice, fackPlan, putRecord, fackFor, putPlan, responsePlan, workingPlan, resent, nocallPlan, cancelAckPlan, received}
 use Rattle.client_arrivals.specs.Table.{arrivalRow, arrivalPlan}
 use Rattle.client_arrivals.proofs.ArrivalLaws.{nocall-puts-none}
 use Rattle.client.specs.Machine.{sending, planOf, acted, arriving}
-use Rattle.client.proofs.Judging.{CanArrive, response-can, arrival-passes}
+use Rattle.client.proofs.Judging.{CanArrive, arrived-active, response-can, arrival-passes}
 use Rattle.client.proofs.Accepting.{arrive-accepted}
 use Rattle.client.proofs.Keeping.{row-sound}
 use Rattle.history.specs.Lists.{In}
@@ -54,7 +54,7 @@ use Rattle.history.proofs.Network.{Request, Response}
 use Rattle.history.proofs.Ordinals.{equal-start}
 use Rattle.history.proofs.More.{current-on}
 use Rattle.history.proofs.Invariant.{ClientHolds, nothing, fragments-of, ClientInv, Inv, clientStep}
-use Rattle.history.proofs.ClientSteps.{GoesOn, goes-on, failed-goes-on, fack-goes-on, working-goes-on, nocall-goes-on}
+use Rattle.history.proofs.ClientSteps.{GoesOn, goes-on, failed-goes-on, fack-goes-on, working-goes-on, nocall-goes-on, cancel-ack-goes-on}
 use Rattle.history.proofs.ClientSends.{asks, acknowledges, others-known, planned, none-told}
 use Rattle.history.proofs.ListLaws.{tellsLast, completed-more}
 use Rattle.client.proofs.Growing.{hands-joined}
@@ -200,7 +200,7 @@ module _ (w : World) (inv : Inv w) (o : ℕ) (h : Header) (body : List ℕ) (sta
   row-inv : (event : Event) → CanArrive event (w .client .machine) h (bodyLength body) → eventOf (h .kind) ≡ event
       → ClientInv (arrivalRow event (w .client .machine) h (bodyLength body) status .client)
       (storing (arrivalRow event (w .client .machine) h (bodyLength body) status .put) (h .fragment) body (w .client .slots)) (w .books .starts) (w .books .replies)
-  unfolding arrivalRow failed accepted fackPlan workingPlan responsePlan putPlan storing choose hasRow isQueued
+  unfolding arrivalRow failed accepted fackPlan workingPlan cancelAckPlan responsePlan putPlan storing choose hasRow isQueued
   row-inv ResponseEvent j e = response-inv j e
   row-inv Fault j e = other Fault j (active-state (w .client .machine .state) (j .row)) (failed-goes-on (w .client .machine) (FaultNotice status))
   row-inv Reject j e = other Reject j (active-state (w .client .machine .state) (j .row)) (failed-goes-on (w .client .machine) (RejectNotice status))
@@ -211,6 +211,9 @@ module _ (w : World) (inv : Inv w) (o : ℕ) (h : Header) (body : List ℕ) (sta
       (sym (nocall-puts-none (w .client .machine)))
       (other Nocall j (ap isQueued (dispatched-state (w .client .machine .state) (j .row))) (nocall-goes-on (w .client .machine)))
   row-inv FackEvent j e = other FackEvent j (active-state (w .client .machine .state) (j .row)) (fack-goes-on (w .client .machine) (h .fragment) (active-state (w .client .machine .state) (j .row)))
+  row-inv CancelAck j e =
+      let begun = active-state (w .client .machine .state) (arrived-active CancelAck (w .client .machine) h (bodyLength body) kept j) in
+      other CancelAck j begun (cancel-ack-goes-on (w .client .machine) begun)
   row-inv Foreign j e = absurd (false≢true (j .row))
 
 -- A row of an arriving PDU sends nothing or a fack, so no request and no ack.
@@ -220,6 +223,7 @@ sendsFack (SendRequest f) = false
 sendsFack Ping = false
 sendsFack Ack = false
 sendsFack (Fack serial) = true
+sendsFack (Cancel n) = false
 
 fack-alone : (send : Send) → sendsFack send ≡ true → (asks send ≡ false) × (acknowledges send ≡ false)
 fack-alone Nothing e = (refl, refl)
@@ -227,9 +231,10 @@ fack-alone (SendRequest f) e = absurd (false≢true e)
 fack-alone Ping e = absurd (false≢true e)
 fack-alone Ack e = absurd (false≢true e)
 fack-alone (Fack serial) e = (refl, refl)
+fack-alone (Cancel n) e = absurd (false≢true e)
 
 row-sends : (event : Event) (c : Client) (h : Header) (n status : ℕ) → sendsFack (arrivalRow event c h n status .send) ≡ true
-unfolding arrivalRow responsePlan putPlan failed accepted workingPlan nocallPlan fackPlan refused choose
+unfolding arrivalRow responsePlan putPlan failed accepted workingPlan nocallPlan fackPlan cancelAckPlan refused choose
 row-sends ResponseEvent c h n status = by-fack (wantsFack (h .flags1))
   where
     by-fack : (wanted : Bool) → sendsFack (fackFor wanted (h .serial)) ≡ true
@@ -244,23 +249,13 @@ row-sends Nocall c h n status = by-count (ltb (c .resends) retryLimit)
     by-count true = refl
     by-count false = refl
 row-sends FackEvent c h n status = refl
+row-sends CancelAck c h n status = refl
 row-sends Foreign c h n status = refl
-
--- A PDU that arrives has a row in an active call alone.
-arrived-active : (event : Event) (c : Client) → hasRow event (isActive (c .state)) (isDispatched (c .state)) ≡ true → isActive (c .state) ≡ true
-unfolding hasRow isActive
-arrived-active ResponseEvent c e = e
-arrived-active Fault c e = e
-arrived-active Reject c e = e
-arrived-active Working c e = ap isActive (dispatched-state (c .state) e)
-arrived-active Nocall c e = ap isActive (dispatched-state (c .state) e)
-arrived-active FackEvent c e = e
-arrived-active Foreign c e = absurd (false≢true e)
 
 -- A row that tells "last" leaves all held.
 row-tells : (event : Event) (c : Client) (h : Header) (n status : ℕ) → tellsLast (arrivalRow event c h n status .notice) ≡ true
     → complete (arrivalRow event c h n status .client .incoming) ≡ true
-unfolding arrivalRow responsePlan putPlan withIncoming withWaits failed accepted workingPlan nocallPlan fackPlan refused choose
+unfolding arrivalRow responsePlan putPlan withIncoming withWaits failed accepted workingPlan nocallPlan fackPlan cancelAckPlan refused choose
 row-tells ResponseEvent c h n status e =
     let m = stored (c .incoming) (h .fragment) n (isLast (h .flags1)) in notice-told (complete m) (contiguous m) e
 row-tells Fault c h n status e = absurd (false≢true e)
@@ -272,6 +267,7 @@ row-tells Nocall c h n status e = absurd (false≢true (sym (by-count (ltb (c .r
     by-count true = refl
     by-count false = refl
 row-tells FackEvent c h n status e = absurd (false≢true e)
+row-tells CancelAck c h n status e = absurd (false≢true e)
 row-tells Foreign c h n status e = absurd (false≢true e)
 
 -- A client with a call still has one after the row.
@@ -284,6 +280,7 @@ still Reject c h n status e = failed-goes-on c (RejectNotice status) .started
 still Working c h n status e = working-goes-on c .started
 still Nocall c h n status e = nocall-goes-on c .started
 still FackEvent c h n status e = fack-goes-on c (h .fragment) e .started
+still CancelAck c h n status e = cancel-ack-goes-on c e .started
 still Foreign c h n status e = e
 
 -- An arriving datagram keeps what is known of the world, where the server sent it and the buffer lent is the
@@ -307,7 +304,7 @@ client-arrive-inv w p out inv done sent =
     let event = eventOf (r .header .kind) in
     let next = row-inv w inv (p .ordinal) (r .header) body status (j .0 .kept) (buffers .0) (body-short (p .bytes) (j .0 .done))
     (inv .responses p sent .told (j .0 .done)) event (j .1) refl in
-    let active = arrived-active event c (j .1 .row) in
+    let active = arrived-active event c (r .header) n (j .0 .kept) (j .1) in
     let begun = active-state (c .state) active in
     let sends = fack-alone (arrivalRow event c (r .header) n status .send) (row-sends event c (r .header) n status) in
     subst

@@ -13,16 +13,16 @@ use Rattle.fragments.specs.Joined.{Leads}
 use Rattle.fragments.proofs.PutLaws.{leads-refl, leads-trans}
 use Rattle.grounds.proofs.PassLaws.{done-or-not}
 use Rattle.client.specs.Machine.{starting}
-use Rattle.client.proofs.Growing.{transmit-grows, timer-grows, arrive-grows}
+use Rattle.client.proofs.Growing.{transmit-grows, timer-grows, cancel-grows, arrive-grows}
 use Rattle.history.specs.Lists.{andThen}
 use Rattle.history.specs.World.{Started, World}
-use Rattle.history.specs.Events.{Lent, ClientEvent, ServerEvent, Event, Start, ClientTransmit, ClientArrive, ClientTimer, ServerArrive, ServerTransmit, ServerTimer, Reply, Fault, OfClient, OfServer}
+use Rattle.history.specs.Events.{Lent, ClientEvent, ServerEvent, Event, Start, ClientTransmit, ClientArrive, ClientTimer, ClientCancel, ServerArrive, ServerTransmit, ServerTimer, Reply, Fault, OfClient, OfServer}
 use Rattle.history.specs.Steps.{isDone, bytesLent, ownAfter, happens, answerTo, step, run}
 use Rattle.history.specs.Fairness.{ClientPremise, ServerPremise, Premise, Fair}
 use Rattle.history.specs.Claim.{replyHandedUp}
 use Rattle.history.proofs.Invariant.{Inv, startStep}
 use Rattle.history.proofs.Refused.{refused-same}
-use Rattle.history.proofs.ClientEvents.{client-transmit-inv, client-timer-inv}
+use Rattle.history.proofs.ClientEvents.{client-transmit-inv, client-timer-inv, client-cancel-inv}
 use Rattle.history.proofs.ClientArrivals.{client-arrive-inv}
 use Rattle.history.proofs.StartStep.{started-inv}
 use Rattle.history.proofs.ServerEvents.{server-transmit-inv, server-fault-inv, server-timer-inv, replied-inv}
@@ -37,6 +37,17 @@ client-accepted w (ClientArrive p lent out) inv done fair =
     subst (λ (l : Lent). answerTo w (OfClient (ClientArrive p l out)) ≡ Done → Inv (step w (OfClient (ClientArrive p l out)))) (sym (fair .own))
     (λ d. client-arrive-inv w p out inv d (fair .earlier)) done
 client-accepted w (ClientTimer kind ticket out) inv done fair = client-timer-inv w kind ticket out inv done
+client-accepted w (ClientCancel out) inv done fair =
+    let next = client-cancel-inv w out inv done in
+    record {
+      client = next .client;
+      server = next .server;
+      calls = next .calls;
+      requests = next .requests;
+      acks = next .acks;
+      responses = next .responses;
+      completed = next .completed;
+    }
 
 -- one of the server,
 server-accepted : (w : World) (e : ServerEvent) → Inv w → answerTo w (OfServer e) ≡ Done → ServerPremise w e → Inv (step w (OfServer e))
@@ -105,6 +116,7 @@ turn-starts w (Start call n message) = by-answer (done-or-not (starting (w .clie
 turn-starts w (ClientTransmit message out) = inl refl
 turn-starts w (ClientArrive p lent out) = inl refl
 turn-starts w (ClientTimer kind ticket out) = inl refl
+turn-starts w (ClientCancel out) = inl refl
 
 step-starts : (w : World) (e : Event) → (step w e .books .starts ≡ w .books .starts) ⊎ OneMore (w .books .starts) (step w e .books .starts)
 unfolding step happens
@@ -135,6 +147,7 @@ accepted-grows w (OfClient (ClientArrive p lent out)) done fair =
     (subst (λ (l : Lent). Leads (replyHandedUp w) (replyHandedUp (step w (OfClient (ClientArrive p l out))))) (sym (fair .own))
     (arrive-grows (w .client .machine) (p .bytes) (w .client .slots) out))
 accepted-grows w (OfClient (ClientTimer kind ticket out)) done fair = inr (timer-grows (w .client .machine) kind ticket out (w .client .slots))
+accepted-grows w (OfClient (ClientCancel out)) done fair = inr (cancel-grows (w .client .machine) out (w .client .slots))
 accepted-grows w (OfServer e) done fair = inr (leads-refl (replyHandedUp w))
 
 step-grows : (w : World) (e : Event) → (answerTo w e ≡ Done → Premise w e) → OneMore (w .books .starts) (step w e .books .starts) ⊎ Leads (replyHandedUp w) (replyHandedUp (step w e))

@@ -182,12 +182,12 @@ pub record Inv (w : World) : Type 0 where
 -- The world after a step of the client that is no start, after a start, after a step of the server that is no
 -- reply, and after a reply.
 abbrev pub clientStep : World → ClientOutcome → List ℕ → List ℕ → World
-clientStep w r out slots = clientWorld w (clientTurnOf r out slots) (w .books .starts)
+clientStep w r out slots = clientWorld w (clientTurnOf r out slots) (w .books .starts) (w .books .cancels)
 
 abbrev pub startStep : World → ClientOutcome → Call → List ℕ → World
 startStep w r call message =
     let t = clientTurnOf r [] (w .client .slots) in
-    clientWorld w t (startedAfter (w .books .starts) t call message)
+    clientWorld w t (startedAfter (w .books .starts) t call message) (w .books .cancels)
 
 abbrev pub serverStep : World → ServerOutcome → List ℕ → List ℕ → Subject → World
 serverStep w r out slots of = serverWorld w (serverTurnOf r out slots) of (w .books .replies)

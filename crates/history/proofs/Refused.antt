@@ -18,10 +18,10 @@ use Rattle.timers.specs.declared.Timer.the-variants.{Off, Armed}
 use Rattle.timers.specs.Tickets.{armedWith}
 use Rattle.grounds.specs.Order.{refuseIf, groundOf}
 use Rattle.grounds.proofs.PassLaws.{answer-passes}
-use Rattle.client_record.specs.declared.TimerKind.the-variants.{Wait, Ack}
+use Rattle.client_record.specs.declared.TimerKind.the-variants.{Wait, Ack, Cancel}
 use Rattle.client.proofs.Judging.{timer-passes as client-timer-passes}
 use Rattle.client.proofs.Accepting.{timer-accepted as client-timer-accepted}
-use Rattle.client.proofs.Refusals.{StepUntouched as ClientStepUntouched, start-refused, transmit-refused as client-transmit-refused, timer-refused as client-timer-refused, arrive-refused as client-arrive-refused}
+use Rattle.client.proofs.Refusals.{StepUntouched as ClientStepUntouched, start-refused, transmit-refused as client-transmit-refused, timer-refused as client-timer-refused, cancel-refused, arrive-refused as client-arrive-refused}
 use Rattle.calls.specs.Events.{Step}
 use Rattle.client_record.specs.declared.Client.{Client}
 use Rattle.client_record.specs.Arming.{namedTimer}
@@ -31,9 +31,9 @@ use Rattle.server.specs.declared.Outcome.{Outcome as ServerOutcome}
 use Rattle.server.proofs.Judging.{timer-passes as server-timer-passes}
 use Rattle.server.proofs.Accepting.{timer-accepted as server-timer-accepted}
 use Rattle.server.proofs.Refusals.{StepUntouched as ServerStepUntouched, reply-refused, transmit-refused as server-transmit-refused, fault-refused, timer-refused as server-timer-refused, arrive-refused as server-arrive-refused}
-use Rattle.history.specs.World.{Started, Side, Books, World}
-use Rattle.history.specs.Events.{Lent, Own, Other, ClientEvent, ServerEvent, Event, Start, ClientTransmit, ClientArrive, ClientTimer, ServerArrive, ServerTransmit, ServerTimer, Reply, Fault, OfClient, OfServer}
-use Rattle.history.specs.Steps.{isDone, bytesLent, ownAfter, sentAfter, lastStart, dispatchesAfter, completionsAfter, lastDispatched, Turn, clientStepped, clientTurn, serverStepped, serverTurn, sideAfter, startsAfter, repliesAfter, subjectOf, completionEntry, dispatchEntry, happens, answerTo, noticeOf, leftIn, step}
+use Rattle.history.specs.World.{Started, Cancelled, Side, Books, World}
+use Rattle.history.specs.Events.{Lent, Own, Other, ClientEvent, ServerEvent, Event, Start, ClientTransmit, ClientArrive, ClientTimer, ClientCancel, ServerArrive, ServerTransmit, ServerTimer, Reply, Fault, OfClient, OfServer}
+use Rattle.history.specs.Steps.{isDone, bytesLent, ownAfter, sentAfter, lastStart, dispatchesAfter, completionsAfter, lastDispatched, Turn, clientStepped, clientTurn, serverStepped, serverTurn, sideAfter, startsAfter, cancelsAfter, repliesAfter, subjectOf, completionEntry, dispatchEntry, heardAfter, heardEntry, happens, answerTo, noticeOf, leftIn, step}
 use Rattle.history.specs.Lists.{andThen}
 use Rattle.history.specs.Claim.{TimerOf, OnClient, OnServer, timerIn, timerEvent, ChangesNothing}
 
@@ -58,6 +58,7 @@ clientBuffer (Start call n message) = []
 clientBuffer (ClientTransmit message out) = out
 clientBuffer (ClientArrive p lent out) = out
 clientBuffer (ClientTimer kind ticket out) = out
+clientBuffer (ClientCancel out) = out
 
 abbrev serverBuffer : ServerEvent → List ℕ
 serverBuffer (ServerArrive p lent out) = out
@@ -100,6 +101,7 @@ client-refused c (ClientArrive p lent out) other =
       buffer = same .buffer;
     }
 client-refused c (ClientTimer kind ticket out) other = client-step-same c out _ (client-timer-refused (c .machine) kind ticket out other)
+client-refused c (ClientCancel out) other = client-step-same c out _ (cancel-refused (c .machine) out other)
 
 -- and the server's.
 pub server-refused : (s : Side Server) (e : ServerEvent) → (serverTurn s e .answer ≡ Done → ⊥) → Untouched s (serverBuffer e) (serverTurn s e)
@@ -137,6 +139,18 @@ starts-same before (Start call n message) t other =
 starts-same before (ClientTransmit message out) t other = refl
 starts-same before (ClientArrive p lent out) t other = refl
 starts-same before (ClientTimer kind ticket out) t other = refl
+starts-same before (ClientCancel out) t other = refl
+
+-- nor is a local cancel,
+cancels-same : (before : List Cancelled) (e : ClientEvent) (t : Turn Client) (ordinal : ℕ) → (t .answer ≡ Done → ⊥)
+    → cancelsAfter before e t ordinal ≡ before
+cancels-same before (Start call n message) t ordinal other = refl
+cancels-same before (ClientTransmit message out) t ordinal other = refl
+cancels-same before (ClientArrive p lent out) t ordinal other = refl
+cancels-same before (ClientTimer kind ticket out) t ordinal other = refl
+cancels-same before (ClientCancel out) t ordinal other =
+    choose-false (isDone (t .answer)) (andThen before (record { ordinal = ordinal; number = t .machine .cancels })) before
+    (not-zero (t .answer) other)
 
 -- nor is a reply,
 replies-same : (b : Books) (e : ServerEvent) (t : Turn Server) → (t .answer ≡ Done → ⊥) → repliesAfter b e t ≡ b .replies
@@ -158,7 +172,7 @@ standing-same w (Fault status out) answer other = refl
 
 -- So an event that is not answered 0 leaves the whole world as it was.
 pub refused-same : (w : World) (e : Event) → (answerTo w e ≡ Done → ⊥) → step w e ≡ w
-unfolding step answerTo happens completionsAfter dispatchesAfter
+unfolding step answerTo happens completionsAfter dispatchesAfter heardAfter
 refused-same w (OfClient e) other =
     let t = clientTurn (w .client) e in
     let u = client-refused (w .client) e other in
@@ -172,6 +186,8 @@ refused-same w (OfClient e) other =
             dispatches = w .books .dispatches;
             replies = w .books .replies;
             completions = completionsAfter (w .books .completions) (u .notice i) (completionEntry starts (t .machine) (t .slots));
+            cancels = cancels-same (w .books .cancels) e t (lastStart (w .books .starts)) other i;
+            heard = w .books .heard;
             standing = w .books .standing;
           };
     }
@@ -188,6 +204,8 @@ refused-same w (OfServer e) other =
             dispatches = dispatchesAfter (w .books .dispatches) (u .notice i) (dispatchEntry of (t .machine) (t .slots));
             replies = replies-same (w .books) e t other i;
             completions = w .books .completions;
+            cancels = w .books .cancels;
+            heard = heardAfter (w .books .heard) (u .notice i) (heardEntry (w .books .dispatches) of (t .machine));
             standing = standing-same w e (t .answer) other i;
           };
     }
@@ -206,6 +224,9 @@ acted-armed w (OnClient Wait) ticket out done =
     armed-is (w .client .machine .wait) ticket (client-timer-passes (w .client .machine) Wait ticket _ (client-timer-accepted (w .client .machine) Wait ticket out done) .armed)
 acted-armed w (OnClient Ack) ticket out done =
     armed-is (w .client .machine .ack) ticket (client-timer-passes (w .client .machine) Ack ticket _ (client-timer-accepted (w .client .machine) Ack ticket out done) .armed)
+acted-armed w (OnClient Cancel) ticket out done =
+    armed-is (w .client .machine .cancel) ticket
+    (client-timer-passes (w .client .machine) Cancel ticket _ (client-timer-accepted (w .client .machine) Cancel ticket out done) .armed)
 acted-armed w OnServer ticket out done =
     armed-is (w .server .machine .resend) ticket (server-timer-passes (w .server .machine) ticket _ (server-timer-accepted (w .server .machine) ticket out done) .armed)
 

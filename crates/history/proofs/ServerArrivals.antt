@@ -14,6 +14,7 @@ use Rattle.answers.specs.declared.Answer.{Answer}
 use Rattle.answers.specs.declared.Answer.the-variants.{Done, OldCall, NoRow, Repeated}
 use Rattle.answers.specs.declared.Ground.{Ground}
 use Rattle.answers.specs.declared.Ground.the-variants.{Pass}
+use Rattle.bodies.specs.Cancel.{cancelReading}
 use Rattle.calls.specs.declared.Notice.the-variants.{Nothing as Untold}
 use Rattle.flags.specs.Flags.{idempotent, hasFlag}
 use Rattle.fragments.specs.Slots.{storing}
@@ -37,17 +38,20 @@ use Rattle.server_record.specs.States.{isFresh, isRunning, isHeld}
 use Rattle.server_record.specs.Rules.{sound}
 use Rattle.server_record.specs.Record.{withOutgoing}
 use Rattle.server_record.proofs.StateLaws.{held-state}
+use Rattle.server_rows.specs.declared.Event.the-variants.{Cancel}
 use Rattle.server_rows.specs.declared.Order.the-variants.{Equal, Newer}
 use Rattle.server_rows.specs.declared.Row.{Row}
-use Rattle.server_rows.specs.declared.Row.the-variants.{Old, Missing, Repeat, Begin, Put, Working, Nocall, Replay, Acknowledge, Finish}
+use Rattle.server_rows.specs.declared.Row.the-variants.{Old, Missing, Repeat, Begin, Put, Working, Nocall, Replay, Acknowledge, Finish, AcceptCancel, DeclineCancel}
 use Rattle.server_rows.specs.Events.{eventOf}
 use Rattle.server_rows.specs.Rows.{orderFor, rowFor}
 use Rattle.server_table.specs.Arrival.{oldGround, rowGround}
-use Rattle.server_rows.proofs.TableLaws.{newer-told, equal-told, begin-told, put-told, working-told, nocall-told, replay-told, acknowledge-told, finish-told}
-use Rattle.server_arrivals.specs.Rows.{begun, putPlan, requestPlan, beginPlan, workingPlan, nocallPlan, fackPlan, ackPlan}
+use Rattle.server_rows.proofs.TableLaws.{newer-told, equal-told, begin-told, put-told, working-told, nocall-told, replay-told, acknowledge-told, finish-told, accept-told, decline-told}
+use Rattle.server_arrivals.specs.Rows.{begun, putPlan, requestPlan, beginPlan, workingPlan, nocallPlan, fackPlan, ackPlan, heardPlan, acceptPlan, declinePlan}
 use Rattle.server_arrivals.specs.Table.{arrivalRow, arrivalPlan}
 use Rattle.server_arrivals.proofs.ArrivalLaws.{fack-sound, ack-sound}
+use Rattle.server_arrivals.proofs.CancelLaws.{heard-or-not}
 use Rattle.server_steps.specs.declared.Plan.{Plan}
+use Rattle.server_steps.specs.declared.Send.the-variants.{CancelAck}
 use Rattle.server_steps.specs.Plan.{accepted}
 use Rattle.server_steps.specs.Rows.{rewinding, replayHeld, replayPlan}
 use Rattle.server_steps.proofs.StepLaws.{replay-sound}
@@ -61,10 +65,10 @@ use Rattle.history.specs.Fairness.{Typed}
 use Rattle.history.proofs.Holding.{Buffer, Short}
 use Rattle.history.proofs.Network.{Request, Response, read-sized}
 use Rattle.history.proofs.Invariant.{unanswered, hasData, NewTo, ServerInv, Inv, serverStep}
-use Rattle.history.proofs.Types.{IsRequest, kind-request, request-kind, no-ping}
+use Rattle.history.proofs.Types.{IsRequest, kind-request, request-kind, no-ping, no-cancel}
 use Rattle.history.proofs.Ordinals.{newer-start, equal-start}
-use Rattle.history.proofs.ServerSteps.{past, past-called, goes-on, rewinding-goes-on, spent-goes-on, stays-goes-on}
-use Rattle.history.proofs.ServerSends.{answers, ofCall, pdu-uuids, others-known, planned}
+use Rattle.history.proofs.ServerSteps.{past, past-called, goes-on, rewinding-goes-on, spent-goes-on, stays-goes-on, seen-inv}
+use Rattle.history.proofs.ServerSends.{answers, ofCall, pdu-uuids, others-known, tellsDispatch, planned}
 use Rattle.history.proofs.ServerPuts.{Begins, begun-inv, put-inv}
 
 -- The row of an arriving PDU that passed.
@@ -139,8 +143,8 @@ module _ (w : World) (inv : Inv w) (o : ℕ) (h : Header) (body : List ℕ) (j :
   abbrev of : Subject
   of = record { ordinal = o; number = h .number; standing = stands }
 
-  -- A plan that puts nothing, tells nothing and sends no response.
-  quiet-inv : (plan : Plan) → plan .put ≡ false → plan .notice ≡ Untold → answers (plan .send) ≡ false → (ofCall (plan .send) ≡ true → Typed (plan .server .call))
+  -- A plan that puts nothing, dispatches nothing and sends no response.
+  quiet-inv : (plan : Plan) → plan .put ≡ false → tellsDispatch (plan .notice) ≡ false → answers (plan .send) ≡ false → (ofCall (plan .send) ≡ true → Typed (plan .server .call))
       → ServerInv (plan .server) (w .books .standing) (w .server .slots) (w .books .starts) (w .books .dispatches) (w .books .replies)
       → (IsRequest (h .kind) → orderFor s h ≡ Equal) → Inv (After plan)
   unfolding storing choose
@@ -239,25 +243,50 @@ module _ (w : World) (inv : Inv w) (o : ℕ) (h : Header) (body : List ℕ) (j :
       (goes-on s (ackPlan s .server) (w .books .standing) (w .server .slots) (w .books .starts) (w .books .dispatches) (w .books .replies) (inv .server)
       (past-called (s .state) (later .0)) (ack-sound s (inv .server .kept)) (spent-goes-on s (w .books .standing) (w .books .replies))) (λ x. told .0)
 
-  by-row : (row : Row) → rowFor s h ≡ row → Inv (After (arrivalRow row s h (bodyLength body)))
+  -- A cancel is no request.
+  cancel-other : eventOf (h .kind) ≡ Cancel → IsRequest (h .kind) → orderFor s h ≡ Equal
+  cancel-other e is = absurd (no-cancel (sym e ∙ kind-request (h .kind) is))
+
+  -- Cancel, in RUNNING: only the number last seen moves.
+  accept-inv : (cancel : ℕ) → rowFor s h ≡ AcceptCancel → Inv (After (acceptPlan s cancel))
+  unfolding rowFor accepted
+  accept-inv cancel e =
+      let told = accept-told (eventOf (h .kind)) (orderFor s h) (s .state) (hasFlag idempotent (h .flags1)) (s .call .idempotent) e in
+      heard-or-not s cancel (λ (p : Plan). Inv (After p))
+      (quiet-inv (heardPlan s cancel) (unfold heardPlan in refl) (unfold heardPlan in refl) (unfold heardPlan in refl)
+      (unfold heardPlan in λ x. absurd (false≢true x))
+      (unfold heardPlan in seen-inv s cancel (w .books .standing) (w .server .slots) (w .books .starts) (w .books .dispatches) (w .books .replies) (inv .server))
+      (cancel-other (told .0)))
+      (quiet-inv (accepted s (CancelAck cancel true)) refl refl refl (λ x. absurd (false≢true x)) (inv .server) (cancel-other (told .0)))
+
+  -- Cancel, in COLLECT, REPLYING or HELD: nothing moves.
+  decline-inv : (cancel : ℕ) → rowFor s h ≡ DeclineCancel → Inv (After (declinePlan s cancel))
+  unfolding rowFor accepted declinePlan
+  decline-inv cancel e =
+      let told = decline-told (eventOf (h .kind)) (orderFor s h) (s .state) (hasFlag idempotent (h .flags1)) (s .call .idempotent) e in
+      quiet-inv (declinePlan s cancel) refl refl refl (λ x. absurd (false≢true x)) (inv .server) (cancel-other (told .0))
+
+  by-row : (cancel : ℕ) (row : Row) → rowFor s h ≡ row → Inv (After (arrivalRow row s h (bodyLength body) cancel))
   unfolding arrivalRow workingPlan nocallPlan accepted oldGround rowGround rowFor
-  by-row Old e = absurd (refusal-stops OldCall (subst (λ (x : Row). oldGround x ≡ Pass) e (j .old)))
-  by-row Missing e = absurd (refusal-stops NoRow (subst (λ (x : Row). rowGround x ≡ Pass) e (j .row)))
-  by-row Repeat e = absurd (refusal-stops Repeated (subst (λ (x : Row). rowGround x ≡ Pass) e (j .row)))
-  by-row Begin e = begin-inv e
-  by-row Put e = put-row-inv e
-  by-row Working e =
+  by-row cancel Old e = absurd (refusal-stops OldCall (subst (λ (x : Row). oldGround x ≡ Pass) e (j .old)))
+  by-row cancel Missing e = absurd (refusal-stops NoRow (subst (λ (x : Row). rowGround x ≡ Pass) e (j .row)))
+  by-row cancel Repeat e = absurd (refusal-stops Repeated (subst (λ (x : Row). rowGround x ≡ Pass) e (j .row)))
+  by-row cancel Begin e = begin-inv e
+  by-row cancel Put e = put-row-inv e
+  by-row cancel Working e =
       quiet-inv (workingPlan s) refl refl refl (λ x. absurd (false≢true x)) (inv .server)
       (λ x. working-told (eventOf (h .kind)) (orderFor s h) (s .state) (hasFlag idempotent (h .flags1)) (s .call .idempotent) e)
-  by-row Nocall e =
+  by-row cancel Nocall e =
       quiet-inv (nocallPlan s) refl refl refl (λ x. absurd (false≢true x)) (inv .server)
       (λ x.
       absurd
       (no-ping
       (sym (nocall-told (eventOf (h .kind)) (orderFor s h) (s .state) (hasFlag idempotent (h .flags1)) (s .call .idempotent) e) ∙ kind-request (h .kind) x)))
-  by-row Replay e = replay-row-inv e
-  by-row Acknowledge e = fack-inv e
-  by-row Finish e = ack-inv e
+  by-row cancel Replay e = replay-row-inv e
+  by-row cancel Acknowledge e = fack-inv e
+  by-row cancel Finish e = ack-inv e
+  by-row cancel AcceptCancel e = accept-inv cancel e
+  by-row cancel DeclineCancel e = decline-inv cancel e
 
 -- An arriving datagram keeps what is known of the world, where the client sent it and the buffer lent is the
 -- server's own.
@@ -273,6 +302,7 @@ server-arrive-inv w p out inv done sent =
     let lent = lentGround (length (w .server .slots)) (length out) in
     let r = reading (p .bytes) in
     let body = bodyOf (p .bytes) in
+    let cancel = cancelReading (r .little) body .number in
     let pass = arrive-accepted s (p .bytes) (w .server .slots) out done in
     let j = arrival-passes s lent r body pass in
     let buffers = lent-passes (length (w .server .slots)) (length out) (j .0 .buffers) in
@@ -285,10 +315,10 @@ server-arrive-inv w p out inv done sent =
     (subst
     (λ (x : Ground).
     Inv
-    (serverStep w (sending (arrivalPlan x s (r .header) (bodyLength body)) (r .header) [] out .outcome)
-    (sending (arrivalPlan x s (r .header) (bodyLength body)) (r .header) [] out .out)
-    (storing (arrivalPlan x s (r .header) (bodyLength body) .put) (r .header .fragment) body (w .server .slots))
+    (serverStep w (sending (arrivalPlan x s (r .header) (bodyLength body) cancel) (r .header) [] out .outcome)
+    (sending (arrivalPlan x s (r .header) (bodyLength body) cancel) (r .header) [] out .out)
+    (storing (arrivalPlan x s (r .header) (bodyLength body) cancel .put) (r .header .fragment) body (w .server .slots))
     (ofArrival w p Done)))
     (sym pass)
     (by-row w inv (p .ordinal) (r .header) body (j .1) (buffers .0) (body-short (p .bytes) (j .0 .done)) (read-sized (p .bytes) (j .0 .done))
-    (inv .requests p sent .told (j .0 .done)) out (buffers .1) (rowFor s (r .header)) refl))
+    (inv .requests p sent .told (j .0 .done)) out (buffers .1) cancel (rowFor s (r .header)) refl))

@@ -48,7 +48,7 @@ use Rattle.history.proofs.More.{response-more, whole-reply-more, more-r
 use Rattle.history.proofs.Types.{IsResponse}
 use Rattle.history.proofs.Invariant.{ClientInv, unanswered, hasData, NewTo, new-on, ServerInv, Inv, serverStep, replyStep}
 use Rattle.history.proofs.ServerSteps.{goes-on, settled-goes-on, transmitted-goes-on, resend-goes-on}
-use Rattle.history.proofs.ServerSends.{answers, record-uuids, others-known, all-single, response-sent, transmitted-counts, planned}
+use Rattle.history.proofs.ServerSends.{tellsDispatch, answers, record-uuids, others-known, all-single, response-sent, transmitted-counts, planned}
 
 -- Transmit.
 pub server-transmit-inv : (w : World) (message out : List ℕ) → Inv w → transmitting (w .server .machine) message out .outcome .answer ≡ Done
@@ -138,7 +138,7 @@ server-timer-inv w ticket out inv done =
     (subst
     (λ (x : State). Inv (serverStep w (sending (timerRow x s) blank [] out .outcome) (sending (timerRow x s) blank [] out .out) (w .server .slots) (ofRecord w)))
     (sym (held .is))
-    (planned w plan blank [] out (w .server .slots) (ofRecord w) inv (quiet .1) next
+    (planned w plan blank [] out (w .server .slots) (ofRecord w) inv (ap tellsDispatch (quiet .1)) next
     (record-uuids (plan .send) (plan .server) (next .activity) (rw (g .call) (inv .server .called called .typed))) (omega arith) (j .buffer)
     (others-known (Response (w .books .replies)) (w .books .standing) (plan .send) (plan .server) blank [] (quiet .0))))
 

@@ -12,9 +12,10 @@ use Rattle.words.specs.Choice.{choose}
 use Rattle.words.specs.Sizes.{pduSize}
 use Rattle.words.proofs.Tests.{both-true}
 use Rattle.bodies.specs.Fack.{fackBytes, fackSent as fackFields}
+use Rattle.bodies.specs.Cancel.{cancelAckBytes}
 use Rattle.bodies.specs.Status.{statusBytes}
 use Rattle.calls.specs.declared.Notice.{Notice}
-use Rattle.calls.specs.declared.Notice.the-variants.{Nothing as Untold}
+use Rattle.calls.specs.declared.Notice.the-variants.{Nothing as Untold, Last, Count, Fault as FaultNotice, Reject, Cause, Dispatch, Cancel as CancelTold}
 use Rattle.calls.specs.Sent.{sentHeader}
 use Rattle.flags.specs.Flags.{idempotent, withFlag}
 use Rattle.facks.specs.Mask.{lastContiguous, maskOf}
@@ -37,13 +38,13 @@ use Rattle.server_record.specs.Arming.{runsAgain}
 use Rattle.server_record.proofs.StateLaws.{replying-state}
 use Rattle.server_record.proofs.RuleLaws.{rules-told, replying-told}
 use Rattle.server_steps.specs.declared.Send.{Send}
-use Rattle.server_steps.specs.declared.Send.the-variants.{Nothing, Response as SendResponse, Fault as SendFault, Working, Nocall, Fack}
+use Rattle.server_steps.specs.declared.Send.the-variants.{Nothing, Response as SendResponse, Fault as SendFault, Working, Nocall, Fack, CancelAck}
 use Rattle.server_steps.specs.declared.Plan.{Plan}
 use Rattle.server_steps.specs.Rows.{settled, transmitted}
-use Rattle.server.specs.Sending.{replyHeader, echoed, echoHeader, responseSent, faultSent, emptySent, fackSent, sentOut}
+use Rattle.server.specs.Sending.{replyHeader, echoed, echoHeader, responseSent, faultSent, emptySent, fackSent, cancelAckSent, sentOut}
 use Rattle.server.specs.Machine.{outcomeOf, sending}
 use Rattle.history.specs.Lists.{In}
-use Rattle.history.specs.World.{Started, Replied, SentPdu, World}
+use Rattle.history.specs.World.{Started, Dispatched, Replied, SentPdu, World}
 use Rattle.history.specs.Steps.{sentAfter, dispatchesAfter, Subject, dispatchEntry}
 use Rattle.history.specs.Fairness.{OfLastReply, Typed}
 use Rattle.history.proofs.ListLaws.{All, all-appended}
@@ -61,6 +62,7 @@ answers (SendFault status) = false
 answers Working = false
 answers Nocall = false
 answers (Fack serial) = false
+answers (CancelAck n accepts) = false
 
 -- Only a fault besides speaks of the record's call.
 abbrev pub ofCall : Send → Bool
@@ -70,6 +72,7 @@ ofCall (SendFault status) = true
 ofCall Working = false
 ofCall Nocall = false
 ofCall (Fack serial) = false
+ofCall (CancelAck n accepts) = false
 
 -- What the server sends, as it stands among what it has sent: nothing, or one PDU of that start; h is the header of
 -- the PDU answered.
@@ -81,6 +84,7 @@ serverPdus o Working s h lent = pduOf o (datagram (echoHeader 4 0 s h) []) ∷ [
 serverPdus o Nocall s h lent = pduOf o (datagram (echoHeader 5 0 s h) []) ∷ []
 serverPdus o (Fack serial) s h lent =
     pduOf o (datagram (echoHeader 9 (lastContiguous (contiguous (s .incoming))) s h) (fackBytes (fackFields serial (maskOf (s .incoming))))) ∷ []
+serverPdus o (CancelAck n accepts) s h lent = pduOf o (datagram (echoHeader 10 0 s h) (cancelAckBytes n accepts)) ∷ []
 
 -- The UUIDs that it speaks of: those of the record's call, or those of the PDU answered.
 abbrev pub SentUuids : Send → Server → Header → Type 0
@@ -100,7 +104,7 @@ record-uuids send s a typed = pdu-uuids send s blank a (record { object = refl; 
 
 pub server-sent : (send : Send) (s : Server) (h : Header) (lent out : List ℕ) (before : List SentPdu) (o : ℕ) → SentUuids send s h → Short lent → length out ≡ pduSize
     → sentAfter before (sentOut send s h lent out .sent) (sentOut send s h lent out .out) o ≡ before ++ serverPdus o send s h lent
-unfolding sentOut responseSent faultSent emptySent fackSent replyHeader echoHeader sentAfter fackBytes
+unfolding sentOut responseSent faultSent emptySent fackSent cancelAckSent replyHeader echoHeader sentAfter fackBytes cancelAckBytes
 server-sent Nothing s h lent out before o z short room = sym (append-nil before)
 server-sent (SendResponse f) s h lent out before o z short room =
     posted 2 _ _ _ _ _ _ _ lent out before o (omega arith) short (z .0 refl) room
@@ -110,6 +114,8 @@ server-sent Working s h lent out before o z short room = posted 4 _ _ _ _ _ _ _ 
 server-sent Nocall s h lent out before o z short room = posted 5 _ _ _ _ _ _ _ [] out before o (omega arith) (omega arith) (z .1) room
 server-sent (Fack serial) s h lent out before o z short room =
     posted 9 _ _ _ _ _ _ _ (fackBytes (fackFields serial (maskOf (s .incoming)))) out before o (omega arith) (omega arith) (z .1) room
+server-sent (CancelAck n accepts) s h lent out before o z short room =
+    posted 10 _ _ _ _ _ _ _ (cancelAckBytes n accepts) out before o (omega arith) (omega arith) (z .1) room
 
 -- So what is known of all before and of that is known of all then.
 pub sends-known : (K : SentPdu → Type 0) (send : Send) (s : Server) (h : Header) (lent out : List ℕ) (before : List SentPdu) (o : ℕ) → SentUuids send s h
@@ -128,6 +134,7 @@ others-known P o (SendFault status) s h message e = (other-known IsResponse P o 
 others-known P o Working s h message e = (other-known IsResponse P o (echoHeader 4 0 s h) [] (eqb-false 4 2 refl), tt)
 others-known P o Nocall s h message e = (other-known IsResponse P o (echoHeader 5 0 s h) [] (eqb-false 5 2 refl), tt)
 others-known P o (Fack serial) s h message e = (other-known IsResponse P o (echoHeader 9 _ s h) _ (eqb-false 9 2 refl), tt)
+others-known P o (CancelAck n accepts) s h message e = (other-known IsResponse P o (echoHeader 10 0 s h) _ (eqb-false 10 2 refl), tt)
 
 -- A response that transmit sends is a fragment of the reply that is out.
 module _ (s : Server) (standing : ℕ) (starts : List Started) (replies : List Replied) (message : List ℕ) (called : CalledStart s standing starts)
@@ -207,15 +214,36 @@ pub transmitted-counts : (last : Bool) (s : Server) → (transmitted last s .out
 unfolding afterSend nextSerial
 transmitted-counts last s = rw (transmitted-sent last s) (refl, omega arith)
 
--- A world whose server made a step by a plan that tells nothing.
-pub planned : (w : World) (plan : Plan) (h : Header) (lent out slots : List ℕ) (of : Subject) → Inv w → plan .notice ≡ Untold
+-- A notice other than "dispatch" dispatches nothing.
+abbrev pub tellsDispatch : Notice → Bool
+tellsDispatch Untold = false
+tellsDispatch Last = false
+tellsDispatch (Count count) = false
+tellsDispatch (FaultNotice status) = false
+tellsDispatch (Reject status) = false
+tellsDispatch (Cause cause) = false
+tellsDispatch Dispatch = true
+tellsDispatch CancelTold = false
+
+pub none-dispatched : (ds : List Dispatched) (notice : Notice) (d : Dispatched) → tellsDispatch notice ≡ false → dispatchesAfter ds notice d ≡ ds
+unfolding dispatchesAfter
+none-dispatched ds Untold d e = refl
+none-dispatched ds Last d e = refl
+none-dispatched ds (Count count) d e = refl
+none-dispatched ds (FaultNotice status) d e = refl
+none-dispatched ds (Reject status) d e = refl
+none-dispatched ds (Cause cause) d e = refl
+none-dispatched ds Dispatch d e = absurd (false≢true (sym e))
+none-dispatched ds CancelTold d e = refl
+
+-- A world whose server made a step by a plan that dispatches nothing.
+pub planned : (w : World) (plan : Plan) (h : Header) (lent out slots : List ℕ) (of : Subject) → Inv w → tellsDispatch (plan .notice) ≡ false
     → ServerInv (plan .server) (of .standing) slots (w .books .starts) (w .books .dispatches) (w .books .replies) → SentUuids (plan .send) (plan .server) h
     → Short lent → length out ≡ pduSize → All (Known IsResponse (Response (w .books .replies))) (serverPdus (of .ordinal) (plan .send) (plan .server) h lent)
     → Inv (serverStep w (sending plan h lent out .outcome) (sending plan h lent out .out) slots of)
-unfolding sending outcomeOf dispatchesAfter
+unfolding sending outcomeOf
 planned w plan h lent out slots of inv quiet server uuids short room responses =
-    let same : dispatchesAfter (w .books .dispatches) (plan .notice) (dispatchEntry of (plan .server) slots) ≡ w .books .dispatches =
-    ap (λ (n : Notice). dispatchesAfter (w .books .dispatches) n (dispatchEntry of (plan .server) slots)) quiet in
+    let same = none-dispatched (w .books .dispatches) (plan .notice) (dispatchEntry of (plan .server) slots) quiet in
     record {
       client = inv .client;
       server = rw same server;

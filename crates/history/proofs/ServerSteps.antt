@@ -17,11 +17,12 @@ use Rattle.server_record.specs.declared.State.the-variants.{Idle as IdleState, 
 use Rattle.server_record.specs.declared.Server.{Server}
 use Rattle.server_record.specs.States.{neverCalled, isFresh}
 use Rattle.server_record.specs.Rules.{sound}
-use Rattle.server_record.specs.Record.{holding, unarmed, withOutgoing, withResends}
+use Rattle.server_record.specs.Record.{holding, unarmed, withOutgoing, withResends, withSeen}
 use Rattle.server_record.specs.Arming.{runsAgain}
 use Rattle.server_steps.specs.declared.Send.the-variants.{Nothing}
 use Rattle.server_steps.specs.Plan.{accepted}
 use Rattle.server_steps.specs.Rows.{settled, transmitted, rewinding, resendHeld, resendRow}
+use Rattle.server.specs.HandUp.{handsUp}
 use Rattle.history.specs.Lists.{In}
 use Rattle.history.specs.World.{Started, Dispatched, Replied}
 use Rattle.history.proofs.Holding.{Single}
@@ -210,4 +211,26 @@ stays-goes-on s t standing replies a b n c i z e p single has = record {
   after = rw e p;
   single = λ u. single (sym (ap unanswered e) ∙ u);
   replying = λ u. has (sym (ap hasData e) ∙ u);
+}
+
+-- What is known of the server does not speak of the cancel number last seen.
+pub seen-inv : (s : Server) (n standing : ℕ) (slots : List ℕ) (starts : List Started) (dispatches : List Dispatched) (replies : List Replied)
+    → ServerInv s standing slots starts dispatches replies → ServerInv (withSeen s n) standing slots starts dispatches replies
+unfolding withSeen sound handsUp
+seen-inv s n standing slots starts dispatches replies inv = record {
+  kept = inv .kept;
+  activity = inv .activity;
+  boot = inv .boot;
+  takes = inv .takes;
+  called =
+      λ e.
+      let k = inv .called e in
+      record { start = k .start; started = k .started; is = k .is; number = k .number; call = k .call; typed = k .typed; small = k .small };
+  collecting = λ e. let k = inv .collecting e in record { start = k .start; started = k .started; is = k .is; holding = k .holding; first = k .first };
+  running = λ e. let k = inv .running e in record { last = k .last; ran = k .ran; entry = k .entry };
+  single = inv .single;
+  replying =
+      λ e.
+      let k = inv .replying e in
+      record { reply = k .reply; given = k .given; is = k .is; message = k .message; size = k .size; others = k .others };
 }

@@ -13,9 +13,9 @@ use Rattle.timers.specs.declared.Timer.the-variants.{Armed}
 use Rattle.timers.proofs.TimerLaws.{ticket-most}
 use Rattle.client_record.specs.declared.State.{State}
 use Rattle.client_record.specs.declared.State.the-variants.{Queued, SendFrags, Dispatched as DispatchedState, ReceiveFrags, AckPending, Complete, Fault}
-use Rattle.client_record.specs.States.{isQueued, isWaiting, isAckPending}
-use Rattle.client_record.proofs.RuleLaws.{rules-told, wait-off, ack-off}
-use Rattle.client_record.specs.declared.TimerKind.the-variants.{Wait, Ack}
+use Rattle.client_record.specs.States.{isQueued, isActive, isWaiting, isAckPending}
+use Rattle.client_record.proofs.RuleLaws.{rules-told, wait-off, ack-off, cancel-off}
+use Rattle.client_record.specs.declared.TimerKind.the-variants.{Wait, Ack, Cancel}
 use Rattle.client_record.specs.Arming.{namedTimer}
 use Rattle.client.proofs.Growing.{hands-joined}
 use Rattle.client.proofs.TicketLaws.{old-most as client-most}
@@ -30,7 +30,7 @@ use Rattle.history.specs.Events.{Event}
 use Rattle.history.specs.Steps.{lastStart, run}
 use Rattle.history.specs.Fairness.{Fair}
 use Rattle.history.specs.Freshness.{Fresh}
-use Rattle.history.specs.Claim.{times, AtMostOnce, WholeMessages, replyHandedUp, RepliesToDispatches, LeadsReply, OneReply, WholeReplies, WholeWhereAnswered, OnlyGrows, TimerOf, OnClient, OnServer, timerIn, LateTimers, GoneTickets, namesWait, namesAck, namesResend, Quiet, WholeWhereRunning, clientCalls, serverCalled, Numbered, Claim}
+use Rattle.history.specs.Claim.{times, AtMostOnce, WholeMessages, replyHandedUp, RepliesToDispatches, LeadsReply, OneReply, WholeReplies, WholeWhereAnswered, OnlyGrows, TimerOf, OnClient, OnServer, timerIn, LateTimers, GoneTickets, namesWait, namesAck, namesCancel, namesResend, Quiet, WholeWhereRunning, clientCalls, serverCalled, Numbered, Claim}
 use Rattle.history.proofs.Holding.{unheld-joined, holding-leads}
 use Rattle.history.proofs.Network.{Known}
 use Rattle.history.proofs.Types.{IsAck}
@@ -88,6 +88,7 @@ module _ (w : World) (inv : Inv w) where
   quiet = record {
     wait = λ e. wait-off (w .client .machine) (inv .client .kept) (sym (named-wait (w .client .machine .state)) ∙ e);
     ack = λ e. ack-off (w .client .machine) (inv .client .kept) (sym (named-ack (w .client .machine .state)) ∙ e);
+    cancel = λ e. cancel-off (w .client .machine) (inv .client .kept) (sym (named-cancel (w .client .machine .state)) ∙ e);
     resend = λ e. resend-off (w .server .machine) (inv .server .kept) (sym (named-resend (w .server .machine .state)) ∙ e);
   }
     where
@@ -108,6 +109,15 @@ module _ (w : World) (inv : Inv w) where
       named-ack AckPending = unfold isAckPending in refl
       named-ack Complete = unfold isAckPending in refl
       named-ack Fault = unfold isAckPending in refl
+
+      named-cancel : (s : State) → namesCancel s ≡ isActive s
+      named-cancel Queued = unfold isActive in refl
+      named-cancel SendFrags = unfold isActive in refl
+      named-cancel DispatchedState = unfold isActive in refl
+      named-cancel ReceiveFrags = unfold isActive in refl
+      named-cancel AckPending = unfold isActive in refl
+      named-cancel Complete = unfold isActive in refl
+      named-cancel Fault = unfold isActive in refl
 
       named-resend : (s : ServerState) → namesResend s ≡ isHeld s
       named-resend (Idle idle) = unfold isHeld in refl
@@ -155,6 +165,7 @@ armed-in-most : (w : World) → Inv w → (timer : TimerOf) (ticket : ℕ) → t
 unfolding timerIn namedTimer
 armed-in-most w inv (OnClient Wait) ticket e = client-most (w .client .machine) Wait ticket (inv .client .kept) e
 armed-in-most w inv (OnClient Ack) ticket e = client-most (w .client .machine) Ack ticket (inv .client .kept) e
+armed-in-most w inv (OnClient Cancel) ticket e = client-most (w .client .machine) Cancel ticket (inv .client .kept) e
 armed-in-most w inv OnServer ticket e =
     ticket-most (isHeld (w .server .machine .state)) (w .server .machine .resend) (w .server .machine .tickets) ticket (server-rules-told (w .server .machine) (inv .server .kept) .timer) e
 

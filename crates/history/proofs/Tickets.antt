@@ -10,14 +10,14 @@ use Rattle.reader.specs.Reading.{reading}
 use Rattle.timers.specs.declared.Timer.the-variants.{Armed}
 use Rattle.timers.proofs.TimerLaws.{Moved, stays-moved}
 use Rattle.client_record.specs.declared.Client.{Client}
-use Rattle.client_record.specs.declared.TimerKind.the-variants.{Wait, Ack}
+use Rattle.client_record.specs.declared.TimerKind.the-variants.{Wait, Ack, Cancel}
 use Rattle.client_record.specs.Arming.{namedTimer}
 use Rattle.client_table.specs.Events.{serverEvent, eventOf}
-use Rattle.client.proofs.TicketLaws.{ClientMoved, start-moves, transmit-moves as client-transmit-moves, timer-moves as client-timer-moves, arrive-moves as client-arrive-moves, timer-spends as client-timer-spends, renews, arrive-spends}
+use Rattle.client.proofs.TicketLaws.{ClientMoved, start-moves, transmit-moves as client-transmit-moves, timer-moves as client-timer-moves, cancel-moves, arrive-moves as client-arrive-moves, timer-spends as client-timer-spends, renews, arrive-spends}
 use Rattle.server_record.specs.declared.Server.{Server}
 use Rattle.server.proofs.TicketLaws.{ServerMoved, reply-moves, transmit-moves as server-transmit-moves, fault-moves, timer-moves as server-timer-moves, arrive-moves as server-arrive-moves, timer-spends as server-timer-spends}
 use Rattle.history.specs.World.{Side, World}
-use Rattle.history.specs.Events.{ClientEvent, ServerEvent, Event, Start, ClientTransmit, ClientArrive, ClientTimer, ServerArrive, ServerTransmit, ServerTimer, Reply, Fault, OfClient, OfServer}
+use Rattle.history.specs.Events.{ClientEvent, ServerEvent, Event, Start, ClientTransmit, ClientArrive, ClientTimer, ClientCancel, ServerArrive, ServerTransmit, ServerTimer, Reply, Fault, OfClient, OfServer}
 use Rattle.history.specs.Steps.{bytesLent, clientTurn, serverTurn, happens, answerTo, step, run}
 use Rattle.history.specs.Claim.{TimerOf, OnClient, OnServer, timerIn, timerEvent, ActsOnce, Renews, ArmedAfresh}
 
@@ -32,6 +32,7 @@ client-turn-moves c (Start call n message) = start-moves (c .machine) call n
 client-turn-moves c (ClientTransmit message out) = client-transmit-moves (c .machine) message out
 client-turn-moves c (ClientArrive p lent out) = client-arrive-moves (c .machine) (p .bytes) (bytesLent lent (c .slots)) out
 client-turn-moves c (ClientTimer kind ticket out) = client-timer-moves (c .machine) kind ticket out
+client-turn-moves c (ClientCancel out) = cancel-moves (c .machine) out
 
 -- and the server's.
 server-turn-moves : (s : Side Server) (e : ServerEvent) → ServerMoved (s .machine) (serverTurn s e .machine)
@@ -47,9 +48,12 @@ step-moves : (w : World) (e : Event) (timer : TimerOf)
 unfolding step happens timerIn
 step-moves w (OfClient e) (OnClient Wait) = client-turn-moves (w .client) e .wait
 step-moves w (OfClient e) (OnClient Ack) = client-turn-moves (w .client) e .ack
+step-moves w (OfClient e) (OnClient Cancel) = client-turn-moves (w .client) e .cancel
 step-moves w (OfClient e) OnServer = stays-moved (w .server .machine .resend) (w .server .machine .tickets) (w .server .machine .resend) refl
 step-moves w (OfServer e) (OnClient Wait) = stays-moved (w .client .machine .wait) (w .client .machine .tickets) (w .client .machine .wait) refl
 step-moves w (OfServer e) (OnClient Ack) = stays-moved (w .client .machine .ack) (w .client .machine .tickets) (w .client .machine .ack) refl
+step-moves w (OfServer e) (OnClient Cancel) =
+    stays-moved (w .client .machine .cancel) (w .client .machine .tickets) (w .client .machine .cancel) refl
 step-moves w (OfServer e) OnServer = server-turn-moves (w .server) e .resend
 
 -- The counter never falls over a list,
@@ -81,12 +85,13 @@ pub acts-once : (w : World) → ActsOnce w
 unfolding ActsOnce answerTo happens timerEvent timerIn step namedTimer
 acts-once w (OnClient Wait) ticket out done = client-timer-spends (w .client .machine) Wait ticket out done
 acts-once w (OnClient Ack) ticket out done = client-timer-spends (w .client .machine) Ack ticket out done
+acts-once w (OnClient Cancel) ticket out done = client-timer-spends (w .client .machine) Cancel ticket out done
 acts-once w OnServer ticket out done = server-timer-spends (w .server .machine) ticket out done
 
 -- What arms afresh does not leave WAIT armed with the ticket that it had.
 pub armed-afresh : (w : World) → ArmedAfresh w
-unfolding ArmedAfresh answerTo happens step timerIn namedTimer
-armed-afresh w p lent out done known = arrive-spends (w .client .machine) (p .bytes) (bytesLent lent (w .client .slots)) out done (renewing known) Wait
+unfolding ArmedAfresh answerTo happens step timerIn
+armed-afresh w p lent out done known = arrive-spends (w .client .machine) (p .bytes) (bytesLent lent (w .client .slots)) out done (renewing known)
   where
     renewing : Renews (reading (p .bytes) .header .kind) (w .client .machine .incoming)
         (step w (OfClient (ClientArrive p lent out)) .client .machine .incoming)

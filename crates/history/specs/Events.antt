@@ -12,12 +12,13 @@ pub data Lent : Type 0 where
 
 -- A start has the call, a length and, beside what is handed in, the message that it is for; a transmit the message
 -- lent and the PDU buffer; an arrival the datagram, with the start that it is of, the slot buffer and the PDU
--- buffer; a timer its kind, its ticket and the PDU buffer.
+-- buffer; a timer its kind, its ticket and the PDU buffer; a local cancel the PDU buffer.
 pub data ClientEvent : Type 0 where
   Start : Call → ℕ → List ℕ → ClientEvent
   ClientTransmit : List ℕ → List ℕ → ClientEvent
   ClientArrive : SentPdu → Lent → List ℕ → ClientEvent
   ClientTimer : TimerKind → ℕ → List ℕ → ClientEvent
+  ClientCancel : List ℕ → ClientEvent
 
 -- A reply has a length and the message that it is for; a fault its status and the PDU buffer; the others are as the
 -- client's.

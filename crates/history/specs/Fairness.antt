@@ -7,7 +7,7 @@ use Rattle.answers.specs.declared.Answer.the-variants.{Done}
 use Rattle.calls.specs.declared.Call.{Call}
 use Rattle.history.specs.Lists.{In, OfLast}
 use Rattle.history.specs.World.{Started, Replied, SentPdu, World}
-use Rattle.history.specs.Events.{Lent, Own, ClientEvent, ServerEvent, Event, Start, ClientTransmit, ClientArrive, ClientTimer, ServerArrive, ServerTransmit, ServerTimer, Reply, Fault, OfClient, OfServer}
+use Rattle.history.specs.Events.{Lent, Own, ClientEvent, ServerEvent, Event, Start, ClientTransmit, ClientArrive, ClientTimer, ClientCancel, ServerArrive, ServerTransmit, ServerTimer, Reply, Fault, OfClient, OfServer}
 use Rattle.history.specs.Steps.{step, answerTo}
 
 -- The message is that of the last start, or of the last reply; where there is none yet, any.
@@ -43,6 +43,7 @@ ClientPremise w (Start call n message) = FairStart call n message
 ClientPremise w (ClientTransmit message out) = OfLastStart (w .books .starts) message
 ClientPremise w (ClientArrive p lent out) = FairArrival (w .server .sent) p lent
 ClientPremise w (ClientTimer kind ticket out) = Unit {0}
+ClientPremise w (ClientCancel out) = Unit {0}
 
 abbrev pub ServerPremise : World → ServerEvent → Type 0
 ServerPremise w (ServerArrive p lent out) = FairArrival (w .client .sent) p lent

@@ -10,7 +10,7 @@ use Rattle.answers.specs.declared.Answer.{Answer}
 use Rattle.answers.specs.Number.{numberOf}
 use Rattle.calls.specs.declared.Call.{Call}
 use Rattle.calls.specs.declared.Notice.{Notice}
-use Rattle.calls.specs.declared.Notice.the-variants.{Nothing as Untold, Last, Count, Fault as FaultNotice, Reject, Cause, Dispatch}
+use Rattle.calls.specs.declared.Notice.the-variants.{Nothing as Untold, Last, Count, Fault as FaultNotice, Reject, Cause, Dispatch, Cancel}
 use Rattle.calls.specs.declared.Sent.{Sent}
 use Rattle.calls.specs.declared.Sent.the-variants.{Nothing, Pdu}
 use Rattle.reader.specs.Reading.{reading}
@@ -19,14 +19,14 @@ use Rattle.client.specs.declared.Outcome.{Outcome as ClientOutcome}
 use Rattle.client.specs.HandUp.{handsUp as clientHandsUp}
 use Rattle.calls.specs.Sent.{sentBytes}
 use Rattle.calls.specs.Events.{Step, Arrival}
-use Rattle.client.specs.Machine.{starting, transmitting as clientTransmitting, timing as clientTiming, arriving as clientArriving}
+use Rattle.client.specs.Machine.{starting, transmitting as clientTransmitting, timing as clientTiming, cancelling, arriving as clientArriving}
 use Rattle.server_record.specs.declared.Server.{Server}
 use Rattle.server.specs.declared.Outcome.{Outcome as ServerOutcome}
 use Rattle.server.specs.HandUp.{handsUp as serverHandsUp}
 use Rattle.server.specs.Machine.{replying, transmitting as serverTransmitting, timing as serverTiming, faulting, arriving as serverArriving}
 use Rattle.history.specs.Lists.{andThen}
-use Rattle.history.specs.World.{Started, Dispatched, Replied, Completed, SentPdu, Side, Books, World}
-use Rattle.history.specs.Events.{Lent, Own, Other, ClientEvent, ServerEvent, Event, Start, ClientTransmit, ClientArrive, ClientTimer, ServerArrive, ServerTransmit, ServerTimer, Reply, Fault, OfClient, OfServer}
+use Rattle.history.specs.World.{Started, Dispatched, Replied, Completed, Cancelled, Heard, SentPdu, Side, Books, World}
+use Rattle.history.specs.Events.{Lent, Own, Other, ClientEvent, ServerEvent, Event, Start, ClientTransmit, ClientArrive, ClientTimer, ClientCancel, ServerArrive, ServerTransmit, ServerTimer, Reply, Fault, OfClient, OfServer}
 
 -- The answer is 0.
 abbrev pub isDone : Answer → Bool
@@ -65,6 +65,7 @@ dispatchesAfter before (FaultNotice status) d = before
 dispatchesAfter before (Reject status) d = before
 dispatchesAfter before (Cause cause) d = before
 dispatchesAfter before Dispatch d = andThen before d
+dispatchesAfter before Cancel d = before
 
 -- The completions: the notice "last" is one.
 unfoldable pub completionsAfter : List Completed → Notice → Completed → List Completed
@@ -75,6 +76,18 @@ completionsAfter before (FaultNotice status) c = before
 completionsAfter before (Reject status) c = before
 completionsAfter before (Cause cause) c = before
 completionsAfter before Dispatch c = before
+completionsAfter before Cancel c = before
+
+-- The cancels told: the notice "cancel" is one.
+unfoldable pub heardAfter : List Heard → Notice → Heard → List Heard
+heardAfter before Untold h = before
+heardAfter before Last h = before
+heardAfter before (Count count) h = before
+heardAfter before (FaultNotice status) h = before
+heardAfter before (Reject status) h = before
+heardAfter before (Cause cause) h = before
+heardAfter before Dispatch h = before
+heardAfter before Cancel h = andThen before h
 
 -- The start last dispatched; a reply before any dispatch would be on the books for 0, which the claim rules out.
 abbrev pub lastDispatched : List Dispatched → ℕ
@@ -109,6 +122,7 @@ clientTurn c (ClientTransmit message out) = clientStepped c (clientTransmitting 
 clientTurn c (ClientArrive p lent out) =
     clientArrived c lent (clientArriving (c .machine) (p .bytes) (bytesLent lent (c .slots)) out)
 clientTurn c (ClientTimer kind ticket out) = clientStepped c (clientTiming (c .machine) kind ticket out)
+clientTurn c (ClientCancel out) = clientStepped c (cancelling (c .machine) out)
 
 -- The server's.
 abbrev pub serverTurnOf : ServerOutcome → List ℕ → List ℕ → Turn Server
@@ -147,6 +161,20 @@ startsAfter before (Start call n message) t = startedAfter before t call message
 startsAfter before (ClientTransmit message out) t = before
 startsAfter before (ClientArrive p lent out) t = before
 startsAfter before (ClientTimer kind ticket out) t = before
+startsAfter before (ClientCancel out) t = before
+
+-- A local cancel goes on the books, where it is answered 0: it is of the last start, and has the number that the client
+-- then has.
+abbrev pub cancelledAfter : List Cancelled → Turn Client → ℕ → List Cancelled
+cancelledAfter before t ordinal =
+    choose (isDone (t .answer)) (andThen before (record { ordinal = ordinal; number = t .machine .cancels })) before
+
+abbrev pub cancelsAfter : List Cancelled → ClientEvent → Turn Client → ℕ → List Cancelled
+cancelsAfter before (Start call n message) t ordinal = before
+cancelsAfter before (ClientTransmit message out) t ordinal = before
+cancelsAfter before (ClientArrive p lent out) t ordinal = before
+cancelsAfter before (ClientTimer kind ticket out) t ordinal = before
+cancelsAfter before (ClientCancel out) t ordinal = cancelledAfter before t ordinal
 
 -- A reply goes on the books, where it is answered 0: it is given to the start last dispatched.
 abbrev pub repliedAfter : List Replied → Turn Server → ℕ → List ℕ → List Replied
@@ -192,10 +220,14 @@ abbrev pub dispatchEntry : Subject → Server → List ℕ → Dispatched
 dispatchEntry of s slots =
     record { ordinal = of .ordinal; number = of .number; call = s .call; bytes = serverHandsUp s slots }
 
--- The world after a turn of the client, with the starts then: what it sends and what it tells complete is of the
--- last start.
-abbrev pub clientWorld : World → Turn Client → List Started → World
-clientWorld w t starts = record {
+-- What is on the books of a cancel that the stub is told.
+abbrev pub heardEntry : List Dispatched → Subject → Server → Heard
+heardEntry dispatches of s = record { run = length dispatches; ordinal = of .ordinal; number = s .seen }
+
+-- The world after a turn of the client, with the starts and the local cancels then: what it sends and what it tells
+-- complete is of the last start.
+abbrev pub clientWorld : World → Turn Client → List Started → List Cancelled → World
+clientWorld w t starts cancels = record {
   client = sideAfter (w .client) t (lastStart starts);
   server = w .server;
   books =
@@ -204,6 +236,8 @@ clientWorld w t starts = record {
         dispatches = w .books .dispatches;
         replies = w .books .replies;
         completions = completionsAfter (w .books .completions) (t .notice) (completionEntry starts (t .machine) (t .slots));
+        cancels = cancels;
+        heard = w .books .heard;
         standing = w .books .standing;
       };
 }
@@ -219,6 +253,8 @@ serverWorld w t of replies = record {
         dispatches = dispatchesAfter (w .books .dispatches) (t .notice) (dispatchEntry of (t .machine) (t .slots));
         replies = replies;
         completions = w .books .completions;
+        cancels = w .books .cancels;
+        heard = heardAfter (w .books .heard) (t .notice) (heardEntry (w .books .dispatches) of (t .machine));
         standing = of .standing;
       };
 }
@@ -236,7 +272,8 @@ gives t world = record { answer = t .answer; notice = t .notice; out = t .out; w
 unfoldable pub happens : World → Event → Happened
 happens w (OfClient e) =
     gives (clientTurn (w .client) e)
-    (clientWorld w (clientTurn (w .client) e) (startsAfter (w .books .starts) e (clientTurn (w .client) e)))
+    (clientWorld w (clientTurn (w .client) e) (startsAfter (w .books .starts) e (clientTurn (w .client) e))
+    (cancelsAfter (w .books .cancels) e (clientTurn (w .client) e) (lastStart (w .books .starts))))
 happens w (OfServer e) =
     gives (serverTurn (w .server) e)
     (serverWorld w (serverTurn (w .server) e) (subjectOf w e (serverTurn (w .server) e .answer))
