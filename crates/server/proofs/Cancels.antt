@@ -65,20 +65,7 @@ pub record SameButSeen (s t : Server) : Type 0 where
   pub tickets : t .tickets ≡ s .tickets
   pub resend : t .resend ≡ s .resend
 
-unchanged : (s : Server) → SameButSeen s s
-unchanged s = record {
-  state = refl;
-  activity = refl;
-  boot = refl;
-  number = refl;
-  call = refl;
-  outgoing = refl;
-  incoming = refl;
-  resends = refl;
-  tickets = refl;
-  resend = refl;
-}
-
+-- So it is where a cancel is remembered, and where nothing changed.
 remembering : (s : Server) (n : ℕ) → SameButSeen s (withSeen s n)
 unfolding withSeen
 remembering s n = record {
@@ -93,6 +80,10 @@ remembering s n = record {
   tickets = refl;
   resend = refl;
 }
+
+unchanged : (s : Server) → SameButSeen s s
+unfolding withSeen
+unchanged s = remembering s (s .seen)
 
 -- As a cancel_ack a PDU tells its reader what became of the cancel with header h: its number, and whether the server
 -- accepts cancels.
