@@ -2,9 +2,10 @@
 use Prim.Native.Nat.{ℕ, _<_}
 use mathlib.Core.Bool.{Bool, true, false}
 use mathlib.Core.Logic.{_⊎_, inl, inr}
-use mathlib.Core.Path.{_≡_, refl, subst}
+use mathlib.Core.Path.{_≡_, refl, ap, subst, _∙_}
+use native.Mathlib.Omega.{arith}
 use lib.Dec.{ltb, eqb}
-use borrow.Author.Tests.{ltb-true, eqb-true}
+use borrow.Author.Tests.{ltb-true, eqb-true, lt-ltb, le-ltb, eq-eqb, ne-eqb}
 use Rattle.words.specs.Choice.{choose, either}
 use Rattle.server_record.specs.declared.Idle.the-variants.{Fresh, Spent, Repeatable}
 use Rattle.server_record.specs.declared.State.{State}
@@ -52,6 +53,32 @@ module _ (fresh : Bool) (mine theirs : ℕ) where
   pub equal-told : orderOf fresh mine theirs ≡ Equal → (fresh ≡ false) × (mine ≡ theirs)
   unfolding OrderTells
   equal-told e = subst (OrderTells fresh mine theirs) e order-tells
+
+  -- So the order is told by the numbers: newer,
+  pub newer-ordered : (fresh ≡ true) ⊎ (mine < theirs) → orderOf fresh mine theirs ≡ Newer
+  unfolding orderOf orderBy either choose
+  newer-ordered (inl e) = ap (λ (t : Bool). orderBy (choose t true (ltb mine theirs)) mine theirs) e
+  newer-ordered (inr above) = by-fresh fresh
+    where
+      by-fresh : (t : Bool) → orderBy (choose t true (ltb mine theirs)) mine theirs ≡ Newer
+      by-fresh true = refl
+      by-fresh false = ap (λ (t : Bool). orderBy t mine theirs) (lt-ltb mine theirs above)
+
+  -- equal,
+  pub equal-ordered : fresh ≡ false → mine ≡ theirs → orderOf fresh mine theirs ≡ Equal
+  unfolding orderOf orderBy either choose
+  equal-ordered e same =
+      ap (λ (t : Bool). orderBy (choose t true (ltb mine theirs)) mine theirs) e
+      ∙ ap (λ (t : Bool). orderBy t mine theirs) (le-ltb mine theirs (omega arith))
+      ∙ ap (λ (t : Bool). choose t Equal Below) (eq-eqb mine theirs same)
+
+  -- or below.
+  pub below-ordered : fresh ≡ false → theirs < mine → orderOf fresh mine theirs ≡ Below
+  unfolding orderOf orderBy either choose
+  below-ordered e under =
+      ap (λ (t : Bool). orderBy (choose t true (ltb mine theirs)) mine theirs) e
+      ∙ ap (λ (t : Bool). orderBy t mine theirs) (le-ltb mine theirs (omega arith))
+      ∙ ap (λ (t : Bool). choose t Equal Below) (ne-eqb mine theirs (λ same. omega arith))
 
 -- What a row tells of the event, the order of the numbers, the state, the PDU's bit and the call's mark.
 RowTells : Event → Order → State → Bool → Bool → Row → Type 0
