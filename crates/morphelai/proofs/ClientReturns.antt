@@ -13,15 +13,15 @@ use Rattle.calls.specs.declared.Call.{Call}
 use Rattle.calls.specs.Events.{Stepped, Arrived}
 use Rattle.record_bytes.specs.Parts.{uuidIn}
 use Rattle.client_record.specs.declared.Client.{Client}
-use Rattle.client_record.specs.declared.TimerKind.the-variants.{Wait, Ack}
+use Rattle.client_record.specs.declared.TimerKind.the-variants.{Wait, Ack, Cancel}
 use Rattle.client_record.specs.declared.TimerKind.{TimerKind}
 use Rattle.client_record.specs.Record.{fresh}
 use Rattle.client_record.specs.Rules.{sound}
 use Rattle.client.specs.declared.Outcome.{Outcome}
-use Rattle.client.specs.Machine.{starting, transmitting, timing, arriving, handedUpOf}
+use Rattle.client.specs.Machine.{starting, transmitting, timing, cancelling, arriving, handedUpOf}
 use Rattle.client_bytes.specs.Layout.{clientIn, clientBytes}
 use Rattle.morphelai.specs.Export.{Exported, sized, otherTimer, otherKind}
-use Rattle.morphelai.specs.ClientDoor.{clientResult, clientKept, clientStepped, clientFresh, callOf, startSized, clientStart, clientTransmit, clientArrive, clientTiming, clientTimer, clientPart}
+use Rattle.morphelai.specs.ClientDoor.{clientResult, clientKept, clientStepped, clientFresh, callOf, startSized, clientStart, clientTransmit, clientArrive, clientTiming, clientTimer, clientCancel, clientPart}
 use Rattle.morphelai.proofs.Returns.{sized-so, sized-not, here, behind, refused, given-here, stepped-here, arrived-here}
 
 -- fresh
@@ -78,6 +78,14 @@ module _ (bytes : List ℕ) (h : length bytes ≡ 272) (c : Client) (e : c ≡ c
       here _ _ _ _ _ _ _ (sized-so bytes h)
       (arrived-here clientResult clientKept bytes after r o k p c (clientIn bytes) e (λ (d : Client). arriving d datagram slots out) stored left a)
 
+  -- cancel
+  pub cancel-left : (out : List ℕ) (o : Outcome) (after left : List ℕ) (r : ℕ) → Stepped (cancelling c out) o left
+      → after ≡ clientKept o bytes → r ≡ clientResult o → Exported (clientCancel bytes out) r after [] left
+  unfolding clientCancel
+  cancel-left out o after left r s k p =
+      here _ _ _ _ _ _ _ (sized-so bytes h)
+      (stepped-here clientResult clientKept bytes after r o k p c (clientIn bytes) e (λ (d : Client). cancelling d out) left s)
+
   -- timer, by its kind
   module _ (kind ticket : ℕ) (out after left : List ℕ) (r : ℕ) where
     timer-by : Exported (clientTiming c kind ticket bytes out) r after [] left → Exported (clientTimer bytes kind ticket out) r after [] left
@@ -96,14 +104,24 @@ module _ (bytes : List ℕ) (h : length bytes ≡ 272) (c : Client) (e : c ≡ c
     unfolding clientTiming
     ack-left j k x = timer-by (behind _ _ _ _ _ _ _ (ne-eqb kind 1 j) (here _ _ _ _ _ _ _ (eq-eqb kind 2 k) x))
 
-  pub other-left : (kind ticket : ℕ) (out : List ℕ) (kept : Bool) (r : ℕ) → (kind ≡ 1 → ⊥) → (kind ≡ 2 → ⊥)
+    pub cancel-timer-left : (kind ≡ 1 → ⊥) → (kind ≡ 2 → ⊥) → kind ≡ 4
+        → Exported (clientStepped (timing c Cancel ticket out) bytes) r after [] left
+        → Exported (clientTimer bytes kind ticket out) r after [] left
+    unfolding clientTiming
+    cancel-timer-left j k l x =
+        timer-by
+        (behind _ _ _ _ _ _ _ (ne-eqb kind 1 j)
+        (behind _ _ _ _ _ _ _ (ne-eqb kind 2 k) (here _ _ _ _ _ _ _ (eq-eqb kind 4 l) x)))
+
+  pub other-left : (kind ticket : ℕ) (out : List ℕ) (kept : Bool) (r : ℕ) → (kind ≡ 1 → ⊥) → (kind ≡ 2 → ⊥) → (kind ≡ 4 → ⊥)
       → kept ≡ sound c → r ≡ otherTimer kept (length out) → Exported (clientTimer bytes kind ticket out) r bytes [] out
   unfolding clientTiming otherKind
-  other-left kind ticket out kept r j k s p =
+  other-left kind ticket out kept r j k l s p =
       timer-by kind ticket out bytes out r
       (behind _ _ _ _ _ _ _ (ne-eqb kind 1 j)
       (behind _ _ _ _ _ _ _ (ne-eqb kind 2 k)
-      (record { result = p ∙ ap (λ (x : Bool). otherTimer x (length out)) s; kept = refl; stored = refl; buffer = refl })))
+      (behind _ _ _ _ _ _ _ (ne-eqb kind 4 l)
+      (record { result = p ∙ ap (λ (x : Bool). otherTimer x (length out)) s; kept = refl; stored = refl; buffer = refl }))))
 
   -- part
   pub part-length : (f : ℕ) (slots part : List ℕ) → part ≡ handedUpOf c f slots → length part ≡ clientPart bytes f slots

@@ -10,12 +10,12 @@ use Rattle.words.specs.Place.{placed}
 use Rattle.calls.specs.declared.Call.{Call}
 use Rattle.calls.specs.Events.{Step, Arrival}
 use Rattle.record_bytes.specs.Parts.{uuidIn}
-use Rattle.client_record.specs.declared.TimerKind.the-variants.{Wait, Ack}
+use Rattle.client_record.specs.declared.TimerKind.the-variants.{Wait, Ack, Cancel}
 use Rattle.client_record.specs.declared.Client.{Client}
 use Rattle.client_record.specs.Record.{fresh}
 use Rattle.client_record.specs.Rules.{sound}
 use Rattle.client.specs.declared.Outcome.{Outcome}
-use Rattle.client.specs.Machine.{starting, transmitting, timing, arriving, handedUpOf}
+use Rattle.client.specs.Machine.{starting, transmitting, timing, cancelling, arriving, handedUpOf}
 use Rattle.client_bytes.specs.Layout.{clientIn, clientBytes}
 use Rattle.morphelai.specs.Result.{resultOf}
 use Rattle.morphelai.specs.Export.{Export, sized, refusing, keptBytes, otherKind}
@@ -82,17 +82,23 @@ unfoldable pub clientArrive : List ℕ → List ℕ → List ℕ → List ℕ �
 clientArrive bytes datagram slots out =
     choose (sized bytes) (clientArrived (arriving (clientIn bytes) datagram slots out) bytes) (refusing bytes slots out)
 
--- A timer by its kind: 1 is WAIT, 2 is ACK.
+-- A timer by its kind: 1 is WAIT, 2 is ACK, 4 is CANCEL.
 unfoldable pub clientTiming : Client → ℕ → ℕ → List ℕ → List ℕ → Export
 clientTiming c kind ticket bytes out =
     choose (eqb kind 1) (clientStepped (timing c Wait ticket out) bytes)
     (choose (eqb kind 2) (clientStepped (timing c Ack ticket out) bytes)
-    (otherKind (sound c) bytes [] out))
+    (choose (eqb kind 4) (clientStepped (timing c Cancel ticket out) bytes)
+    (otherKind (sound c) bytes [] out)))
 
 -- morphelai_client_timer.
 unfoldable pub clientTimer : List ℕ → ℕ → ℕ → List ℕ → Export
 clientTimer bytes kind ticket out =
     choose (sized bytes) (clientTiming (clientIn bytes) kind ticket bytes out) (refusing bytes [] out)
+
+-- morphelai_client_cancel.
+unfoldable pub clientCancel : List ℕ → List ℕ → Export
+clientCancel bytes out =
+    choose (sized bytes) (clientStepped (cancelling (clientIn bytes) out) bytes) (refusing bytes [] out)
 
 -- morphelai_client_part: how many bytes are handed up of that fragment.
 unfoldable pub clientPart : List ℕ → ℕ → List ℕ → ℕ

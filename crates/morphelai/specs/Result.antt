@@ -4,7 +4,7 @@ use Prim.Native.Nat.{ℕ, _+_, _*_, _%_}
 use Rattle.answers.specs.declared.Answer.{Answer}
 use Rattle.answers.specs.Number.{numberOf}
 use Rattle.calls.specs.declared.Notice.{Notice}
-use Rattle.calls.specs.declared.Notice.the-variants.{Nothing as Untold, Last, Count, Fault, Reject, Cause, Dispatch}
+use Rattle.calls.specs.declared.Notice.the-variants.{Nothing as Untold, Last, Count, Fault, Reject, Cause, Dispatch, Cancel}
 use Rattle.calls.specs.declared.Sent.{Sent}
 use Rattle.calls.specs.declared.Sent.the-variants.{Nothing, Pdu}
 
@@ -17,6 +17,7 @@ noticeKind (Fault status) = 3
 noticeKind (Reject status) = 4
 noticeKind (Cause cause) = 5
 noticeKind Dispatch = 6
+noticeKind Cancel = 7
 
 -- and its value.
 abbrev pub noticeValue : Notice → ℕ
@@ -27,6 +28,7 @@ noticeValue (Fault status) = status
 noticeValue (Reject status) = status
 noticeValue (Cause cause) = cause
 noticeValue Dispatch = 0
+noticeValue Cancel = 0
 
 -- How many bytes were sent, in 16 bits: no PDU has more than 1,472.
 abbrev pub sentLength : Sent → ℕ

@@ -7,7 +7,7 @@ ghost use mathlib.Core.Path.{_≡_};
 ghost use mathlib.Core.List.{[]};
 ghost use Rattle.client.specs.Machine.{timing};
 ghost use Rattle.morphelai.specs.Export.{Exported};
-ghost use Rattle.morphelai.specs.ClientDoor.{clientResult, clientKept, clientStepped, clientFresh, callOf, startSized, clientStart, clientTransmit, clientArrive, clientTimer, clientPart};
+ghost use Rattle.morphelai.specs.ClientDoor.{clientResult, clientKept, clientStepped, clientFresh, callOf, startSized, clientStart, clientTransmit, clientArrive, clientTimer, clientCancel, clientPart};
 
 // What an event gives back.
 fn given(o: Outcome) -> u64
@@ -149,7 +149,7 @@ fn run_out(c: Client, kind: TimerKind, ticket: u64, bytes: &mut [u8], out: &mut 
     given(o)
 }
 
-// A timer of this kind that ran out, with its ticket: 1 is WAIT, 2 is ACK.
+// A timer of this kind that ran out, with its ticket: 1 is WAIT, 2 is ACK, 4 is CANCEL.
 #[no_mangle]
 pub extern "C" fn morphelai_client_timer(
     bytes: &mut [u8],
@@ -172,7 +172,26 @@ pub extern "C" fn morphelai_client_timer(
     if kind == 2 {
         return run_out(c, TimerKind::Ack, ticket, bytes, out);
     }
+    if kind == 4 {
+        return run_out(c, TimerKind::Cancel, ticket, bytes, out);
+    }
     crate::result::other_timer(client_record::is_sound(c), out.len())
+}
+
+// Local cancel: the console gives the call up.
+#[no_mangle]
+pub extern "C" fn morphelai_client_cancel(bytes: &mut [u8], out: &mut [u8]) -> u64
+    ensures { λ r. ⌜
+        Exported (clientCancel (now (bytes .entry)) (now (out .entry)))
+        r (now (bytes .exit)) [] (now (out .exit))
+        ⌝ }
+{
+    if bytes.len() != record_bytes::SIZE {
+        return 1;
+    }
+    let o = client::cancel(client_bytes::decode(bytes), out);
+    keep(o, bytes);
+    given(o)
 }
 
 // How long the part of the slot buffer is that is fragment f of what was received.

@@ -18,6 +18,7 @@ fn notice_kind(notice: Notice) -> u8
         Notice::Reject(_) => 4,
         Notice::Cause(_) => 5,
         Notice::Dispatch => 6,
+        Notice::Cancel => 7,
     }
 }
 
@@ -32,6 +33,7 @@ fn notice_value(notice: Notice) -> u32
         Notice::Reject(status) => status,
         Notice::Cause(cause) => cause as u32,
         Notice::Dispatch => 0,
+        Notice::Cancel => 0,
     }
 }
 
