@@ -91,7 +91,7 @@ const CASES: [(&[Telling], Wrong, &str); 16] = [
     (
         &SENT,
         gives_another_notice,
-        "the server gives another notice than a dispatch",
+        "the server gives another notice than a dispatch or a cancel",
     ),
     (&SENT, takes_a_late_timer, "a late timer is taken"),
     (&FACKED, changes_a_ticket, "a side has other tickets armed"),

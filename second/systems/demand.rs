@@ -1,7 +1,7 @@
 //! Demand 3, a single claim over a list of events, checked event by event with books of its own.
 //!
-//! The books know what was started, dispatched and replied, the bytes that both slot buffers must
-//! hold, and the tickets that are armed. They take from the machines only what these give out: the
+//! The books know what was started, cancelled, dispatched and replied, the bytes that both slot
+//! buffers must hold, and the tickets that are armed. They take from the machines only what these give out: the
 //! answer, the PDU, the notice, the record and what is handed up.
 
 use crate::bench::bench::Bench;
@@ -9,10 +9,12 @@ use crate::bench::memory::PDU_FILL;
 use crate::bench::post::Benched;
 use crate::machines::effect::{Effect, Notice};
 use crate::machines::event::Event;
-use crate::records::client::{Client, ClientSide, State as ClientState};
+use crate::records::client::{Client, ClientEvent, ClientSide, State as ClientState, TimerKind};
 use crate::records::incoming::SLOT_BUFFER_LENGTH;
-use crate::records::server::{Answer, Server, ServerSide, State as ServerState};
-use crate::systems::demand_side::{check, number_of, Broken, Demanded, SideBook, Step};
+use crate::records::server::{Answer, Resend, Server, ServerSide, State as ServerState};
+use crate::systems::demand_side::{
+    cancel_number_of, check, number_of, Broken, Demanded, SideBook, Step,
+};
 
 /// A call that was started.
 struct Book {
@@ -20,6 +22,8 @@ struct Book {
     message: Vec<u8>,
     dispatches: u32,
     replies: Vec<Vec<u8>>,
+    /// How often the client has cancelled it.
+    cancels: usize,
 }
 
 /// The books of one run.
@@ -27,6 +31,8 @@ pub struct Demand {
     /// By call number.
     calls: Vec<Book>,
     last_dispatched: Option<usize>,
+    /// The number of the last cancel that the server noticed since then, 0 where there is none.
+    last_noticed: usize,
     /// What the client handed up after its last event.
     handed_up: Vec<u8>,
     client: SideBook<ClientSide>,
@@ -39,6 +45,7 @@ impl Demand {
         Demand {
             calls: Vec::new(),
             last_dispatched: None,
+            last_noticed: 0,
             handed_up: Vec::new(),
             client: SideBook::new(),
             server: SideBook::new(),
@@ -75,9 +82,46 @@ impl Demand {
             message: message.to_vec(),
             dispatches: 0,
             replies: Vec::new(),
+            cancels: 0,
         });
         self.handed_up.clear();
         Ok(())
+    }
+
+    /// The client is active, and stays as it is but for its cancels.
+    fn cancelled(&mut self, before: &Client, after: &Client) -> Result<(), Broken> {
+        let is_active = before.state.is_active() && after.state == before.state;
+        check(is_active, "a local cancel of a call that is not active")?;
+        let call = self.calls.get_mut(after.number as usize);
+        let call = call.ok_or("a local cancel before any start")?;
+        call.cancels += 1;
+        check(
+            after.own.cancel_number as usize == call.cancels,
+            "a local cancel has another number",
+        )
+    }
+
+    /// Only the call that runs notices a cancel, each with a higher number than the one before, and
+    /// only those that its client has sent.
+    fn cancel_noticed(&mut self, datagram: &[u8], step: &Step<ServerSide>) -> Result<(), Broken> {
+        let after = step.bench.record::<ServerSide>();
+        let runs = [step.before.state, after.state] == [ServerState::Running; 2];
+        let call_number = number_of(datagram);
+        let is_last = self.last_dispatched == Some(call_number);
+        check(
+            runs && is_last,
+            "a cancel is noticed of a call that does not run",
+        )?;
+        let number = cancel_number_of(datagram);
+        check(
+            number > self.last_noticed,
+            "a cancel is noticed that is not above the last",
+        )?;
+        self.last_noticed = number;
+        check(
+            number <= self.calls[call_number].cancels,
+            "a cancel is noticed that was not sent",
+        )
     }
 
     /// Empty or a leading part of one reply given to the client's number, and it only grows. At
@@ -121,6 +165,7 @@ impl Demand {
             .ok_or("a dispatch of a call that was not started")?;
         call.dispatches += 1;
         self.last_dispatched = Some(number);
+        self.last_noticed = 0;
         check(
             call.idempotent || call.dispatches == 1,
             "a call that is not idempotent is dispatched twice",
@@ -145,14 +190,32 @@ impl Demanded for ClientSide {
         matches!(state, ClientState::Complete | ClientState::Fault)
     }
 
+    /// The local cancel arms CANCEL, and no other event does.
+    fn is_armed_in(event: &Event<ClientSide>, kind: TimerKind) -> bool {
+        let is_cancel = matches!(event, Event::Own(ClientEvent::Cancel));
+        is_cancel == (kind == TimerKind::Cancel)
+    }
+
+    /// Within a call only a cancel_ack disarms CANCEL.
+    fn is_disarmed_in(event: &Event<ClientSide>, kind: TimerKind) -> bool {
+        match event {
+            Event::Arrive { datagram } => kind == TimerKind::Cancel && is_of_type(10, datagram),
+            _ => false,
+        }
+    }
+
     fn check_own(
         books: &mut Demand,
         step: &Step<ClientSide>,
         effect: &Effect,
     ) -> Result<(), Broken> {
-        if let Event::Own(start) = step.event {
-            let number = step.bench.record::<ClientSide>().number;
-            books.started(number, start.call.idempotent, step.message)?;
+        let after = step.bench.record::<ClientSide>();
+        match step.event {
+            Event::Own(ClientEvent::Start(start)) => {
+                books.started(after.number, start.call.idempotent, step.message)?;
+            }
+            Event::Own(ClientEvent::Cancel) => books.cancelled(step.before, after)?,
+            _ => {}
         }
         books.client_hands_up(effect.notice, step.bench)
     }
@@ -165,13 +228,21 @@ impl Demanded for ServerSide {
 
     /// Of the rows that take a request only those that put lead to COLLECT or dispatch.
     fn is_put(datagram: &[u8], after: &Server, effect: &Effect) -> bool {
-        let is_request = datagram[1] == 0;
+        let is_request = is_of_type(0, datagram);
         let leads_on = after.state == ServerState::Collect || effect.notice.is_some();
         is_request && leads_on
     }
 
     fn is_over(state: ServerState) -> bool {
         state.is_idle()
+    }
+
+    fn is_armed_in(_: &Event<ServerSide>, _: Resend) -> bool {
+        true
+    }
+
+    fn is_disarmed_in(_: &Event<ServerSide>, _: Resend) -> bool {
+        false
     }
 
     fn check_own(
@@ -186,10 +257,18 @@ impl Demanded for ServerSide {
             (Event::Arrive { datagram }, Some(Notice::Dispatch)) => {
                 books.dispatched(number_of(datagram), step.bench)
             }
+            (Event::Arrive { datagram }, Some(Notice::Cancel)) if is_of_type(8, datagram) => {
+                books.cancel_noticed(datagram, step)
+            }
             (_, None) => Ok(()),
-            _ => Err("the server gives another notice than a dispatch".into()),
+            _ => Err("the server gives another notice than a dispatch or a cancel".into()),
         }
     }
+}
+
+/// Whether a datagram that was taken has the type.
+fn is_of_type(pdu_type: u8, datagram: &[u8]) -> bool {
+    datagram[1] == pdu_type
 }
 
 /// What a side hands up: the parts of all fragments, joined in order.

@@ -7,4 +7,5 @@ pub mod network;
 pub mod run;
 pub mod step;
 pub mod stories;
+pub mod stories_of_cancels;
 pub mod stories_of_facks;

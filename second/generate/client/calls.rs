@@ -31,9 +31,17 @@ enum Kind {
     Failed {
         pdu_type: u8,
     },
+    /// So many cancels, of which none is acknowledged in time.
+    Cancelled {
+        cancels: u32,
+    },
+    /// The same, and the last one is.
+    Heard {
+        cancels: u32,
+    },
 }
 
-const CALLS: [Kind; 16] = [
+const CALLS: [Kind; 19] = [
     Kind::Answered {
         length: 5,
         reply: 1,
@@ -84,6 +92,9 @@ const CALLS: [Kind; 16] = [
         acknowledged: 2,
     },
     Kind::Early { length: 44_544 },
+    Kind::Cancelled { cancels: 1 },
+    Kind::Heard { cancels: 2 },
+    Kind::Cancelled { cancels: 3 },
 ];
 
 pub fn whole_call(turn: usize, author: &mut Author) {
@@ -119,6 +130,19 @@ pub fn whole_call(turn: usize, author: &mut Author) {
             receive_first(1, 3, author);
             author.arrive_of_type(pdu_type);
             author.hand_up(0);
+        }
+        Kind::Cancelled { cancels } => {
+            cancelled_call(cancels, author);
+            author.timer(TimerKind::Cancel);
+            author.timer(TimerKind::Wait);
+        }
+        Kind::Heard { cancels } => {
+            cancelled_call(cancels, author);
+            arrive_cancel_ack(cancels, author);
+            author.timer(TimerKind::Cancel);
+            author.cancel();
+            receive(2, author);
+            finish(2, author);
         }
     }
     author.start(3);
@@ -178,6 +202,21 @@ fn ping_to_the_limit(author: &mut Author) {
     for _ in 0..=RETRY_LIMIT {
         author.timer(TimerKind::Wait);
     }
+}
+
+/// So many cancels while the request is sent, with the cancel_acks of all but the last.
+fn cancelled_call(cancels: u32, author: &mut Author) {
+    author.start(2_000);
+    for number in 1..=cancels {
+        author.cancel();
+        author.transmit();
+        arrive_cancel_ack(number - 1, author);
+    }
+    author.late_timer(TimerKind::Cancel);
+}
+
+fn arrive_cancel_ack(number: u32, author: &mut Author) {
+    author.arrive(|client, random| Arriving::cancel_ack_of(number, client, random));
 }
 
 fn unknown_call(length: u32, acknowledged: u16, author: &mut Author) {
