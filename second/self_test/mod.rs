@@ -2,11 +2,15 @@
 
 pub mod all;
 pub mod begun_again;
+pub mod cancel_bodies;
+pub mod cancel_door;
+pub mod cancels;
 pub mod checked;
 pub mod client;
 pub mod client_stage;
 pub mod compared;
 pub mod demand;
+pub mod demand_of_cancels;
 pub mod fack_details;
 pub mod facks;
 pub mod layout;
@@ -17,8 +21,11 @@ pub mod receiver;
 pub mod rows;
 pub mod server;
 pub mod server_calls;
+pub mod server_cancels;
 pub mod server_stage;
 pub mod side;
 pub mod spoiled;
 pub mod stage;
 pub mod told;
+pub mod wrong;
+pub mod wrong_cancels;

@@ -98,7 +98,9 @@ impl Demand {
         check(
             after.own.cancel_number as usize == call.cancels,
             "a local cancel has another number",
-        )
+        )?;
+        let is_armed_again = before.own.cancel.is_some() && before.tickets != after.tickets;
+        check(!is_armed_again, "a local cancel arms a timer that is armed")
     }
 
     /// Only the call that runs notices a cancel, each with a higher number than the one before, and

@@ -76,19 +76,20 @@ pub const NOTICED_AGAIN: [Telling; 20] = [
     ToServer(3),
 ];
 
-/// The server heeds a cancel and answers with a fault, which is lost at first. A cancel that comes
-/// then is still answered.
-pub const HEEDED: [Telling; 11] = [
+/// The server hears a cancel twice and heeds it: it answers with a fault, which is late. A cancel
+/// that comes meanwhile is still answered.
+pub const HEEDED: [Telling; 12] = [
     Start(false, 1),
     ClientTransmit,
     ToServer(0),
     Cancel,
     ToServer(1),
+    ToServer(1),
     Fault,
     Cancel,
     ToServer(2),
+    ToClient(3),
     ToClient(2),
-    ToClient(1),
     CancelTimer,
 ];
 
