@@ -1,14 +1,15 @@
 //! Bodies of cancel and cancel_ack, well formed and malformed.
 
-use crate::codec::pdu::{pdu_type, ByteOrder};
+use crate::codec::pdu::{pdu_type, ByteOrder, BODY_LIMIT};
 use crate::generate::arriving::Arriving;
 use crate::generate::datagram::u32_bytes;
 use crate::generate::random::Random;
 use crate::records::record::Record;
 use crate::records::side::Side;
 
-/// Lengths that neither body has, beside which each has the other's.
-const OTHER_LENGTHS: [usize; 7] = [0, 4, 7, 9, 11, 13, 16];
+/// Lengths that neither body has, beside which each has the other's. Two of them are a right one in
+/// a single byte.
+const OTHER_LENGTHS: [usize; 10] = [0, 4, 7, 9, 11, 13, 16, 264, 268, BODY_LIMIT];
 
 /// Third words that are neither 0 nor 1. One of them is 1 in the other byte order.
 pub const THIRD_WORDS: [u32; 6] = [2, 256, 257, 65_536, 16_777_216, u32::MAX];

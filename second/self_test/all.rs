@@ -1,7 +1,9 @@
 //! A small check of this program against itself and against rows of the papers.
 
 use super::side::datagram_rows;
-use super::{begun_again, cancel_bodies, cancel_door, cancels, client, compared, demand};
+use super::{
+    begun_again, cancel_bodies, cancel_door, cancel_ends, cancels, client, compared, demand,
+};
 use super::{fack_details, facks, layout, middle, played, rows, server, server_calls};
 use super::{server_cancels, told, wrong_cancels};
 use crate::bench::message::message;
@@ -35,6 +37,7 @@ pub fn self_test() -> Result<(), &'static str> {
     middle::self_test()?;
     begun_again::self_test()?;
     cancels::self_test()?;
+    cancel_ends::self_test()?;
     server_cancels::self_test()?;
     cancel_bodies::self_test()?;
     cancel_door::self_test()?;

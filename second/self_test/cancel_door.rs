@@ -25,6 +25,7 @@ pub fn self_test() -> Result<(), &'static str> {
     )?;
     local_cancel()?;
     wrong_lengths()?;
+    broken_rules()?;
     fourth_timer()?;
     places()
 }
@@ -62,7 +63,7 @@ fn local_cancel() -> Result<(), &'static str> {
     check(bytes == expected, "the places of a local cancel")
 }
 
-/// What is lent comes first, then bytes that are not readable, then the rules, then the row.
+/// What is lent comes first, then bytes that are not readable.
 fn wrong_lengths() -> Result<(), &'static str> {
     let mut bytes = sending();
     bytes[66] = 2;
@@ -81,8 +82,11 @@ fn wrong_lengths() -> Result<(), &'static str> {
     check(
         call(&CANCEL, &mut bytes, 1_472) == 2,
         "a local cancel with a mark of 2",
-    )?;
-    // The ticket of a timer that is not armed is not judged; of one that is armed it is.
+    )
+}
+
+/// The ticket of a timer that is not armed is not judged; of one that is armed it is.
+fn broken_rules() -> Result<(), &'static str> {
     let mut bytes = sending();
     bytes[0] = 6;
     bytes[56] = 200;

@@ -1,4 +1,4 @@
-//! Cases 1 to 6 of request 2, by hand: the client's cancels, their timer and their cancel_acks.
+//! Cases 1, 2, 5 and 6 of request 2, by hand: the client's cancels and their cancel_acks.
 
 use crate::codec::pdu::{flags1, pdu_type};
 use crate::machines::effect::Notice;
@@ -12,8 +12,8 @@ use crate::self_test::side::{done, is_silent, only, sends, Outcome, Sender, TICK
 use crate::self_test::stage::Stage;
 
 /// The first ticket that is armed, and the second.
-const FIRST: u64 = TICKETS + 1;
-const SECOND: u64 = TICKETS + 2;
+pub const FIRST: u64 = TICKETS + 1;
+pub const SECOND: u64 = TICKETS + 2;
 
 pub fn self_test() -> Result<(), &'static str> {
     for accepts in [0, 1] {
@@ -22,8 +22,6 @@ pub fn self_test() -> Result<(), &'static str> {
     idempotent_cancel()?;
     two_timers()?;
     stays_armed()?;
-    ends()?;
-    given_up()?;
     last_ticket()?;
     last_number()?;
     without_a_row()
@@ -44,7 +42,7 @@ fn cancels(stage: &mut Stage, serial: u8, number: u8) -> bool {
 }
 
 /// The tickets of WAIT, ACK and CANCEL.
-fn tickets(stage: &Stage) -> [Option<u64>; 3] {
+pub fn tickets(stage: &Stage) -> [Option<u64>; 3] {
     let own = &stage.client.own;
     [own.wait, own.ack, own.cancel]
 }
@@ -144,84 +142,6 @@ fn stays_armed() -> Result<(), &'static str> {
     check(
         tickets(&stage) == [Some(TICKETS + 5), None, Some(FIRST)],
         "CANCEL stays armed in RECEIVE_FRAGS",
-    )
-}
-
-/// A client in DISPATCHED with CANCEL armed.
-fn cancelled(idempotent: bool) -> Stage {
-    let mut stage = dispatched(idempotent, 8);
-    // One that is refused fails the checks behind it.
-    let _ = cancel(&mut stage);
-    stage
-}
-
-/// Case 3. However a call ends, CANCEL is disarmed.
-fn ends() -> Result<(), &'static str> {
-    let mut stage = cancelled(false);
-    check(
-        tickets(&stage) == [Some(FIRST), None, Some(SECOND)],
-        "case 3: WAIT and CANCEL armed",
-    )?;
-    let last = arrive(&mut stage, pdu_type::RESPONSE, 0, 0, b"all");
-    check(
-        last == only(Notice::Last) && tickets(&stage) == [None, Some(TICKETS + 3), None],
-        "case 3: only ACK armed in ACK_PENDING",
-    )?;
-    let mut stage = cancelled(true);
-    let last = arrive(&mut stage, pdu_type::RESPONSE, 0, 0, b"all");
-    check(
-        last == only(Notice::Last) && tickets(&stage) == [None; 3],
-        "case 3: nothing armed in COMPLETE",
-    )?;
-    for (pdu_type, notice) in [
-        (pdu_type::FAULT, Notice::Fault(258)),
-        (pdu_type::REJECT, Notice::Reject(258)),
-    ] {
-        let mut stage = cancelled(false);
-        let failed = arrive(&mut stage, pdu_type, 0, 0, &[0, 0, 1, 2]);
-        check(
-            failed == only(notice) && tickets(&stage) == [None; 3],
-            "case 3: nothing armed behind a fault or reject",
-        )?;
-    }
-    ends_at_limits()
-}
-
-/// The same at the sixth WAIT and at the sixth nocall.
-fn ends_at_limits() -> Result<(), &'static str> {
-    let mut stage = cancelled(false);
-    stage.client.own.waits = 5;
-    let sixth = timer(&mut stage, TimerKind::Wait, FIRST);
-    check(
-        sixth == only(Notice::Cause(1)) && tickets(&stage) == [None; 3],
-        "case 3: nothing armed behind the sixth WAIT",
-    )?;
-    let mut stage = cancelled(false);
-    stage.client.resends = 5;
-    let sixth = arrive(&mut stage, pdu_type::NOCALL, 0, 0, &[]);
-    check(
-        sixth == only(Notice::Cause(2)) && tickets(&stage) == [None; 3],
-        "case 3: nothing armed behind the sixth nocall",
-    )
-}
-
-/// Case 4. The timer ends the call by cause 3 and sends nothing; both tickets are then late.
-fn given_up() -> Result<(), &'static str> {
-    let mut stage = cancelled(false);
-    let acts = timer(&mut stage, TimerKind::Cancel, SECOND);
-    check(
-        acts == only(Notice::Cause(3)) && is_silent(&stage),
-        "case 4: CANCEL acts",
-    )?;
-    check(
-        stage.client.state == State::Fault && tickets(&stage) == [None; 3],
-        "case 4: WAIT is gone too",
-    )?;
-    let late = [(TimerKind::Cancel, SECOND), (TimerKind::Wait, FIRST)]
-        .map(|(kind, ticket)| timer(&mut stage, kind, ticket));
-    check(
-        late == [Err(Refusal::NoRow), Err(Refusal::NoRow)],
-        "case 4: both tickets behind it",
     )
 }
 

@@ -7,32 +7,31 @@
 use crate::bench::bench::Bench;
 use crate::bench::memory::PDU_FILL;
 use crate::bench::post::Benched;
+use crate::codec::pdu::pdu_type;
 use crate::machines::effect::{Effect, Notice};
 use crate::machines::event::Event;
 use crate::records::client::{Client, ClientEvent, ClientSide, State as ClientState, TimerKind};
 use crate::records::incoming::SLOT_BUFFER_LENGTH;
 use crate::records::server::{Answer, Resend, Server, ServerSide, State as ServerState};
-use crate::systems::demand_side::{
-    cancel_number_of, check, number_of, Broken, Demanded, SideBook, Step,
-};
+use crate::systems::demand_side::{check, is_of_type, number_of, Broken, Demanded, SideBook, Step};
 
 /// A call that was started.
-struct Book {
+pub(super) struct Book {
     idempotent: bool,
     message: Vec<u8>,
     dispatches: u32,
     replies: Vec<Vec<u8>>,
     /// How often the client has cancelled it.
-    cancels: usize,
+    pub(super) cancels: usize,
 }
 
 /// The books of one run.
 pub struct Demand {
     /// By call number.
-    calls: Vec<Book>,
-    last_dispatched: Option<usize>,
+    pub(super) calls: Vec<Book>,
+    pub(super) last_dispatched: Option<usize>,
     /// The number of the last cancel that the server noticed since then, 0 where there is none.
-    last_noticed: usize,
+    pub(super) last_noticed: usize,
     /// What the client handed up after its last event.
     handed_up: Vec<u8>,
     client: SideBook<ClientSide>,
@@ -86,44 +85,6 @@ impl Demand {
         });
         self.handed_up.clear();
         Ok(())
-    }
-
-    /// The client is active, and stays as it is but for its cancels.
-    fn cancelled(&mut self, before: &Client, after: &Client) -> Result<(), Broken> {
-        let is_active = before.state.is_active() && after.state == before.state;
-        check(is_active, "a local cancel of a call that is not active")?;
-        let call = self.calls.get_mut(after.number as usize);
-        let call = call.ok_or("a local cancel before any start")?;
-        call.cancels += 1;
-        check(
-            after.own.cancel_number as usize == call.cancels,
-            "a local cancel has another number",
-        )?;
-        let is_armed_again = before.own.cancel.is_some() && before.tickets != after.tickets;
-        check(!is_armed_again, "a local cancel arms a timer that is armed")
-    }
-
-    /// Only the call that runs notices a cancel, each with a higher number than the one before, and
-    /// only those that its client has sent.
-    fn cancel_noticed(&mut self, datagram: &[u8], step: &Step<ServerSide>) -> Result<(), Broken> {
-        let after = step.bench.record::<ServerSide>();
-        let runs = [step.before.state, after.state] == [ServerState::Running; 2];
-        let call_number = number_of(datagram);
-        let is_last = self.last_dispatched == Some(call_number);
-        check(
-            runs && is_last,
-            "a cancel is noticed of a call that does not run",
-        )?;
-        let number = cancel_number_of(datagram);
-        check(
-            number > self.last_noticed,
-            "a cancel is noticed that is not above the last",
-        )?;
-        self.last_noticed = number;
-        check(
-            number <= self.calls[call_number].cancels,
-            "a cancel is noticed that was not sent",
-        )
     }
 
     /// Empty or a leading part of one reply given to the client's number, and it only grows. At
@@ -201,7 +162,9 @@ impl Demanded for ClientSide {
     /// Within a call only a cancel_ack disarms CANCEL.
     fn is_disarmed_in(event: &Event<ClientSide>, kind: TimerKind) -> bool {
         match event {
-            Event::Arrive { datagram } => kind == TimerKind::Cancel && is_of_type(10, datagram),
+            Event::Arrive { datagram } => {
+                kind == TimerKind::Cancel && is_of_type(pdu_type::CANCEL_ACK, datagram)
+            }
             _ => false,
         }
     }
@@ -230,7 +193,7 @@ impl Demanded for ServerSide {
 
     /// Of the rows that take a request only those that put lead to COLLECT or dispatch.
     fn is_put(datagram: &[u8], after: &Server, effect: &Effect) -> bool {
-        let is_request = is_of_type(0, datagram);
+        let is_request = is_of_type(pdu_type::REQUEST, datagram);
         let leads_on = after.state == ServerState::Collect || effect.notice.is_some();
         is_request && leads_on
     }
@@ -259,18 +222,15 @@ impl Demanded for ServerSide {
             (Event::Arrive { datagram }, Some(Notice::Dispatch)) => {
                 books.dispatched(number_of(datagram), step.bench)
             }
-            (Event::Arrive { datagram }, Some(Notice::Cancel)) if is_of_type(8, datagram) => {
+            (Event::Arrive { datagram }, Some(Notice::Cancel))
+                if is_of_type(pdu_type::CANCEL, datagram) =>
+            {
                 books.cancel_noticed(datagram, step)
             }
             (_, None) => Ok(()),
             _ => Err("the server gives another notice than a dispatch or a cancel".into()),
         }
     }
-}
-
-/// Whether a datagram that was taken has the type.
-fn is_of_type(pdu_type: u8, datagram: &[u8]) -> bool {
-    datagram[1] == pdu_type
 }
 
 /// What a side hands up: the parts of all fragments, joined in order.

@@ -67,6 +67,11 @@ fn u16_of(datagram: &[u8], at: usize) -> usize {
     usize::from(u16::from_le_bytes([datagram[at], datagram[at + 1]]))
 }
 
+/// Whether a datagram that can be read has the type.
+pub fn is_of_type(pdu_type: u8, datagram: &[u8]) -> bool {
+    datagram[1] == pdu_type
+}
+
 fn u32_of(datagram: &[u8], at: usize) -> usize {
     u16_of(datagram, at) | u16_of(datagram, at + 2) << 16
 }

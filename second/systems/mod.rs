@@ -1,6 +1,7 @@
 //! Whole systems: a client and a server over a bad network, with demand 3 checked.
 
 pub mod demand;
+pub mod demand_of_cancels;
 pub mod demand_side;
 pub mod habits;
 pub mod network;

@@ -12,7 +12,7 @@ use crate::generate::client;
 use crate::generate::made::Made;
 use crate::generate::parts::{any_call, message_length};
 use crate::generate::random::Random;
-use crate::records::client::{ClientSide, State, STATES};
+use crate::records::client::{Client, ClientSide, State, STATES};
 
 /// Lengths of a UUID that are not its own.
 const UUID_LENGTHS: [usize; 6] = [0, 1, 15, 17, 32, 272];
@@ -103,9 +103,8 @@ pub fn wrong_start_names() -> Vec<String> {
         .collect()
 }
 
-/// A start whose mark or one of whose UUIDs no call has.
-pub fn wrong_start(turn: usize, author: &mut client::author::Author) {
-    let random = &mut author.random;
+/// A record that can take a start, by turns.
+fn record_to_start(turn: usize, random: &mut Random) -> Client {
     let states = STATES.map(|state| {
         if state.may_start() {
             state
@@ -113,8 +112,15 @@ pub fn wrong_start(turn: usize, author: &mut client::author::Author) {
             State::Queued
         }
     });
-    let mut record = ClientSide::sound_record(states[turn / 4 % states.len()], random);
+    let mut record = ClientSide::sound_record(states[turn % states.len()], random);
     record.number = 7;
+    record
+}
+
+/// A start whose mark or one of whose UUIDs no call has.
+pub fn wrong_start(turn: usize, author: &mut client::author::Author) {
+    let random = &mut author.random;
+    let record = record_to_start(turn / 4, random);
     let call = any_call(random);
     let wrong = wrong_uuid(turn, random);
     let mark = random.between(2, 255) as u8;

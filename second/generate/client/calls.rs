@@ -101,6 +101,13 @@ pub fn whole_call(turn: usize, author: &mut Author) {
     let kind = CALLS[turn % CALLS.len()];
     let ticket_counter = author.random.pick(&[0, 0, 1, 1 << 40, u64::MAX - 3]);
     author.set_fresh(ticket_counter);
+    call_of(kind, author);
+    author.start(3);
+    author.hand_up(0);
+}
+
+/// The events of a call.
+fn call_of(kind: Kind, author: &mut Author) {
     match kind {
         Kind::Answered { length, reply } => {
             author.start(length);
@@ -131,22 +138,9 @@ pub fn whole_call(turn: usize, author: &mut Author) {
             author.arrive_of_type(pdu_type);
             author.hand_up(0);
         }
-        Kind::Cancelled { cancels } => {
-            cancelled_call(cancels, author);
-            author.timer(TimerKind::Cancel);
-            author.timer(TimerKind::Wait);
-        }
-        Kind::Heard { cancels } => {
-            cancelled_call(cancels, author);
-            arrive_cancel_ack(cancels, author);
-            author.timer(TimerKind::Cancel);
-            author.cancel();
-            receive(2, author);
-            finish(2, author);
-        }
+        Kind::Cancelled { cancels } => cancelled_call(cancels, author),
+        Kind::Heard { cancels } => heard_call(cancels, author),
     }
-    author.start(3);
-    author.hand_up(0);
 }
 
 /// Now and then something else comes between.
@@ -204,8 +198,25 @@ fn ping_to_the_limit(author: &mut Author) {
     }
 }
 
-/// So many cancels while the request is sent, with the cancel_acks of all but the last.
+/// The timer ends the call.
 fn cancelled_call(cancels: u32, author: &mut Author) {
+    cancel_while_sending(cancels, author);
+    author.timer(TimerKind::Cancel);
+    author.timer(TimerKind::Wait);
+}
+
+/// The last cancel_ack comes in time, and the call goes on.
+fn heard_call(cancels: u32, author: &mut Author) {
+    cancel_while_sending(cancels, author);
+    arrive_cancel_ack(cancels, author);
+    author.timer(TimerKind::Cancel);
+    author.cancel();
+    receive(2, author);
+    finish(2, author);
+}
+
+/// So many cancels while the request is sent, with the cancel_acks of all but the last.
+fn cancel_while_sending(cancels: u32, author: &mut Author) {
     author.start(2_000);
     for number in 1..=cancels {
         author.cancel();
