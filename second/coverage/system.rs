@@ -99,7 +99,7 @@ impl Calls {
         let what = match book.noticed {
             None => "the first one",
             Some(_) if book.is_noticed => "one above the last",
-            Some(last) if cancel_number <= last => "the same in another run",
+            Some(last) if cancel_number <= last => "an old one in another run",
             Some(_) => "a later one in another run",
         };
         counts.add(format_args!("system cancels noticed: {what}"));

@@ -60,7 +60,7 @@ const FACTS: [&str; 33] = [
     "system calls cancelled, then given up by cause 3",
     "system cancels noticed: the first one",
     "system cancels noticed: one above the last",
-    "system cancels noticed: the same in another run",
+    "system cancels noticed: an old one in another run",
     "system cancels noticed: a later one in another run",
     "system cancels answered by a fault",
 ];

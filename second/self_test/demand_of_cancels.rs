@@ -9,7 +9,9 @@ use crate::systems::demand_side::Broken;
 use crate::systems::run::Author;
 use crate::systems::step::{Joined, System};
 use crate::systems::stories::step;
-use crate::systems::stories::Telling::{self, Cancel, ClientTransmit, Fault, Start, ToServer};
+use crate::systems::stories::Telling::{
+    self, Cancel, ClientTransmit, Fault, Start, ToClient, ToServer,
+};
 
 const STARTED: [Telling; 1] = [Start(false, 1)];
 const CANCELLED: [Telling; 2] = [Start(false, 1), Cancel];
@@ -35,7 +37,7 @@ const NOTICED: [Telling; 5] = [
 const FAULTED: [Telling; 5] = [Start(false, 1), ClientTransmit, ToServer(0), Cancel, Fault];
 
 /// Each case: the story, what goes wrong, and how it is told.
-pub const CASES: [Case; 13] = [
+pub const CASES: [Case; 15] = [
     (
         &CANCELLED,
         ends_with_the_timer,
@@ -64,6 +66,16 @@ pub const CASES: [Case; 13] = [
     ),
     (&STARTED, counts_wrong, "a local cancel has another number"),
     (&COLLECTED, stays_armed, "a side has other tickets armed"),
+    (
+        &COLLECTED,
+        takes_another_ack,
+        "a cancel_ack is taken that is not of the last cancel",
+    ),
+    (
+        &COLLECTED,
+        takes_an_ack_too_late,
+        "a cancel_ack is taken that is not of the last cancel",
+    ),
     (
         &COLLECTED,
         |system, author| notices::<1>(system, author),
@@ -151,6 +163,21 @@ fn sent_to<S: Joined>(place: usize, system: &mut System) -> Vec<u8> {
 
 /// A cancel_ack is taken and disarms nothing.
 fn stays_armed(system: &mut System, author: &mut Author) -> Result<(), Broken> {
+    let datagram = &sent_to::<ClientSide>(1, system);
+    let event = Event::Arrive { datagram };
+    said_of::<ClientSide>(&event, Effect::nothing(), system, author)
+}
+
+/// A cancel has been sent meanwhile, but the client has forgotten that.
+fn takes_another_ack(system: &mut System, author: &mut Author) -> Result<(), Broken> {
+    step(Cancel, system, author)?;
+    change::<ClientSide>(author, |client| client.own.cancel_number = 1);
+    step(ToClient(1), system, author)
+}
+
+/// The cancel_ack comes once more, when nothing is armed, and is said to be taken.
+fn takes_an_ack_too_late(system: &mut System, author: &mut Author) -> Result<(), Broken> {
+    step(ToClient(1), system, author)?;
     let datagram = &sent_to::<ClientSide>(1, system);
     let event = Event::Arrive { datagram };
     said_of::<ClientSide>(&event, Effect::nothing(), system, author)

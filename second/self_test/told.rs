@@ -34,7 +34,7 @@ const REACHED: [&str; 28] = [
     "system calls cancelled, then given up by cause 2",
     "system calls cancelled, then given up by cause 3",
     "system cancels noticed: one above the last",
-    "system cancels noticed: the same in another run",
+    "system cancels noticed: an old one in another run",
     "system cancels noticed: a later one in another run",
 ];
 

@@ -1,8 +1,8 @@
 //! Demand 3, a single claim over a list of events, checked event by event with books of its own.
 //!
 //! The books know what was started, cancelled, dispatched and replied, the bytes that both slot
-//! buffers must hold, and the tickets that are armed. They take from the machines only what these give out: the
-//! answer, the PDU, the notice, the record and what is handed up.
+//! buffers must hold, and the tickets that are armed. They take from the machines only what these
+//! give out: the answer, the PDU, the notice, the record and what is handed up.
 
 use crate::bench::bench::Bench;
 use crate::bench::memory::PDU_FILL;
@@ -180,6 +180,9 @@ impl Demanded for ClientSide {
                 books.started(after.number, start.call.idempotent, step.message)?;
             }
             Event::Own(ClientEvent::Cancel) => books.cancelled(step.before, after)?,
+            Event::Arrive { datagram } if is_of_type(pdu_type::CANCEL_ACK, datagram) => {
+                books.cancel_acknowledged(datagram, step.before)?;
+            }
             _ => {}
         }
         books.client_hands_up(effect.notice, step.bench)

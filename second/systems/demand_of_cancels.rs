@@ -21,6 +21,22 @@ impl Demand {
         check(!is_armed_again, "a local cancel arms a timer that is armed")
     }
 
+    /// Only a cancel_ack of the last cancel is taken, and only where its timer is armed.
+    pub(super) fn cancel_acknowledged(
+        &self,
+        datagram: &[u8],
+        before: &Client,
+    ) -> Result<(), Broken> {
+        let call_number = number_of(datagram);
+        let call = self.calls.get(call_number);
+        let is_of_call = call_number == before.number as usize;
+        let is_last = call.is_some_and(|call| call.cancels == cancel_number_of(datagram));
+        check(
+            is_of_call && is_last && before.own.cancel.is_some(),
+            "a cancel_ack is taken that is not of the last cancel",
+        )
+    }
+
     /// Only the call that runs notices a cancel, each with a higher number than the one before, and
     /// only those that its client has sent.
     pub(super) fn cancel_noticed(

@@ -92,14 +92,14 @@ pub fn no_ticket_left(turn: usize, author: &mut Author) {
         2 => author.timer(TimerKind::Wait),
         3 => author.start(0),
         4 => author.arrive_of_type(pdu_type::NOCALL),
-        // CANCEL is armed already.
-        9 => author.cancel(),
-        10 => author.timer(TimerKind::Cancel),
-        11 => author.arrive(|client, random| Arriving::cancel_ack_of(7, client, random)),
         5 => author.arrive_of_type(pdu_type::FAULT),
         6 => author.arrive_of_type(pdu_type::REJECT),
         7 => author.arrive(|client, random| Arriving::fack_of(0, client, random)),
-        _ => author.arrive(|client, random| Arriving::response_of(0, WHOLE, client, random)),
+        8 => author.arrive(|client, random| Arriving::response_of(0, WHOLE, client, random)),
+        // CANCEL is armed already.
+        9 => author.cancel(),
+        10 => author.timer(TimerKind::Cancel),
+        _ => author.arrive(|client, random| Arriving::cancel_ack_of(7, client, random)),
     }
 }
 
