@@ -106,7 +106,7 @@ pub struct ClientFields {
     pub wait: Timer,
     pub ack: Timer,
     pub cancel: Timer,
-    /// The number of the last cancel of the call, 0 where there is none.
+    /// That of the last local cancel since the start, else 0.
     pub cancel_number: u32,
 }
 

@@ -86,7 +86,7 @@ pub struct ServerFields {
     pub status: u32,
     pub boot: u32,
     pub resend: Timer,
-    /// The highest number of a cancel that was noticed while the call ran, 0 where none was.
+    /// The cancel number last seen: that of the last cancel noticed since the begin, else 0.
     pub cancel_number: u32,
 }
 

@@ -73,7 +73,10 @@ fn cancels() -> Result<(), &'static str> {
     let header = header_of(pdu_type::CANCEL, NUMBER, 0, 0);
     for (order, body, number) in CANCELS {
         let outcome = arrive_in::<ServerSide>(&mut running(false), *order, &header, body);
-        check(answer(&outcome) == *number, "case 9: the body of a cancel")?;
+        check(
+            answer(&outcome) == *number,
+            "cancel case 9: the body of a cancel",
+        )?;
     }
     Ok(())
 }
@@ -91,11 +94,11 @@ fn numbers_read() -> Result<(), &'static str> {
         let outcome = arrive_in::<ServerSide>(&mut stage, order, &header, &body);
         check(
             outcome.is_ok() && stage.pdu[84..88] == echoed,
-            "case 9: the number of a cancel is echoed",
+            "cancel case 9: the number of a cancel is echoed",
         )?;
         check(
             stage.server.own.cancel_number == seen,
-            "case 9: the number of a cancel is read",
+            "cancel case 9: the number of a cancel is read",
         )?;
     }
     Ok(())
@@ -109,7 +112,7 @@ fn cancel_acks() -> Result<(), &'static str> {
         let outcome = arrive_in::<ClientSide>(&mut stage, *order, &header, body);
         check(
             answer(&outcome) == *number && stage.client.own.cancel.is_some() == (*number != 0),
-            "case 9: the body of a cancel_ack",
+            "cancel case 9: the body of a cancel_ack",
         )?;
         let mut other = header.clone();
         other.call_number = 1;
@@ -128,10 +131,13 @@ fn wrong_side() -> Result<(), &'static str> {
     for body in [&[0; 8][..], &[0; 12], &[]] {
         let header = header_of(pdu_type::CANCEL, 0, 0, 0);
         let outcome = arrive_in::<ClientSide>(&mut dispatched(false, 8), Little, &header, body);
-        check(outcome == refused, "case 10: a cancel at the client")?;
+        check(outcome == refused, "cancel case 10: a cancel at the client")?;
         let header = header_of(pdu_type::CANCEL_ACK, NUMBER, 0, 0);
         let outcome = arrive_in::<ServerSide>(&mut running(false), Little, &header, body);
-        check(outcome == refused, "case 10: a cancel_ack at the server")?;
+        check(
+            outcome == refused,
+            "cancel case 10: a cancel_ack at the server",
+        )?;
     }
     Ok(())
 }

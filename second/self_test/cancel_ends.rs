@@ -29,18 +29,18 @@ fn ends() -> Result<(), &'static str> {
     let mut stage = cancelled(false);
     check(
         tickets(&stage) == [Some(FIRST), None, Some(SECOND)],
-        "case 3: WAIT and CANCEL armed",
+        "cancel case 3: WAIT and CANCEL armed",
     )?;
     let last = arrive(&mut stage, pdu_type::RESPONSE, 0, 0, b"all");
     check(
         last == only(Notice::Last) && tickets(&stage) == [None, Some(TICKETS + 3), None],
-        "case 3: only ACK armed in ACK_PENDING",
+        "cancel case 3: only ACK armed in ACK_PENDING",
     )?;
     let mut stage = cancelled(true);
     let last = arrive(&mut stage, pdu_type::RESPONSE, 0, 0, b"all");
     check(
         last == only(Notice::Last) && tickets(&stage) == [None; 3],
-        "case 3: nothing armed in COMPLETE",
+        "cancel case 3: nothing armed in COMPLETE",
     )?;
     for (pdu_type, notice) in [
         (pdu_type::FAULT, Notice::Fault(258)),
@@ -50,7 +50,7 @@ fn ends() -> Result<(), &'static str> {
         let failed = arrive(&mut stage, pdu_type, 0, 0, &[0, 0, 1, 2]);
         check(
             failed == only(notice) && tickets(&stage) == [None; 3],
-            "case 3: nothing armed behind a fault or reject",
+            "cancel case 3: nothing armed behind a fault or reject",
         )?;
     }
     Ok(())
@@ -63,14 +63,14 @@ fn ends_at_limits() -> Result<(), &'static str> {
     let sixth = timer(&mut stage, TimerKind::Wait, FIRST);
     check(
         sixth == only(Notice::Cause(1)) && tickets(&stage) == [None; 3],
-        "case 3: nothing armed behind the sixth WAIT",
+        "cancel case 3: nothing armed behind the sixth WAIT",
     )?;
     let mut stage = cancelled(false);
     stage.client.resends = 5;
     let sixth = arrive(&mut stage, pdu_type::NOCALL, 0, 0, &[]);
     check(
         sixth == only(Notice::Cause(2)) && tickets(&stage) == [None; 3],
-        "case 3: nothing armed behind the sixth nocall",
+        "cancel case 3: nothing armed behind the sixth nocall",
     )
 }
 
@@ -80,16 +80,16 @@ fn given_up() -> Result<(), &'static str> {
     let acts = timer(&mut stage, TimerKind::Cancel, SECOND);
     check(
         acts == only(Notice::Cause(3)) && is_silent(&stage),
-        "case 4: CANCEL acts",
+        "cancel case 4: CANCEL acts",
     )?;
     check(
         stage.client.state == State::Fault && tickets(&stage) == [None; 3],
-        "case 4: WAIT is gone too",
+        "cancel case 4: WAIT is gone too",
     )?;
     let late = [(TimerKind::Cancel, SECOND), (TimerKind::Wait, FIRST)]
         .map(|(kind, ticket)| timer(&mut stage, kind, ticket));
     check(
         late == [Err(Refusal::NoRow), Err(Refusal::NoRow)],
-        "case 4: both tickets behind it",
+        "cancel case 4: both tickets behind it",
     )
 }

@@ -50,33 +50,36 @@ pub fn tickets(stage: &Stage) -> [Option<u64>; 3] {
 /// Case 1. The second cancel leaves the ticket, and only the cancel_ack of the second disarms it.
 fn two_cancels(accepts: u8) -> Result<(), &'static str> {
     let mut stage = started(false, 1_393);
-    check(cancels(&mut stage, 0, 1), "case 1: the first cancel")?;
+    check(cancels(&mut stage, 0, 1), "cancel case 1: the first cancel")?;
     check(
         tickets(&stage) == [None, None, Some(FIRST)] && stage.client.state == State::SendFrags,
-        "case 1: CANCEL armed",
+        "cancel case 1: CANCEL armed",
     )?;
-    check(cancels(&mut stage, 0, 2), "case 1: the second cancel")?;
+    check(
+        cancels(&mut stage, 0, 2),
+        "cancel case 1: the second cancel",
+    )?;
     check(
         tickets(&stage) == [None, None, Some(FIRST)] && stage.client.tickets.counter == FIRST,
-        "case 1: the ticket of the first cancel",
+        "cancel case 1: the ticket of the first cancel",
     )?;
     let before = stage.client.clone();
     check(
         cancel_ack(&mut stage, 1, accepts) == Err(Refusal::NoRow) && stage.client == before,
-        "case 1: the cancel_ack of the first",
+        "cancel case 1: the cancel_ack of the first",
     )?;
     let taken = cancel_ack(&mut stage, 2, accepts);
     check(
         taken == done() && is_silent(&stage) && tickets(&stage) == [None; 3],
-        "case 1: the cancel_ack of the second",
+        "cancel case 1: the cancel_ack of the second",
     )?;
     check(
         stage.client.own.cancel_number == 2 && stage.client.state == State::SendFrags,
-        "case 1: a cancel_ack leaves number and state",
+        "cancel case 1: a cancel_ack leaves number and state",
     )?;
     check(
         cancel_ack(&mut stage, 2, accepts) == Err(Refusal::NoRow),
-        "case 1: a third cancel_ack",
+        "cancel case 1: a third cancel_ack",
     )?;
     check(
         cancels(&mut stage, 0, 3) && tickets(&stage) == [None, None, Some(SECOND)],
@@ -101,19 +104,19 @@ fn two_timers() -> Result<(), &'static str> {
     let mut stage = started(false, 8);
     check(
         cancels(&mut stage, 0, 1) && transmit(&mut stage).is_ok(),
-        "case 2: a cancel, then the last fragment",
+        "cancel case 2: a cancel, then the last fragment",
     )?;
     check(
         tickets(&stage) == [Some(SECOND), None, Some(FIRST)]
             && stage.client.state == State::Dispatched,
-        "case 2: both timers armed",
+        "cancel case 2: both timers armed",
     )?;
     let before = stage.client.clone();
     let late = [(TimerKind::Wait, FIRST), (TimerKind::Cancel, SECOND)]
         .map(|(kind, ticket)| timer(&mut stage, kind, ticket));
     check(
         late == [Err(Refusal::LateTimer), Err(Refusal::LateTimer)] && stage.client == before,
-        "case 2: each timer with the other's ticket",
+        "cancel case 2: each timer with the other's ticket",
     )
 }
 
@@ -152,21 +155,21 @@ fn last_ticket() -> Result<(), &'static str> {
     let before = stage.client.clone();
     check(
         cancel(&mut stage) == Err(Refusal::NoTicket) && stage.client == before,
-        "case 5: the first cancel without a ticket",
+        "cancel case 5: the first cancel without a ticket",
     )?;
     stage.client.tickets.counter = u64::MAX - 1;
     check(
         cancels(&mut stage, 0, 1) && stage.client.own.cancel == Some(u64::MAX),
-        "case 5: a cancel with the last ticket",
+        "cancel case 5: a cancel with the last ticket",
     )?;
     check(
         cancels(&mut stage, 0, 2) && stage.client.own.cancel == Some(u64::MAX),
-        "case 5: a cancel that needs no ticket",
+        "cancel case 5: a cancel that needs no ticket",
     )?;
     let acts = timer(&mut stage, TimerKind::Cancel, u64::MAX);
     check(
         acts == only(Notice::Cause(3)),
-        "case 5: CANCEL acts without a ticket",
+        "cancel case 5: CANCEL acts without a ticket",
     )
 }
 
@@ -179,24 +182,24 @@ fn last_number() -> Result<(), &'static str> {
     let pdu = CLIENT.bytes(pdu_type::CANCEL, 0, 0, 0, &body);
     check(
         sends(&stage, &last, &pdu, None),
-        "case 6: the cancel with the last number",
+        "cancel case 6: the cancel with the last number",
     )?;
     let before = stage.client.clone();
     check(
         cancel(&mut stage) == Err(Refusal::NoRow) && stage.client == before,
-        "case 6: no cancel behind the last number",
+        "cancel case 6: no cancel behind the last number",
     )?;
     stage.client.tickets.counter = u64::MAX;
     stage.client.own.cancel = None;
     check(
         cancel(&mut stage) == Err(Refusal::NoRow),
-        "case 6: no number comes before no ticket",
+        "cancel case 6: no number comes before no ticket",
     )?;
     stage.client.tickets.counter = TICKETS;
     let failed = arrive(&mut stage, pdu_type::FAULT, 0, 0, &[0; 4]);
     check(
         failed.is_ok() && start(&mut stage, false, 8) == done(),
-        "case 6: another start",
+        "cancel case 6: another start",
     )?;
     let first = cancel(&mut stage);
     let next = Sender {
@@ -206,7 +209,7 @@ fn last_number() -> Result<(), &'static str> {
     let pdu = next.bytes(pdu_type::CANCEL, 0, 0, 0, &[0, 0, 0, 0, 1, 0, 0, 0]);
     check(
         sends(&stage, &first, &pdu, None),
-        "case 6: the first cancel of the next call",
+        "cancel case 6: the first cancel of the next call",
     )
 }
 

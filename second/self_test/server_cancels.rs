@@ -49,21 +49,27 @@ fn while_it_runs() -> Result<(), &'static str> {
     let noticed = Some(Notice::Cancel);
     check(
         is_only_answered(&mut stage, 0, 1),
-        "case 7: cancel 0 is not above 0",
+        "cancel case 7: cancel 0 is not above 0",
     )?;
-    check(is_answered(&mut stage, 5, 1, noticed), "case 7: cancel 5")?;
+    check(
+        is_answered(&mut stage, 5, 1, noticed),
+        "cancel case 7: cancel 5",
+    )?;
     check(
         stage.server.own.cancel_number == 5 && stage.server.state == State::Running,
-        "case 7: cancel 5 is remembered",
+        "cancel case 7: cancel 5 is remembered",
     )?;
     check(
         is_only_answered(&mut stage, 5, 1) && is_only_answered(&mut stage, 3, 1),
-        "case 7: cancels 5 and 3 behind it",
+        "cancel case 7: cancels 5 and 3 behind it",
     )?;
-    check(is_answered(&mut stage, 6, 1, noticed), "case 7: cancel 6")?;
+    check(
+        is_answered(&mut stage, 6, 1, noticed),
+        "cancel case 7: cancel 6",
+    )?;
     check(
         is_only_answered(&mut stage, 0, 1) && stage.server.own.cancel_number == 6,
-        "case 7: cancel 0 behind cancel 6",
+        "cancel case 7: cancel 0 behind cancel 6",
     )?;
     stage.server.own.cancel_number = u32::MAX;
     check(is_only_answered(&mut stage, 1, 1), "numbers do not wrap")
@@ -75,17 +81,17 @@ fn while_it_is_collected() -> Result<(), &'static str> {
     let first = request(&mut stage, NUMBER, flags1::FRAGMENT, 0, b"one");
     check(
         first.is_ok() && is_only_answered(&mut stage, 5, 0),
-        "case 7: a cancel in COLLECT",
+        "cancel case 7: a cancel in COLLECT",
     )?;
     let last = flags1::FRAGMENT | flags1::LAST_FRAGMENT;
     let dispatched = request(&mut stage, NUMBER, last, 1, b"two");
     check(
         dispatched.map(|effect| effect.notice) == Ok(Some(Notice::Dispatch)),
-        "case 7: the dispatch behind a cancel",
+        "cancel case 7: the dispatch behind a cancel",
     )?;
     check(
         is_answered(&mut stage, 5, 1, Some(Notice::Cancel)),
-        "case 7: the same cancel while it runs",
+        "cancel case 7: the same cancel while it runs",
     )
 }
 
@@ -126,11 +132,11 @@ fn behind_the_answer() -> Result<(), &'static str> {
     for (mut stage, state, resend) in stages {
         check(
             (stage.server.state, stage.server.own.resend) == (state, resend),
-            "case 8: states behind the answer",
+            "cancel case 8: states behind the answer",
         )?;
         check(
             is_only_answered(&mut stage, 9, 0) && is_only_answered(&mut stage, 0, 0),
-            "case 8: a cancel behind the answer",
+            "cancel case 8: a cancel behind the answer",
         )?;
     }
     Ok(())
@@ -174,10 +180,10 @@ fn without_a_row() -> Result<(), &'static str> {
     ];
     for (mut stage, state, call_number) in stages {
         let before = stage.server.clone();
-        check(before.state == state, "case 8: states without a row")?;
+        check(before.state == state, "cancel case 8: states without a row")?;
         check(
             cancel(&mut stage, call_number, 5) == Err(Refusal::NoRow) && stage.server == before,
-            "case 8: no row for a cancel",
+            "cancel case 8: no row for a cancel",
         )?;
     }
     Ok(())
@@ -198,14 +204,14 @@ fn order_of_refusals() -> Result<(), &'static str> {
                 Err(Refusal::MalformedBody),
                 Err(Refusal::MalformedBody),
             ],
-        "case 8: a body of 7 bytes",
+        "cancel case 8: a body of 7 bytes",
     )?;
     check(
         cancel(&mut stage, NUMBER - 1, 5) == Err(Refusal::OldCall),
-        "case 8: a cancel of an older call",
+        "cancel case 8: a cancel of an older call",
     )?;
     check(
         malformed(&mut fresh(), 0) == Err(Refusal::MalformedBody),
-        "case 8: a malformed cancel of a fresh server",
+        "cancel case 8: a malformed cancel of a fresh server",
     )
 }
