@@ -39,7 +39,7 @@ const FIELDS: [(usize, &str); 26] = [
     (layout::THIRD_TICKET, " (ticket of CANCEL, or spare)"),
     (layout::FIRST_ARMED, " (marks of timers, or spare)"),
     (layout::CANCEL_NUMBER, " (cancel number)"),
-    (layout::SPARE, " (spare)"),
+    (layout::LAST_SPARE, " (spare)"),
     (layout::ACTIVITY, " (activity)"),
     (layout::OBJECT, " (object)"),
     (layout::INTERFACE, " (interface)"),

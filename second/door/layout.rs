@@ -33,7 +33,7 @@ pub const THIRD_ARMED: usize = 66;
 /// The number of the last cancel; at the server that of the last one seen.
 pub const CANCEL_NUMBER: usize = 68;
 /// From here to the activity all is spare.
-pub const SPARE: usize = 72;
+pub const LAST_SPARE: usize = 72;
 pub const ACTIVITY: usize = 96;
 pub const OBJECT: usize = 112;
 pub const INTERFACE: usize = 128;
@@ -47,5 +47,5 @@ pub const SLOT_SPARE: usize = 3;
 pub const UNKNOWN_LAST: u16 = 65_535;
 
 /// The spare places before the slots: from the first byte up to but without the second.
-pub const CLIENT_SPARE: [(usize, usize); 3] = [(28, 32), (67, 68), (SPARE, ACTIVITY)];
-pub const SERVER_SPARE: [(usize, usize); 4] = [(3, 4), (52, 64), (65, 68), (SPARE, ACTIVITY)];
+pub const CLIENT_SPARE: [(usize, usize); 3] = [(28, 32), (67, 68), (LAST_SPARE, ACTIVITY)];
+pub const SERVER_SPARE: [(usize, usize); 4] = [(3, 4), (52, 64), (65, 68), (LAST_SPARE, ACTIVITY)];

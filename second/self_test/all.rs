@@ -5,7 +5,7 @@ use super::{
     begun_again, cancel_bodies, cancel_door, cancel_ends, cancels, client, compared, demand,
 };
 use super::{fack_details, facks, layout, middle, played, rows, server, server_calls};
-use super::{server_cancels, told, wrong_cancels};
+use super::{mistaken_cancels, server_cancels, told};
 use crate::bench::message::message;
 use crate::codec::fack::{body, Held};
 use crate::codec::pdu::{read, write, ByteOrder, Header, BODY_LIMIT, HIGHEST_TYPE, PDU_LIMIT};
@@ -44,7 +44,7 @@ pub fn self_test() -> Result<(), &'static str> {
     rows::self_test()?;
     layout::self_test()?;
     compared::self_test()?;
-    wrong_cancels::self_test()?;
+    mistaken_cancels::self_test()?;
     told::self_test()?;
     demand::self_test()?;
     played::self_test()

@@ -6,49 +6,53 @@ use crate::door::outcome::outcome;
 use crate::machines::effect::{Effect, Notice};
 use crate::machines::server_row::Age;
 use crate::records::server::{ServerSide, State};
-use crate::self_test::wrong::{Fault, Left};
+use crate::self_test::mistaken::{Left, Mistake};
 
-type WrongServer<'a, 'b, 'c> = &'a mut Left<'b, 'c, ServerSide>;
+type LeftByServer<'a, 'b, 'c> = &'a mut Left<'b, 'c, ServerSide>;
 
-/// What is wrong with a server, and whether it shows in systems of sound sides.
-pub const SERVERS: [(Fault<ServerSide>, bool, &str); 10] = [
+/// The mistakes of a server, and whether each shows in systems of sound sides.
+pub const SERVERS: [(Mistake<ServerSide>, bool, &str); 10] = [
     (
         accepts_always,
         true,
-        "a wrong server: accepts in each state",
+        "a mistaken server: accepts in each state",
     ),
     (
         notices_always,
         true,
-        "a wrong server: notices in each state",
+        "a mistaken server: notices in each state",
     ),
     (
         notices_again,
         true,
-        "a wrong server: notices the last number again",
+        "a mistaken server: notices the last number again",
     ),
-    (notices_wrapped, false, "a wrong server: numbers wrap"),
-    (notices_nothing, true, "a wrong server: no notice"),
+    (notices_wrapped, false, "a mistaken server: numbers wrap"),
+    (notices_nothing, true, "a mistaken server: no notice"),
     (
         remembers_in_collect,
         true,
-        "a wrong server: COLLECT remembers",
+        "a mistaken server: COLLECT remembers",
     ),
     (
         remembers_lower,
         true,
-        "a wrong server: remembers a lower number",
+        "a mistaken server: remembers a lower number",
     ),
     (
         keeps_seen_number,
         true,
-        "a wrong server: a begin keeps the number",
+        "a mistaken server: a begin keeps the number",
     ),
-    (repeats_in_replying, true, "a wrong server: 16 in REPLYING"),
+    (
+        repeats_in_replying,
+        true,
+        "a mistaken server: 16 in REPLYING",
+    ),
     (
         reads_little,
         false,
-        "a wrong server: the number always little-endian",
+        "a mistaken server: the number always little-endian",
     ),
 ];
 
@@ -67,13 +71,13 @@ fn cancel_ack(notice: Option<Notice>) -> u64 {
     }))
 }
 
-fn accepts_always(left: WrongServer) {
+fn accepts_always(left: LeftByServer) {
     if answered_cancel(left).is_some() {
         left.pdu[88] = 1;
     }
 }
 
-fn notices_always(left: WrongServer) {
+fn notices_always(left: LeftByServer) {
     if let Some(number) = answered_cancel(left) {
         if number > left.before.own.cancel_number {
             left.after.own.cancel_number = number;
@@ -82,14 +86,14 @@ fn notices_always(left: WrongServer) {
     }
 }
 
-fn notices_again(left: WrongServer) {
+fn notices_again(left: LeftByServer) {
     let seen = left.before.own.cancel_number;
     if answered_cancel(left) == Some(seen) && left.before.state == State::Running {
         left.number = cancel_ack(Some(Notice::Cancel));
     }
 }
 
-fn notices_wrapped(left: WrongServer) {
+fn notices_wrapped(left: LeftByServer) {
     if let Some(number) = answered_cancel(left) {
         let seen = left.before.own.cancel_number;
         let is_above = (1..1 << 31).contains(&number.wrapping_sub(seen));
@@ -100,13 +104,13 @@ fn notices_wrapped(left: WrongServer) {
     }
 }
 
-fn notices_nothing(left: WrongServer) {
+fn notices_nothing(left: LeftByServer) {
     if answered_cancel(left).is_some() {
         left.number = cancel_ack(None);
     }
 }
 
-fn remembers_in_collect(left: WrongServer) {
+fn remembers_in_collect(left: LeftByServer) {
     if let Some(number) = answered_cancel(left) {
         if left.before.state == State::Collect {
             left.after.own.cancel_number = number;
@@ -114,7 +118,7 @@ fn remembers_in_collect(left: WrongServer) {
     }
 }
 
-fn remembers_lower(left: WrongServer) {
+fn remembers_lower(left: LeftByServer) {
     if let Some(number) = answered_cancel(left) {
         if left.before.state == State::Running {
             left.after.own.cancel_number = number;
@@ -122,7 +126,7 @@ fn remembers_lower(left: WrongServer) {
     }
 }
 
-fn keeps_seen_number(left: WrongServer) {
+fn keeps_seen_number(left: LeftByServer) {
     let Some(request) = left.arriving(pdu_type::REQUEST) else {
         return;
     };
@@ -133,13 +137,13 @@ fn keeps_seen_number(left: WrongServer) {
     }
 }
 
-fn repeats_in_replying(left: WrongServer) {
+fn repeats_in_replying(left: LeftByServer) {
     if answered_cancel(left).is_some() && left.before.state == State::Replying {
         left.number = 16;
     }
 }
 
-fn reads_little(left: WrongServer) {
+fn reads_little(left: LeftByServer) {
     let Some(pdu) = left.arriving(pdu_type::CANCEL) else {
         return;
     };

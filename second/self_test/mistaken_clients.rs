@@ -5,64 +5,72 @@ use crate::door::invocation::{ClientInvocation, Invocation};
 use crate::door::outcome::outcome;
 use crate::machines::effect::{Effect, Notice};
 use crate::records::client::{ClientSide, State, TimerKind};
-use crate::self_test::wrong::{Fault, Left};
+use crate::self_test::mistaken::{Left, Mistake};
 
-type WrongClient<'a, 'b, 'c> = &'a mut Left<'b, 'c, ClientSide>;
+type LeftByClient<'a, 'b, 'c> = &'a mut Left<'b, 'c, ClientSide>;
 
-/// What is wrong with a client, and whether it shows in systems of sound sides.
-pub const CLIENTS: [(Fault<ClientSide>, bool, &str); 13] = [
+/// The mistakes of a client, and whether each shows in systems of sound sides.
+pub const CLIENTS: [(Mistake<ClientSide>, bool, &str); 13] = [
     (
         arms_again,
         true,
-        "a wrong client: a second cancel arms afresh",
+        "a mistaken client: a second cancel arms afresh",
     ),
     (
         takes_any_ack,
         true,
-        "a wrong client: any cancel_ack disarms",
+        "a mistaken client: any cancel_ack disarms",
     ),
     (
         keeps_at_end,
         true,
-        "a wrong client: a call ends with CANCEL armed",
+        "a mistaken client: a call ends with CANCEL armed",
     ),
     (
         disarms_at_nocall,
         true,
-        "a wrong client: a nocall disarms CANCEL",
+        "a mistaken client: a nocall disarms CANCEL",
     ),
     (
         disarms_at_transmit,
         true,
-        "a wrong client: DISPATCHED disarms CANCEL",
+        "a mistaken client: DISPATCHED disarms CANCEL",
     ),
-    (keeps_wait, true, "a wrong client: CANCEL leaves WAIT armed"),
-    (gives_another_cause, true, "a wrong client: another cause"),
+    (
+        keeps_wait,
+        true,
+        "a mistaken client: CANCEL leaves WAIT armed",
+    ),
+    (
+        gives_another_cause,
+        true,
+        "a mistaken client: another cause",
+    ),
     (
         takes_any_ticket,
         true,
-        "a wrong client: CANCEL with any ticket",
+        "a mistaken client: CANCEL with any ticket",
     ),
     (
         keeps_number,
         true,
-        "a wrong client: a start keeps the number",
+        "a mistaken client: a start keeps the number",
     ),
     (
         forgets_number,
         true,
-        "a wrong client: a cancel_ack forgets the number",
+        "a mistaken client: a cancel_ack forgets the number",
     ),
     (
         raises_serial,
         true,
-        "a wrong client: a cancel raises the serial",
+        "a mistaken client: a cancel raises the serial",
     ),
-    (wraps_number, false, "a wrong client: the number wraps"),
+    (wraps_number, false, "a mistaken client: the number wraps"),
     (
         judges_ticket_first,
         false,
-        "a wrong client: 20 although CANCEL is armed",
+        "a mistaken client: 20 although CANCEL is armed",
     ),
 ];
 
@@ -71,14 +79,14 @@ fn is_cancel(left: &Left<ClientSide>) -> bool {
     matches!(left.invocation, Invocation::Own(ClientInvocation::Cancel))
 }
 
-fn arms_again(left: WrongClient) {
+fn arms_again(left: LeftByClient) {
     let was_armed = left.before.own.cancel.is_some();
     if is_cancel(left) && left.is_done() && was_armed && !left.after.tickets.are_used_up() {
         left.after.own.cancel = left.after.tickets.arm();
     }
 }
 
-fn takes_any_ack(left: WrongClient) {
+fn takes_any_ack(left: LeftByClient) {
     let is_ack = left.arriving(pdu_type::CANCEL_ACK).is_some();
     if is_ack && left.answers(15) && left.before.own.cancel.is_some() {
         left.after.own.cancel = None;
@@ -86,19 +94,19 @@ fn takes_any_ack(left: WrongClient) {
     }
 }
 
-fn keeps_at_end(left: WrongClient) {
+fn keeps_at_end(left: LeftByClient) {
     if !left.after.state.is_active() {
         left.after.own.cancel = left.before.own.cancel;
     }
 }
 
-fn disarms_at_nocall(left: WrongClient) {
+fn disarms_at_nocall(left: LeftByClient) {
     if left.is_done() && left.arriving(pdu_type::NOCALL).is_some() {
         left.after.own.cancel = None;
     }
 }
 
-fn disarms_at_transmit(left: WrongClient) {
+fn disarms_at_transmit(left: LeftByClient) {
     let moves = (left.before.state, left.after.state);
     if moves == (State::SendFrags, State::Dispatched) {
         left.after.own.cancel = None;
@@ -110,19 +118,19 @@ fn noticed(notice: Notice) -> u64 {
     outcome(&Ok(Effect::of_notice(notice)))
 }
 
-fn keeps_wait(left: WrongClient) {
+fn keeps_wait(left: LeftByClient) {
     if left.number == noticed(Notice::Cause(3)) {
         left.after.own.wait = left.before.own.wait;
     }
 }
 
-fn gives_another_cause(left: WrongClient) {
+fn gives_another_cause(left: LeftByClient) {
     if left.number == noticed(Notice::Cause(3)) {
         left.number = noticed(Notice::Cause(2));
     }
 }
 
-fn takes_any_ticket(left: WrongClient) {
+fn takes_any_ticket(left: LeftByClient) {
     let is_timer = matches!(left.invocation, Invocation::Timer { kind: 4, .. });
     if is_timer && left.answers(18) && left.before.timer_of(TimerKind::Cancel).is_some() {
         left.after.state = State::Fault;
@@ -132,26 +140,26 @@ fn takes_any_ticket(left: WrongClient) {
     }
 }
 
-fn keeps_number(left: WrongClient) {
+fn keeps_number(left: LeftByClient) {
     let is_start = matches!(left.invocation, Invocation::Own(ClientInvocation::Start(_)));
     if is_start && left.is_done() {
         left.after.own.cancel_number = left.before.own.cancel_number;
     }
 }
 
-fn forgets_number(left: WrongClient) {
+fn forgets_number(left: LeftByClient) {
     if left.is_done() && left.arriving(pdu_type::CANCEL_ACK).is_some() {
         left.after.own.cancel_number = 0;
     }
 }
 
-fn raises_serial(left: WrongClient) {
+fn raises_serial(left: LeftByClient) {
     if is_cancel(left) && left.is_done() {
         left.after.outgoing.raise_serial();
     }
 }
 
-fn wraps_number(left: WrongClient) {
+fn wraps_number(left: LeftByClient) {
     let is_last = left.before.own.cancel_number == u32::MAX;
     if is_cancel(left) && left.answers(15) && left.before.state.is_active() && is_last {
         left.after.own.cancel_number = 0;
@@ -159,7 +167,7 @@ fn wraps_number(left: WrongClient) {
     }
 }
 
-fn judges_ticket_first(left: WrongClient) {
+fn judges_ticket_first(left: LeftByClient) {
     if is_cancel(left) && left.is_done() && left.before.tickets.are_used_up() {
         left.after = left.before.clone();
         left.number = 20;

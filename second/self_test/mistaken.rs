@@ -1,4 +1,4 @@
-//! This implementation in the library's place, with one thing wrong with one of the machines.
+//! This implementation in the library's place, where one of the machines makes a mistake.
 
 use crate::bench::library::Library;
 use crate::codec::pdu::{read, Pdu};
@@ -12,7 +12,7 @@ use crate::records::client::ClientSide;
 use crate::records::record::Record;
 use crate::records::server::ServerSide;
 
-/// What a call leaves, which a wrong machine changes.
+/// What a call leaves, which a mistake changes.
 pub struct Left<'a, 'b, S: Door> {
     pub invocation: &'a Invocation<'b, S>,
     pub before: &'a Record<S>,
@@ -22,8 +22,8 @@ pub struct Left<'a, 'b, S: Door> {
     pub pdu: &'a mut [u8],
 }
 
-/// Something wrong with a machine.
-pub type Fault<S> = fn(&mut Left<S>);
+/// A mistake of a machine.
+pub type Mistake<S> = fn(&mut Left<S>);
 
 impl<S: Door> Left<'_, '_, S> {
     pub fn is_done(&self) -> bool {
@@ -44,14 +44,14 @@ impl<S: Door> Left<'_, '_, S> {
     }
 }
 
-/// Both machines; that of one side is mostly right.
-pub struct Wrong {
-    pub client: Fault<ClientSide>,
-    pub server: Fault<ServerSide>,
+/// Both machines, each with its mistake; mostly one of them makes none.
+pub struct Mistaken {
+    pub client: Mistake<ClientSide>,
+    pub server: Mistake<ServerSide>,
 }
 
-/// A call, and what is wrong with it where the record is readable.
-fn call<S: Door>(fault: Fault<S>, invocation: &Invocation<S>, lent: Lent) -> u64 {
+/// A call, with the mistake where the record is readable.
+fn call<S: Door>(mistake: Mistake<S>, invocation: &Invocation<S>, lent: Lent) -> u64 {
     let Lent { record, slots, pdu } = lent;
     let before = readable::<S>(record);
     let again = Lent {
@@ -70,7 +70,7 @@ fn call<S: Door>(fault: Fault<S>, invocation: &Invocation<S>, lent: Lent) -> u64
         number,
         pdu,
     };
-    fault(&mut left);
+    mistake(&mut left);
     if left.after != after {
         record.copy_from_slice(&encode(&left.after));
     }
@@ -82,7 +82,7 @@ fn readable<S: Door>(bytes: &[u8]) -> Option<Record<S>> {
     decode(<&RecordBytes>::try_from(bytes).ok()?)
 }
 
-impl Library for Wrong {
+impl Library for Mistaken {
     fn client(&mut self, invocation: &Invocation<ClientSide>, lent: Lent) -> u64 {
         call(self.client, invocation, lent)
     }
