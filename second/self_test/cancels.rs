@@ -2,8 +2,9 @@
 
 use crate::codec::pdu::{flags1, pdu_type};
 use crate::machines::effect::Notice;
+use crate::machines::event::Event;
 use crate::machines::refusal::Refusal;
-use crate::records::client::{ClientSide, State, TimerKind};
+use crate::records::client::{ClientEvent, ClientSide, State, TimerKind};
 use crate::self_test::all::check;
 use crate::self_test::client_stage::{
     arrive, cancel, dispatched, start, started, timer, transmit, CLIENT,
@@ -21,9 +22,11 @@ pub fn self_test() -> Result<(), &'static str> {
     }
     idempotent_cancel()?;
     two_timers()?;
+    leaves_the_rest()?;
     stays_armed()?;
     last_ticket()?;
     last_number()?;
+    another_buffer()?;
     without_a_row()
 }
 
@@ -117,6 +120,44 @@ fn two_timers() -> Result<(), &'static str> {
     check(
         late == [Err(Refusal::LateTimer), Err(Refusal::LateTimer)] && stage.client == before,
         "cancel case 2: each timer with the other's ticket",
+    )
+}
+
+/// Cancel and cancel_ack leave all of the record but number and timer.
+fn leaves_the_rest() -> Result<(), &'static str> {
+    let mut stage = dispatched(false, 8);
+    stage.client.own.waits = 3;
+    let mut expected = stage.client.clone();
+    expected.own.cancel_number = 1;
+    expected.own.cancel = Some(SECOND);
+    expected.tickets.counter = SECOND;
+    check(
+        cancels(&mut stage, 1, 1) && stage.client == expected,
+        "what a cancel leaves",
+    )?;
+    expected.own.cancel = None;
+    check(
+        cancel_ack(&mut stage, 1, 1) == done() && stage.client == expected,
+        "what a cancel_ack leaves",
+    )
+}
+
+/// A PDU buffer of another length comes before a broken record, and that before no row.
+fn another_buffer() -> Result<(), &'static str> {
+    let mut client = dispatched(false, 8).client;
+    client.state = State::Fault;
+    let event = Event::Own(ClientEvent::Cancel);
+    for length in [0, 1_471, 1_473] {
+        let refused = client.take(&event, &mut [], &mut vec![0; length]);
+        check(
+            refused == Err(Refusal::LentBuffer),
+            "a cancel with another PDU buffer",
+        )?;
+    }
+    let refused = client.take(&event, &mut [], &mut [0; 1_472]);
+    check(
+        refused == Err(Refusal::BrokenRecord),
+        "a cancel of a broken record",
     )
 }
 
