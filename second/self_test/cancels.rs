@@ -281,6 +281,10 @@ fn without_a_row() -> Result<(), &'static str> {
             "a cancel and a cancel_ack where the call is not active",
         )?;
         let ticket = stage.client.own.ack.unwrap_or(0);
+        check(
+            timer(&mut stage, TimerKind::Cancel, ticket) == Err(Refusal::NoRow),
+            "CANCEL where the call is not active",
+        )?;
         let _ = timer(&mut stage, TimerKind::Ack, ticket);
     }
     check(

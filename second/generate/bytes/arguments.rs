@@ -57,7 +57,9 @@ pub fn other_timer<S: Callable>(turn: usize, author: &mut Author<S>) {
         .collect();
     let any = random.pick(&others);
     let kind = random.pick(&[0, others[1], others[2], others[3], any, 255]);
-    let ticket = random.pick(&[record.tickets.counter, 0, u64::MAX]);
+    let mut armed = S::TIMERS.iter().filter_map(|kind| record.timer_of(*kind));
+    let right = armed.next().unwrap_or(record.tickets.counter);
+    let ticket = random.pick(&[right, right, 0, u64::MAX]);
     author.bench.set_bytes::<S>(&bytes);
     if case == 3 {
         author.lend_wrong_pdu();
