@@ -1,4 +1,5 @@
--- Of cancels: what a host is told and reads of them, that CANCEL stays armed, and what the client's cancel number counts.
+-- Of cancels: what a host is told and reads of them, that CANCEL stays armed, and that the client's cancel number counts
+-- them.
 use Prim.Native.Nat.{ℕ, _<_}
 use mathlib.Core.Bool.{Bool, true, false, false≢true}
 use mathlib.Core.List.{List, [], _∷_}
@@ -45,7 +46,7 @@ use Rattle.host_history.specs.Hosts.{HostWorld, worldOf, ClientCall, Ser
 use Rattle.host_history.specs.Meaning.{meant, HostFits, Keeps, Tells}
 use Rattle.host_history.specs.HostReads.{stateByte, NamesCancel, CancelTimer, ArmedWith, cancelNumber, numberCarried}
 use Rattle.host_history.specs.HostBooks.{CancelRead, CancelsRead}
-use Rattle.host_history.specs.HostDemand.{AnswersCancel, CancelStays, NumberCounts, CancelsTold}
+use Rattle.host_history.specs.HostDemand.{AnswersCancel, CancelStays, CancelNumberCounts, CancelsTold}
 use Rattle.host_history.proofs.Refusals.{refused-leaves}
 use Rattle.host_history.proofs.Unchanged.{refused-same}
 use Rattle.host_history.proofs.SameRun.{same-step, told}
@@ -214,7 +215,7 @@ module _ (h : HostWorld) (keeps : Keeps h) where
             ap (λ (w : World). w .server .machine .seen) next ∙ known .seen
             ∙ carried-there (p .bytes) (known .comes .read);
         seen = refl;
-        running = runs-there (hostStep h call .server) (ap runs (state ∙ known .running));
+        still = runs-there (hostStep h call .server) (ap runs (state ∙ known .running));
       }
 
   -- Every other call of the server is such as tells none.
@@ -261,8 +262,8 @@ module _ (h : HostWorld) (keeps : Keeps h) where
       there : namesCancel (worldOf (hostStep h call) .client .machine .state) ≡ true
       there = unfold clientIn clientOf fieldsIn in named-cancel _ state
 
-      answers : (e : Event) → meant call ≡ e ∷ [] → Tells (worldOf h) (exported h call) (e ∷ []) → Answered (worldOf h) e
-          → AnswersCancel h call
+      answers : (e : Event) → meant call ≡ e ∷ [] → Tells (worldOf h) (exported h call) (e ∷ [])
+          → Answered (worldOf h) e → AnswersCancel h call
       answers e is tells a =
           let w = worldOf h in
           let done : answerTo w (OfClient (ArriveOfClient (a .pdu) (a .lent) (a .out))) ≡ Done =
@@ -289,7 +290,8 @@ module _ (h : HostWorld) (keeps : Keeps h) where
           (subst (λ (w : World). timerIn w (OnClient CancelKind) ≡ Armed ticket) (sym next) still))
 
       by-events : (es : List Event) → meant call ≡ es → worldOf (hostStep h call) ≡ run (worldOf h) es
-          → Tells (worldOf h) (exported h call) es → AnswersCancel h call ⊎ ArmedWith (hostStep h call) CancelTimer ticket
+          → Tells (worldOf h) (exported h call) es
+          → AnswersCancel h call ⊎ ArmedWith (hostStep h call) CancelTimer ticket
       by-events [] is same undone =
           inr (subst (λ (k : HostWorld). ArmedWith k CancelTimer ticket) (sym (refused-same h call undone)) armed)
       by-events (e ∷ []) is same tells =
@@ -299,8 +301,8 @@ module _ (h : HostWorld) (keeps : Keeps h) where
       by-events (e ∷ (f ∷ es)) is same never = absurd never
 
   -- The client's cancel number counts the cancels of its last start.
-  pub counted-read : CancelsCounted (worldOf h) → NumberCounts h
-  unfolding CancelsCounted NumberCounts clientIn clientOf fieldsIn
+  pub counted-read : CancelsCounted (worldOf h) → CancelNumberCounts h
+  unfolding CancelsCounted CancelNumberCounts clientIn clientOf fieldsIn
   counted-read counted other = counted (called-byte _ other)
 
   -- A cancel that comes in time is told.

@@ -1,5 +1,5 @@
--- What a host reads of a datagram that an arrival took is what the reader gives: its type, and the number of a cancel or a
--- cancel_ack.
+-- What a host reads of a datagram that an arrival took is what the reader gives: its type, and the number of a cancel or
+-- a cancel_ack.
 use Prim.Native.Nat.{ℕ, zero, suc, _+_}
 use mathlib.Core.Bool.{Bool, true, false, false≢true}
 use mathlib.Core.List.{List, _∷_}

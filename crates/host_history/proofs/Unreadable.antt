@@ -238,7 +238,8 @@ module _ (c : Client) (broken : clientSound c ≡ false) where
 
 client-so : (side : Side (List ℕ)) (call : ClientCall) → clientReadable (side .machine) ≡ false
     → ToldSo (both (sized (side .machine)) (clientSized side call)) (clientExport side call)
-unfolding clientStart startSized startable clientTransmit clientArrive clientTimer timedClient clientCancel clientResult
+unfolding clientStart startSized startable clientTransmit clientArrive clientTimer timedClient clientCancel
+    clientResult
 client-so side (ClientStart idempotent object interface version operation n message) e =
     or-one _ (leb n messageSize) _ (side .machine) [] []
     (read-so _ _ _ _ (start-so _ (client-broken (side .machine) e) _ n))
@@ -292,7 +293,9 @@ module _ (s : Server) (broken : serverSound s ≡ false) where
   taken-so datagram slots out =
       let r = reading datagram in
       let body = bodyOf datagram in
-      ap (λ (g : Ground). serverTakes g s (r .header) (bodyLength body) (cancelReading (r .little) body .number) .answer)
+      ap
+      (λ (g : Ground).
+      serverTakes g s (r .header) (bodyLength body) (cancelReading (r .little) body .number) .answer)
       (first-so _ _ _ (broken-ground _ (serverSound s) _ broken))
 
 server-so : (side : Side (List ℕ)) (call : ServerCall) → serverReadable (side .machine) ≡ false

@@ -133,7 +133,8 @@ module _ (c : Client) where
 
 pub client-one : (side : Side (List ℕ)) (call : ClientCall)
     → OneSo (both (sized (side .machine)) (clientSized side call)) (clientExport side call)
-unfolding clientStart startSized startable clientTransmit clientArrive clientTimer timedClient clientCancel clientResult
+unfolding clientStart startSized startable clientTransmit clientArrive clientTimer timedClient clientCancel
+    clientResult
 client-one side (ClientStart idempotent object interface version operation n message) =
     or-wrong _ (leb n messageSize) _ (side .machine) [] [] (read-one _ _ _ _ (start-one _ _ n))
     ∙ ap not (both-joined (sized (side .machine)) _ (leb n messageSize))

@@ -122,9 +122,9 @@ pub record CompletionsRead (h : HostWorld) : Type 0 where
       (call : HostCall) → (noticeIn (exported h call .result) ≡ Last → ⊥)
       → hostStep h call .books .completions ≡ h .books .completions
 
--- The same of "cancel": a cancel told is that of a cancel, type 8, that arrives. It is of the start of that PDU, of the run
--- that as many dispatches number, and has the number that the PDU carries, which stands at 68 in the server's bytes
--- afterwards; the server is in RUNNING.
+-- The same of "cancel", which only an arriving cancel tells, a PDU of type 8. What is told has the run, which is how
+-- many dispatches there are, the start that the PDU is of, and the number that it carries, which then stands at 68 in
+-- the server's bytes; the server is in RUNNING still.
 pub record CancelRead (before : HostWorld) (call : HostCall) (after : HostWorld) : Type 0 where
   pub pdu : SentPdu
   pub lent : Lent
@@ -137,7 +137,7 @@ pub record CancelRead (before : HostWorld) (call : HostCall) (after : HostWorld)
   pub ordinal : heard .ordinal ≡ pdu .ordinal
   pub number : heard .number ≡ numberCarried (pdu .bytes)
   pub seen : cancelNumber (after .server) ≡ heard .number
-  pub running : InRunning (after .server)
+  pub still : InRunning (after .server)
 
 pub record CancelsRead (h : HostWorld) : Type 0 where
   pub told :

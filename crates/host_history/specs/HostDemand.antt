@@ -162,8 +162,8 @@ WaitAfresh h =
     → RenewsWait (typeByte (p .bytes)) (h .client .machine) (hostStep h call .client .machine) → (ticket : ℕ)
     → ArmedWith h WaitTimer ticket → ArmedWith (hostStep h call) WaitTimer ticket → ⊥
 
--- A timer is armed only in the states that name it, and the server has no second or third timer. So nothing is armed in
--- a finished call: COMPLETE, 5, FAULT, 6, and IDLE, 0 to 2.
+-- A timer is armed only in the states that name it, and the server has no second or third timer. So nothing is armed
+-- in a finished call: COMPLETE, 5, FAULT, 6, and IDLE, 0 to 2.
 abbrev pub NothingArmed : HostWorld → Type 0
 NothingArmed h = (markByte h WaitTimer ≡ 0) × (markByte h AckTimer ≡ 0) × (markByte h CancelTimer ≡ 0)
 
@@ -178,8 +178,9 @@ pub record QuietBytes (h : HostWorld) : Type 0 where
   pub fault : stateByte (h .client) ≡ 6 → NothingArmed h
   pub idle : stateByte (h .server) ≤ 2 → markByte h ResendTimer ≡ 0
 
--- CANCEL stays armed, with the ticket that it has, while the call is active, in states 1 to 3: nothing disarms it there but
--- an arriving cancel_ack, type 10, that is answered 0 and carries the client's cancel number, and nothing arms it afresh.
+-- CANCEL stays armed, with the ticket that it has, while the call is active, in states 1 to 3: nothing disarms it there
+-- but an arriving cancel_ack, type 10, that is answered 0 and carries the client's cancel number, and nothing arms it
+-- afresh.
 pub record AnswersCancel (h : HostWorld) (call : HostCall) : Type 0 where
   pub pdu : SentPdu
   pub lent : Lent
@@ -196,8 +197,8 @@ CancelStays h =
     → AnswersCancel h call ⊎ ArmedWith (hostStep h call) CancelTimer ticket
 
 -- The client's cancel number is how often its last start was cancelled, wherever it has a call: not in QUEUED, 0.
-unfoldable pub NumberCounts : HostWorld → Type 0
-NumberCounts h =
+unfoldable pub CancelNumberCounts : HostWorld → Type 0
+CancelNumberCounts h =
     (stateByte (h .client) ≡ 0 → ⊥)
     → cancelNumber (h .client) ≡ timesCancelled (lastStart (h .books .starts)) (h .books .cancels)
 
@@ -211,8 +212,8 @@ CancelsAsked h =
 unfoldable pub CancelsOnce : HostWorld → Type 0
 CancelsOnce h = (run number : ℕ) → timesHeard run number (h .books .heard) ≤ 1
 
--- and a cancel, type 8, that arrives in RUNNING, is answered 0 and carries a number above 0 and above all that were told
--- in this run is told.
+-- and a cancel, type 8, that arrives in RUNNING, is answered 0 and carries a number above 0 and above all that were
+-- told in this run is told.
 unfoldable pub CancelsTold : HostWorld → Type 0
 CancelsTold h =
     (p : SentPdu) (lent : Lent) (out : List ℕ)
@@ -269,7 +270,7 @@ pub record HostDemand (h : HostWorld) (calls : List HostCall) : Type 0 where
   -- CANCEL stays armed until the cancel is answered or the call ends.
   pub stays : CancelStays (hostRun h calls)
   -- The client's cancel number counts the cancels of its call.
-  pub counted : NumberCounts (hostRun h calls)
+  pub counted : CancelNumberCounts (hostRun h calls)
   -- The host is told cancels that were asked for,
   pub asked : CancelsAsked (hostRun h calls)
   -- each at most once in a run,

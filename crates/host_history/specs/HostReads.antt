@@ -1,4 +1,5 @@
--- What a host reads in the bytes of a record: the state, the timers that are armed, and the call that is dispatched.
+-- What a host reads in the bytes of a record: the state, the timers that are armed, the cancel number, and the call
+-- that is dispatched; and in those of a datagram.
 use Prim.Native.Nat.{ℕ}
 use mathlib.Core.Bool.{Bool, true, false}
 use mathlib.Core.List.{List}
@@ -74,8 +75,8 @@ timerCall ResendTimer ticket out = ToServer (ServerTimer 3 ticket out)
 abbrev pub cancelNumber : Side (List ℕ) → ℕ
 cancelNumber side = numberAt 4 true (side .machine) 68
 
--- Of a datagram its type stands at 1, and 16 at 4 where its sender is little-endian. A cancel and a cancel_ack have their
--- cancel number of four bytes at 84, in the sender's order.
+-- Of a datagram its type stands at 1, and 16 at 4 where its sender is little-endian. A cancel and a cancel_ack have
+-- their cancel number of four bytes at 84, in the sender's order.
 abbrev pub typeByte : List ℕ → ℕ
 typeByte datagram = getD datagram 1 0
 
