@@ -428,7 +428,7 @@ fn a_server_has_no_cancel_timer() {
     assert_eq!(door::client_cancel(&mut record, &mut pdu), 2);
 }
 
-/// The rules of records: CANCEL is armed only in the three states of a call that is out, its ticket one that was given.
+/// The rules of records: CANCEL is armed only in the three states of a call that is out, with a ticket that was given.
 #[test]
 fn a_record_with_cancel_armed_where_it_cannot_be_is_refused() {
     let (mut record, mut pdu, uuid) = ([0; RECORD_SIZE], [0; PDU_SIZE], [2; 16]);

@@ -60,7 +60,7 @@ fn run() -> Result<bool, Failure> {
     let served = controller.serve();
     // Whatever ended it, the counts are told.
     if controller.cancelled > 0 {
-        say(&format!("{} calls cancelled before they had an effect", controller.cancelled));
+        say(&format!("{} of the executions ended by a cancel, without effect", controller.cancelled));
     }
     let counted = summary(&controller.tally);
     served.and(counted)
@@ -148,8 +148,8 @@ impl Controller {
         }
     }
 
-    /// Hands a datagram to the server of its activity. Executes the call where it is dispatched, and ends it where it is
-    /// cancelled.
+    /// Hands a datagram to the server of its activity. Executes the call where it is dispatched, and ends it where it
+    /// is cancelled.
     fn arrive(&mut self, header: &Header, datagram: &[u8], from: SocketAddrV4) -> Result<(), Failure> {
         self.admit(header, from)?;
         let activity = header.activity();
