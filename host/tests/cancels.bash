@@ -3,7 +3,7 @@
 # shellcheck shell=bash disable=SC2154
 
 # Timers that do not run out.
-long=(--wait 9000 --cancel 9000)
+long_timers=(--wait 9000 --cancel 9000)
 
 # cancels SIDE FILE: the cancels and cancel_acks in a transcript: event, type, call, and what is told of them.
 cancels() {
@@ -43,7 +43,7 @@ cancel_arrives() {
     local name="cancel"
     listen "$work/$name.controller" "$bin/controller" --work 30000 --calls 1 --idle 5 --trace --resend 100
     ends 1 "$name" "^1 calls, 0 good, 1 failed" "$bin/console" --to "127.0.0.1:$port" --calls 1 --size 1 \
-        "${long[@]}" --stop 300 --trace --pcap "$work/$name.pcap"
+        "${long_timers[@]}" --stop 300 --trace --pcap "$work/$name.pcap"
     came_of "$name" 'fault 0x1c00000d back, cancelled: the controller ended it'
     judge "$name, console's transcript" 0 0 "$(events console "$work/$name.out")" \
         '^start 0;sent request;sent cancel;received cancel_ack;received fault;$'
@@ -120,7 +120,7 @@ cancel_typed() {
     local name="stop typed"
     listen "$work/$name.controller" "$bin/controller" --work 30000 --calls 1 --idle 5 --trace --resend 100
     { sleep 1 && echo stpo && sleep 0.5 && echo stop && sleep 0.5 && echo stop; } |
-        ends 1 "$name" "^1 calls, 0 good, 1 failed" "$bin/console" --to "127.0.0.1:$port" --calls 1 "${long[@]}" \
+        ends 1 "$name" "^1 calls, 0 good, 1 failed" "$bin/console" --to "127.0.0.1:$port" --calls 1 "${long_timers[@]}" \
             --trace --loss 50 --seed 6
     came_of "$name" 'fault 0x1c00000d back, cancelled: the controller ended it'
     judge "$name, another line" 0 0 "$(grep '^console: ' "$work/$name.out" || true)" \
@@ -150,7 +150,7 @@ cancel_of_one() {
     listen "$work/$name.controller" "$bin/controller" --work 3000 --calls 2 --idle 5 --resend 100
     timeout 20 "$bin/console" --to "127.0.0.1:$port" --calls 1 --wait 9000 >"$work/$name.other" 2>&1 &
     other=$!
-    ends 1 "$name" "^1 calls, 0 good, 1 failed" "$bin/console" --to "127.0.0.1:$port" --calls 1 "${long[@]}" \
+    ends 1 "$name" "^1 calls, 0 good, 1 failed" "$bin/console" --to "127.0.0.1:$port" --calls 1 "${long_timers[@]}" \
         --idempotent --stop 200
     came_of "$name" 'fault 0x1c00000d back, cancelled: the controller ended it'
     wait "$other" || status=$?
@@ -162,7 +162,7 @@ cancel_of_one() {
 c_cancel() {
     local name="C controller, cancel"
     listen "$work/$name.controller" "$work/controller_c" 0 4 9000
-    ends 1 "$name" "^1 calls, 0 good, 1 failed" "$bin/console" --to "127.0.0.1:$port" --calls 1 "${long[@]}" \
+    ends 1 "$name" "^1 calls, 0 good, 1 failed" "$bin/console" --to "127.0.0.1:$port" --calls 1 "${long_timers[@]}" \
         --stop 300
     came_of "$name" 'fault 0x1c00000d back, cancelled: the controller ended it'
     counted "$name" '^ended 1 calls because of a cancel;executed 0 calls;$'
