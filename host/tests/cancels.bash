@@ -120,8 +120,8 @@ cancel_typed() {
     local name="stop typed"
     listen "$work/$name.controller" "$bin/controller" --work 30000 --calls 1 --idle 5 --trace --resend 100
     { sleep 1 && echo stpo && sleep 0.5 && echo stop && sleep 0.5 && echo stop; } |
-        ends 1 "$name" "^1 calls, 0 good, 1 failed" "$bin/console" --to "127.0.0.1:$port" --calls 1 "${long_timers[@]}" \
-            --trace --loss 50 --seed 6
+        ends 1 "$name" "^1 calls, 0 good, 1 failed" "$bin/console" --to "127.0.0.1:$port" --calls 1 --trace \
+            "${long_timers[@]}" --loss 50 --seed 6
     came_of "$name" 'fault 0x1c00000d back, cancelled: the controller ended it'
     judge "$name, another line" 0 0 "$(grep '^console: ' "$work/$name.out" || true)" \
         '^console: not stop: "stpo"; the calls go on$'
