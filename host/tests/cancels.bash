@@ -58,14 +58,25 @@ cancel_arrives() {
 }
 
 # captured NAME: the capture file of the case above, by its bytes, and in tshark where it is at hand. 469762061 is
-# 0x1c00000d. tshark says 1 or True of a server that accepts.
+# 0x1c00000d.
 captured() {
     judge "$1, capture file" 0 0 "$(packets "$work/$1.pcap")" '^0 0;8 0 0 1;10 0 0 1 1;3 0 469762061;$'
     decoded "$1, capture file in tshark" "$work/$1.pcap" '^0 0 0 1;8 0 0 1;10 0 0 1;3 0 0 1;$' "${every_pdu[@]}"
+    decoded "$1, malformed in tshark" "$work/$1.pcap" '^$' -Y '_ws.malformed' -e frame.number
+    has_cancel_fields || return 0
+    # Some versions say 1 of a server that accepts, others True.
     decoded "$1, bodies in tshark" "$work/$1.pcap" '^8 0 1 ?;10 0 1 (1|True);$' \
         -Y 'dcerpc.pkt_type == 8 || dcerpc.pkt_type == 10' -e dcerpc.pkt_type -e dcerpc.dg_cancel_vers \
         -e dcerpc.dg_cancel_id -e dcerpc.server_accepting_cancels
-    decoded "$1, malformed in tshark" "$work/$1.pcap" '^$' -Y '_ws.malformed' -e frame.number
+}
+
+# Whether tshark is at hand and has the fields of both bodies under these names.
+has_cancel_fields() {
+    local known
+    command -v tshark >"$work/which_tshark" || return 1
+    known=$(tshark -G fields 2>"$work/fields.err" | cut -f 3 |
+        grep -cxE 'dcerpc\.(dg_cancel_vers|dg_cancel_id|server_accepting_cancels)') || true
+    ((known == 3))
 }
 
 # A stub that does not end the call: the cancel_ack disarms CANCEL, which would run out long before the reply comes,
