@@ -19,7 +19,7 @@ pub struct Caller {
     ack: Timer,
     cancel: Timer,
     stop: Stop,
-    is_cancelled: bool,
+    cancel_sent: bool,
     end: Option<Instant>,
 }
 
@@ -52,7 +52,7 @@ impl Caller {
             ack: Timer::new(spans.ack),
             cancel: Timer::new(spans.cancel),
             stop: Stop::new(spans.stop)?,
-            is_cancelled: false,
+            cancel_sent: false,
             end: spans.seconds.map(|seconds| Instant::now() + seconds),
         })
     }
@@ -70,7 +70,7 @@ impl Caller {
         }
         let number = self.client.number();
         self.network.transcript.message(&self.activity, number, "start", Some(request.len()), "");
-        self.is_cancelled = false;
+        self.cancel_sent = false;
         self.stop.call_starts(Instant::now());
         while !self.is_over() {
             match self.turn()? {
@@ -119,7 +119,7 @@ impl Caller {
             Some(refusal) => format!("stop pressed, but no call is out: refused {refusal}"),
         };
         say(&told);
-        self.is_cancelled |= outcome.refusal().is_none();
+        self.cancel_sent |= outcome.refusal().is_none();
         self.network.send(&outcome, self.peer)?;
         self.follow();
         Ok(())
@@ -181,8 +181,8 @@ impl Caller {
     }
 
     /// Whether a cancel was sent for the last call.
-    pub fn is_cancelled(&self) -> bool {
-        self.is_cancelled
+    pub fn is_cancel_sent(&self) -> bool {
+        self.cancel_sent
     }
 
     /// Whether the time is over that the program may run.

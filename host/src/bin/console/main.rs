@@ -111,7 +111,7 @@ impl Plan {
         let end = caller.call(&self.call, &request).map_err(|failure| during(number, failure))?;
         let time = began.elapsed().as_secs_f64() * 1000.0;
         let (right, what) = match &end {
-            End::Answered(answer) => self.judge(&request, answer, caller.is_cancelled()),
+            End::Answered(answer) => self.judge(&request, answer, caller.is_cancel_sent()),
             End::Failed(why) => (false, why.clone()),
         };
         say(&format!("call {number}: {}, {what}, {time:.1} ms", if right { "good" } else { "failed" }));
@@ -119,7 +119,7 @@ impl Plan {
     }
 
     /// Whether an answer is right, and a few words on it; of a call for which a cancel was sent, what came of that.
-    fn judge(&self, request: &[u8], answer: &Answer, is_cancelled: bool) -> (bool, String) {
+    fn judge(&self, request: &[u8], answer: &Answer, cancel_sent: bool) -> (bool, String) {
         let right = is_right(self.call.operation, self.call.idempotent, request, answer);
         let what = match answer {
             Answer::Reply(reply) if right => format!("{} back", reply.len()),
@@ -127,7 +127,7 @@ impl Plan {
             Answer::Fault(status) => format!("fault {status:#010x} back"),
         };
         let came_of_cancel = match answer {
-            _ if !is_cancelled => "",
+            _ if !cancel_sent => "",
             Answer::Fault(CANCELLED) => ", cancelled: the controller ended it",
             Answer::Reply(_) | Answer::Fault(_) => ", completed although stop was pressed",
         };
