@@ -1,4 +1,4 @@
--- What the client takes for a response, by the type number.
+-- What the client takes for a response and for a cancel_ack, by the type number.
 use Prim.Native.Nat.{ℕ}
 use mathlib.Core.Bool.{Bool, true, false, false≢true}
 use mathlib.Core.Path.{_≡_, refl, sym, ap, _∙_}
@@ -43,3 +43,38 @@ response-kind kind e =
     by-tests false false false c d f true h q = absurd (false≢true q)
     by-tests false false false c d f false true q = absurd (false≢true q)
     by-tests false false false c d f false false q = absurd (false≢true q)
+
+-- No type but 10 is a cancel_ack.
+abbrev isCancelAck : Event → Bool
+isCancelAck Response = false
+isCancelAck Fault = false
+isCancelAck Reject = false
+isCancelAck Working = false
+isCancelAck Nocall = false
+isCancelAck Fack = false
+isCancelAck CancelAck = true
+isCancelAck Foreign = false
+
+pub cancel-ack-kind : (kind : ℕ) → eventOf kind ≡ CancelAck → kind ≡ 10
+unfolding eventOf serverEvent choose
+cancel-ack-kind kind e =
+    eqb-true kind 10 (by-tests (ltb kind 2) (leb kind 6) (eqb kind 2) (eqb kind 3) (eqb kind 4) (eqb kind 5) (eqb kind 9) (eqb kind 10) (ap isCancelAck e))
+  where
+    answers : (t c d f : Bool) → isCancelAck (choose t Response (choose c Fault (choose d Working (choose f Nocall Reject)))) ≡ false
+    answers true c d f = refl
+    answers false true d f = refl
+    answers false false true f = refl
+    answers false false false true = refl
+    answers false false false false = refl
+
+    by-tests : (a b t c d f g h : Bool)
+        → isCancelAck
+        (choose a Foreign
+        (choose b (choose t Response (choose c Fault (choose d Working (choose f Nocall Reject)))) (choose g Fack (choose h CancelAck Foreign))))
+        ≡ true
+        → h ≡ true
+    by-tests true b t c d f g h q = absurd (false≢true q)
+    by-tests false true t c d f g h q = absurd (false≢true (sym (answers t c d f) ∙ q))
+    by-tests false false t c d f true h q = absurd (false≢true q)
+    by-tests false false t c d f false true q = refl
+    by-tests false false t c d f false false q = absurd (false≢true q)

@@ -124,6 +124,7 @@ fresh-inv w f = record {
   calls = calls-fresh (w .books .starts) (w .books .dispatches) (w .books .replies) (f .books .starts) (f .books .dispatches) (f .books .replies);
   requests = λ d m. absurd (subst (In d) (f .client-unsent) m);
   acks = λ d m. absurd (subst (In d) (f .client-unsent) m);
+  asked = λ d m. absurd (subst (In d) (f .client-unsent) m);
   responses = λ d m. absurd (subst (In d) (f .server-unsent) m);
   completed = λ c m. absurd (subst (In c) (f .books .completions) m);
 }

@@ -55,7 +55,7 @@ use Rattle.history.proofs.Ordinals.{equal-start}
 use Rattle.history.proofs.More.{current-on}
 use Rattle.history.proofs.Invariant.{ClientHolds, nothing, fragments-of, ClientInv, Inv, clientStep}
 use Rattle.history.proofs.ClientSteps.{GoesOn, goes-on, failed-goes-on, fack-goes-on, working-goes-on, nocall-goes-on, cancel-ack-goes-on}
-use Rattle.history.proofs.ClientSends.{asks, acknowledges, others-known, planned, none-told}
+use Rattle.history.proofs.ClientSends.{asks, acknowledges, cancels, others-known, planned, none-told}
 use Rattle.history.proofs.ListLaws.{tellsLast, completed-more}
 use Rattle.client.proofs.Growing.{hands-joined}
 use Rattle.calls.specs.declared.Notice.{Notice}
@@ -216,7 +216,7 @@ module _ (w : World) (inv : Inv w) (o : ℕ) (h : Header) (body : List ℕ) (sta
       other CancelAck j begun (cancel-ack-goes-on (w .client .machine) begun)
   row-inv Foreign j e = absurd (false≢true (j .row))
 
--- A row of an arriving PDU sends nothing or a fack, so no request and no ack.
+-- A row of an arriving PDU sends nothing or a fack, so no request, no ack and no cancel.
 abbrev sendsFack : Send → Bool
 sendsFack Nothing = true
 sendsFack (SendRequest f) = false
@@ -225,12 +225,12 @@ sendsFack Ack = false
 sendsFack (Fack serial) = true
 sendsFack (Cancel n) = false
 
-fack-alone : (send : Send) → sendsFack send ≡ true → (asks send ≡ false) × (acknowledges send ≡ false)
-fack-alone Nothing e = (refl, refl)
+fack-alone : (send : Send) → sendsFack send ≡ true → (asks send ≡ false) × (acknowledges send ≡ false) × (cancels send ≡ false)
+fack-alone Nothing e = (refl, refl, refl)
 fack-alone (SendRequest f) e = absurd (false≢true e)
 fack-alone Ping e = absurd (false≢true e)
 fack-alone Ack e = absurd (false≢true e)
-fack-alone (Fack serial) e = (refl, refl)
+fack-alone (Fack serial) e = (refl, refl, refl)
 fack-alone (Cancel n) e = absurd (false≢true e)
 
 row-sends : (event : Event) (c : Client) (h : Header) (n status : ℕ) → sendsFack (arrivalRow event c h n status .send) ≡ true
@@ -320,4 +320,4 @@ client-arrive-inv w p out inv done sent =
     (storing (arrivalRow event c (r .header) n status .put) (r .header .fragment) body (w .client .slots)) next (arrivalRow event c (r .header) n status .notice)
     (row-tells event c (r .header) n status))
     (others-known (Request (w .books .starts)) (lastStart (w .books .starts)) (arrivalRow event c (r .header) n status .send)
-    (arrivalRow event c (r .header) n status .client) [] (sends .0)))
+    (arrivalRow event c (r .header) n status .client) [] (sends .0)) (sends .2))

@@ -37,17 +37,7 @@ client-accepted w (ClientArrive p lent out) inv done fair =
     subst (λ (l : Lent). answerTo w (OfClient (ClientArrive p l out)) ≡ Done → Inv (step w (OfClient (ClientArrive p l out)))) (sym (fair .own))
     (λ d. client-arrive-inv w p out inv d (fair .earlier)) done
 client-accepted w (ClientTimer kind ticket out) inv done fair = client-timer-inv w kind ticket out inv done
-client-accepted w (ClientCancel out) inv done fair =
-    let next = client-cancel-inv w out inv done in
-    record {
-      client = next .client;
-      server = next .server;
-      calls = next .calls;
-      requests = next .requests;
-      acks = next .acks;
-      responses = next .responses;
-      completed = next .completed;
-    }
+client-accepted w (ClientCancel out) inv done fair = client-cancel-inv w out inv done
 
 -- one of the server,
 server-accepted : (w : World) (e : ServerEvent) → Inv w → answerTo w (OfServer e) ≡ Done → ServerPremise w e → Inv (step w (OfServer e))
@@ -95,7 +85,7 @@ pub record OneMore (before after : List Started) : Type 0 where
   pub is : after ≡ andThen before start
 
 -- A start that is answered 0 is on the books then,
-start-more : (w : World) (call : Call) (n : ℕ) (message : List ℕ) → starting (w .client .machine) call n .answer ≡ Done
+pub start-more : (w : World) (call : Call) (n : ℕ) (message : List ℕ) → starting (w .client .machine) call n .answer ≡ Done
     → OneMore (w .books .starts) (startStep w (starting (w .client .machine) call n) call message .books .starts)
 start-more w call n message done =
     let new : Started = record { ordinal = length (w .books .starts); number = starting (w .client .machine) call n .client .number; call = call; message = message } in

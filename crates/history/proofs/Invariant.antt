@@ -5,10 +5,14 @@ use mathlib.Core.List.{List, []}
 use mathlib.Core.Logic.{_⊎_, inl, inr}
 use mathlib.Core.Path.{_≡_, sym, _∙_}
 use lib.ListN.{length}
+use Rattle.answers.specs.declared.Answer.the-variants.{Done}
+use Rattle.bodies.specs.Cancel.{cancelReading}
 use Rattle.calls.specs.declared.Call.{Call}
 use Rattle.incoming.specs.declared.Incoming.{Incoming}
 use Rattle.incoming.specs.Slots.{complete}
 use Rattle.pdu.specs.declared.Header.{Header}
+use Rattle.pdu.specs.Header.{bodyOf}
+use Rattle.reader.specs.Reading.{reading}
 use Rattle.client_record.specs.declared.Client.{Client}
 use Rattle.client_record.specs.States.{isQueued, isActive}
 use Rattle.client_record.specs.Rules.{sound as clientSound}
@@ -22,12 +26,12 @@ use Rattle.server_record.specs.Rules.{sound as serverSound}
 use Rattle.client.specs.declared.Outcome.{Outcome as ClientOutcome}
 use Rattle.server.specs.declared.Outcome.{Outcome as ServerOutcome}
 use Rattle.history.specs.Lists.{In, OfLast}
-use Rattle.history.specs.World.{callNumber, Started, Dispatched, Replied, Completed, SentPdu, World}
-use Rattle.history.specs.Steps.{dispatchEntry, lastStart, lastDispatched, clientTurnOf, serverTurnOf, startedAfter, repliedAfter, Subject, ofRecord, clientWorld, serverWorld}
+use Rattle.history.specs.World.{callNumber, Started, Dispatched, Replied, Completed, Cancelled, SentPdu, World}
+use Rattle.history.specs.Steps.{dispatchEntry, lastStart, lastDispatched, clientTurnOf, serverTurnOf, startedAfter, cancelledAfter, repliedAfter, Subject, ofRecord, clientWorld, serverWorld}
 use Rattle.history.specs.Fairness.{OfLastStart, OfLastReply, Typed}
 use Rattle.history.specs.Claim.{times, DispatchOf, WholeReply, hasReply}
 use Rattle.history.proofs.Holding.{Unheld, Holding, Empty, Single}
-use Rattle.history.proofs.Types.{IsRequest, IsAck, IsResponse}
+use Rattle.history.proofs.Types.{IsRequest, IsAck, IsCancel, IsResponse}
 use Rattle.history.proofs.Network.{Request, Response, Known}
 
 -- The client's call is the last start.
@@ -169,6 +173,14 @@ pub record AckOf (c : Client) (starts : List Started) (o : ℕ) (h : Header) (bo
   pub number : h .number ≡ callNumber o
   pub ended : Ended c starts o
 
+-- What a cancel tells: it has the number of its start, and the start was cancelled at the client with its cancel number.
+pub record CancelOf (cancels : List Cancelled) (d : SentPdu) : Type 0 where
+  pub number : reading (d .bytes) .header .number ≡ callNumber (d .ordinal)
+  pub asked : In (record { ordinal = d .ordinal; number = cancelReading (reading (d .bytes) .little) (bodyOf (d .bytes)) .number }) cancels
+
+pub record Asks (cancels : List Cancelled) (d : SentPdu) : Type 0 where
+  pub told : reading (d .bytes) .answer ≡ Done → IsCancel (reading (d .bytes) .header .kind) → CancelOf cancels d
+
 -- All of it.
 pub record Inv (w : World) : Type 0 where
   pub client : ClientInv (w .client .machine) (w .client .slots) (w .books .starts) (w .books .replies)
@@ -176,13 +188,19 @@ pub record Inv (w : World) : Type 0 where
   pub calls : CallInv (w .books .starts) (w .books .dispatches) (w .books .replies)
   pub requests : (d : SentPdu) → In d (w .client .sent) → Known IsRequest (Request (w .books .starts)) d
   pub acks : (d : SentPdu) → In d (w .client .sent) → Known IsAck (AckOf (w .client .machine) (w .books .starts)) d
+  pub asked : (d : SentPdu) → In d (w .client .sent) → Asks (w .books .cancels) d
   pub responses : (d : SentPdu) → In d (w .server .sent) → Known IsResponse (Response (w .books .replies)) d
   pub completed : (c : Completed) → In c (w .books .completions) → WholeReply (w .books .replies) c
 
--- The world after a step of the client that is no start, after a start, after a step of the server that is no
--- reply, and after a reply.
+-- The world after a step of the client that is no start and no cancel, after a cancel, after a start, after a step of the
+-- server that is no reply, and after a reply.
 abbrev pub clientStep : World → ClientOutcome → List ℕ → List ℕ → World
 clientStep w r out slots = clientWorld w (clientTurnOf r out slots) (w .books .starts) (w .books .cancels)
+
+abbrev pub cancelStep : World → ClientOutcome → List ℕ → World
+cancelStep w r out =
+    let t = clientTurnOf r out (w .client .slots) in
+    clientWorld w t (w .books .starts) (cancelledAfter (w .books .cancels) t (lastStart (w .books .starts)))
 
 abbrev pub startStep : World → ClientOutcome → Call → List ℕ → World
 startStep w r call message =

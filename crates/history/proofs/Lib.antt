@@ -21,4 +21,8 @@ pub mod ServerArrivals
 pub mod Histories
 pub mod Tickets
 pub mod Undisturbed
+pub mod CancelLists
+pub mod Cancelling
+pub mod Hearing
+pub mod CancelRuns
 pub mod Theorem

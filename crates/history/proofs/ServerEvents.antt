@@ -243,6 +243,7 @@ module _ (w : World) (inv : Inv w) (n : ℕ) (message : List ℕ) (can : CanRepl
         };
     requests = inv .requests;
     acks = inv .acks;
+    asked = inv .asked;
     responses =
         λ d m.
         more-known IsResponse (Response (w .books .replies)) (Response replies) (response-more (w .books .replies) replies grown) d (inv .responses d m);

@@ -330,6 +330,7 @@ put-inv w inv s o server state h body request short can out room =
       calls = known .1;
       requests = inv .requests;
       acks = inv .acks;
+      asked = inv .asked;
       completed = inv .completed;
       responses =
           sends-known (Known IsResponse (Response (w .books .replies))) send (putServer-of (complete m)) h [] out (w .server .sent) o

@@ -250,6 +250,7 @@ planned w plan h lent out slots of inv quiet server uuids short room responses =
       calls = rw same (inv .calls);
       requests = inv .requests;
       acks = inv .acks;
+      asked = inv .asked;
       responses =
           sends-known (Known IsResponse (Response (w .books .replies))) (plan .send) (plan .server) h lent out (w .server .sent) (of .ordinal) uuids short room
           (inv .responses) responses;

@@ -190,6 +190,7 @@ module _ (w : World) (inv : Inv w) (call : Call) (n : ℕ) (message : List ℕ) 
         λ d m.
         more-known IsRequest (Request (w .books .starts)) (Request starts)
         (request-more (w .books .starts) starts (within-grown (w .books .starts) start)) d (inv .requests d m);
+    asked = inv .asked;
     acks =
         λ d m.
         more-known IsAck (AckOf (w .client .machine) (w .books .starts)) (AckOf (started (w .client .machine) call n) starts) acks-started d (inv .acks d m);

@@ -13,7 +13,7 @@ use Rattle.timers.specs.declared.Timer.the-variants.{Armed}
 use Rattle.timers.proofs.TimerLaws.{ticket-most}
 use Rattle.client_record.specs.declared.State.{State}
 use Rattle.client_record.specs.declared.State.the-variants.{Queued, SendFrags, Dispatched as DispatchedState, ReceiveFrags, AckPending, Complete, Fault}
-use Rattle.client_record.specs.States.{isQueued, isActive, isWaiting, isAckPending}
+use Rattle.client_record.specs.States.{isQueued, isWaiting, isAckPending}
 use Rattle.client_record.proofs.RuleLaws.{rules-told, wait-off, ack-off, cancel-off}
 use Rattle.client_record.specs.declared.TimerKind.the-variants.{Wait, Ack, Cancel}
 use Rattle.client_record.specs.Arming.{namedTimer}
@@ -30,7 +30,7 @@ use Rattle.history.specs.Events.{Event}
 use Rattle.history.specs.Steps.{lastStart, run}
 use Rattle.history.specs.Fairness.{Fair}
 use Rattle.history.specs.Freshness.{Fresh}
-use Rattle.history.specs.Claim.{times, AtMostOnce, WholeMessages, replyHandedUp, RepliesToDispatches, LeadsReply, OneReply, WholeReplies, WholeWhereAnswered, OnlyGrows, TimerOf, OnClient, OnServer, timerIn, LateTimers, GoneTickets, namesWait, namesAck, namesCancel, namesResend, Quiet, WholeWhereRunning, clientCalls, serverCalled, Numbered, Claim}
+use Rattle.history.specs.Claim.{times, AtMostOnce, WholeMessages, replyHandedUp, RepliesToDispatches, LeadsReply, OneReply, WholeReplies, WholeWhereAnswered, OnlyGrows, TimerOf, OnClient, OnServer, timerIn, LateTimers, GoneTickets, namesWait, namesAck, namesResend, Quiet, CancelsCounted, WholeWhereRunning, clientCalls, serverCalled, Numbered, Claim}
 use Rattle.history.proofs.Holding.{unheld-joined, holding-leads}
 use Rattle.history.proofs.Network.{Known}
 use Rattle.history.proofs.Types.{IsAck}
@@ -39,6 +39,8 @@ use Rattle.history.proofs.Beginning.{fresh-inv}
 use Rattle.history.proofs.ClientArrivals.{whole-handed}
 use Rattle.history.proofs.Refused.{late-nothing}
 use Rattle.history.proofs.Undisturbed.{running-is, undisturbed}
+use Rattle.history.proofs.Cancelling.{some-start, named-cancel, stays-armed}
+use Rattle.history.proofs.CancelRuns.{CancelInv, run-cancels, fresh-cancels, heard-asked-for, told-once, hears-all}
 use Rattle.history.proofs.Histories.{run-inv, run-append, fair-append, run-grows}
 use Rattle.history.proofs.Tickets.{counterOf, run-counts, run-gone, acts-once, armed-afresh}
 
@@ -110,15 +112,6 @@ module _ (w : World) (inv : Inv w) where
       named-ack Complete = unfold isAckPending in refl
       named-ack Fault = unfold isAckPending in refl
 
-      named-cancel : (s : State) → namesCancel s ≡ isActive s
-      named-cancel Queued = unfold isActive in refl
-      named-cancel SendFrags = unfold isActive in refl
-      named-cancel DispatchedState = unfold isActive in refl
-      named-cancel ReceiveFrags = unfold isActive in refl
-      named-cancel AckPending = unfold isActive in refl
-      named-cancel Complete = unfold isActive in refl
-      named-cancel Fault = unfold isActive in refl
-
       named-resend : (s : ServerState) → namesResend s ≡ isHeld s
       named-resend (Idle idle) = unfold isHeld in refl
       named-resend Collect = unfold isHeld in refl
@@ -159,6 +152,11 @@ numbered w inv = record {
   client = λ e. inv .client .current (calls-begun (w .client .machine .state) e) .number;
   server = λ e. inv .server .called (called-once (w .server .machine .state) e) .number;
 }
+
+-- The client's cancel number counts its cancels.
+cancels-counted : (w : World) → Inv w → CancelInv w → CancelsCounted w
+unfolding CancelsCounted
+cancels-counted w inv known e = known .client .counted (some-start w inv (calls-begun (w .client .machine .state) e))
 
 -- An armed ticket is at most the counter of its side.
 armed-in-most : (w : World) → Inv w → (timer : TimerOf) (ticket : ℕ) → timerIn w timer ≡ Armed ticket → ticket ≤ counterOf w timer
@@ -207,6 +205,7 @@ unfolding WholeWhereRunning RepliesToDispatches WholeReplies WholeWhereAnswered
 theorem w fresh events fair =
     let start = fresh-inv w fresh in
     let inv = run-inv w events start fair in
+    let cancels = run-cancels w events start (fresh-cancels w fresh) fair in
     record {
       once = at-most-once (run w events) inv;
       whole = whole-messages (run w events) inv;
@@ -222,6 +221,11 @@ theorem w fresh events fair =
       acts = acts-once (run w events);
       afresh = armed-afresh (run w events);
       quiet = quiet (run w events) inv;
+      stays = stays-armed (run w events);
+      counted = cancels-counted (run w events) inv cancels;
+      asked = heard-asked-for (run w events) cancels;
+      heard = told-once (run w events) cancels;
+      hears = hears-all (run w events) cancels;
       rules = record { client = inv .client .kept; server = inv .server .kept };
       numbered = numbered (run w events) inv;
     }

@@ -521,25 +521,25 @@ fn lay(
 }
 
 // Lays the 272 bytes of a record down; where they do not fit, the buffer stays as it was.
-pub fn encode(fields: Fields, out: &mut [u8])
-    ensures { λ _. ⌜ now (out .exit) ≡ placed 0 (fieldBytes fields) (now (out .entry)) ⌝ }
+pub fn encode(f: Fields, out: &mut [u8])
+    ensures { λ _. ⌜ now (out .exit) ≡ placed 0 (fieldBytes f) (now (out .entry)) ⌝ }
 {
-    let call = fields.call;
-    let outgoing = fields.outgoing;
-    let incoming = fields.incoming;
+    let call = f.call;
+    let outgoing = f.outgoing;
+    let incoming = f.incoming;
     let last = incoming.last;
     let slots = incoming.slots;
-    let timer = fields.timer;
-    let cancel = fields.cancel;
-    let activity = fields.activity;
+    let timer = f.timer;
+    let cancel = f.cancel;
+    let activity = f.activity;
     let object = call.object;
     let interface = call.interface;
-    let front = front(fields.state, fields.count, fields.extra, call, outgoing, last);
-    let numbers = numbers(fields.number, call.version, outgoing.length, fields.boot);
-    let tickets = split64(fields.tickets);
+    let front = front(f.state, f.count, f.extra, call, outgoing, last);
+    let numbers = numbers(f.number, call.version, outgoing.length, f.boot);
+    let tickets = split64(f.tickets);
     let first = split64(timer_ticket(timer));
-    let second = split64(fields.word);
-    let back = back(timer, fields.armed, cancel, fields.cancels);
+    let second = split64(f.word);
+    let back = back(timer, f.armed, cancel, f.cancels);
     let held = slots_bytes(slots);
     lay(
         front,

@@ -11,6 +11,7 @@ use Rattle.server_record.specs.declared.Idle.the-variants.{Fresh, Spent, Repeat
 use Rattle.server_record.specs.declared.State.{State}
 use Rattle.server_record.specs.declared.State.the-variants.{Idle as IdleState, Collect, Running, Replying, Held}
 use Rattle.server_record.specs.States.{isIdle, isRunning, isHeld}
+use Rattle.server_record.proofs.StateLaws.{running-state}
 use Rattle.server_rows.specs.declared.Event.{Event}
 use Rattle.server_rows.specs.declared.Event.the-variants.{Request, Ping, Ack, Cancel, Fack, Foreign}
 use Rattle.server_rows.specs.declared.Order.{Order}
@@ -93,7 +94,7 @@ RowTells event order state bit mark Nocall = event ≡ Ping
 RowTells event order state bit mark Replay = (order ≡ Equal) × (isHeld state ≡ true)
 RowTells event order state bit mark Acknowledge = (event ≡ Fack) × (order ≡ Equal) × ((state ≡ Replying) ⊎ (isHeld state ≡ true))
 RowTells event order state bit mark Finish = (order ≡ Equal) × (mark ≡ false) × ((state ≡ Replying) ⊎ (isHeld state ≡ true))
-RowTells event order state bit mark AcceptCancel = (event ≡ Cancel) × (order ≡ Equal) × (state ≡ Running)
+RowTells event order state bit mark AcceptCancel = (event ≡ Cancel) × (order ≡ Equal) × (isIdle state ≡ false) × (isRunning state ≡ true)
 RowTells event order state bit mark DeclineCancel = (event ≡ Cancel) × (order ≡ Equal) × (isIdle state ≡ false) × (isRunning state ≡ false)
 
 -- The row of a request tells it,
@@ -144,7 +145,7 @@ unfolding RowTells cancelRow cancelEqual isIdle isRunning
 cancel-tells bit mark Below state = tt
 cancel-tells bit mark Equal (IdleState idle) = tt
 cancel-tells bit mark Equal Collect = (refl, refl, refl, refl)
-cancel-tells bit mark Equal Running = (refl, refl, refl)
+cancel-tells bit mark Equal Running = (refl, refl, refl, refl)
 cancel-tells bit mark Equal Replying = (refl, refl, refl, refl)
 cancel-tells bit mark Equal (Held reply) = (refl, refl, refl, refl)
 cancel-tells bit mark Newer state = tt
@@ -211,7 +212,9 @@ module _ (event : Event) (order : Order) (state : State) (bit mark : Bool) where
   -- A cancel is accepted: one of an equal number, in RUNNING.
   pub accept-told : rowOf event order state bit mark ≡ AcceptCancel → (event ≡ Cancel) × (order ≡ Equal) × (state ≡ Running)
   unfolding RowTells
-  accept-told e = subst (RowTells event order state bit mark) e (row-tells event order state bit mark)
+  accept-told e =
+      let told = subst (RowTells event order state bit mark) e (row-tells event order state bit mark) in
+      (told .0, told .1, running-state state (told .3))
 
   -- A cancel is declined: one of an equal number, in COLLECT, REPLYING or HELD.
   pub decline-told : rowOf event order state bit mark ≡ DeclineCancel

@@ -14,7 +14,7 @@ returns : tie.Need-returns
 unfolding fieldBytes
 returns c =
     let start = c .before .before .before .before .before .before .before .before .before .before .before .before .before .before .before .before .before .before .before .before in
-    let r = start .args .fields in
+    let r = start .args .f in
     c .before .before .lay .ensures
     ∙ ap (λ (l : List ℕ). placed 0 l (start .args .out .now))
     (parts-same (r .activity) (r .call .object) (r .call .interface)

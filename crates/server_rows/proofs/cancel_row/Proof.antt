@@ -5,6 +5,10 @@ use borrow.Author.Needs.{needs}
 use Rattle.server_rows.proofs.cancel_row.Statement.{statement}
 use Rattle.server_rows.proofs.cancel_row.Tie as tie
 
+returns : tie.Need-returns
+unfolding cancelRow
+returns c = search tests
+
 pub cancel-row-spec : {M : Type 1} → statement M
 unfolding cancelRow
 cancel-row-spec =
@@ -14,6 +18,6 @@ cancel-row-spec =
     (λ c. search needs)
     (λ c κs. search needs)
     (λ c. search needs)
-    (λ c. search tests)
+    returns
     (λ c. rw (c .before .enum-told2 .given .1, c .cancel-equal .ensures))
     (λ c. search tests))

@@ -1,0 +1,294 @@
+-- Every event keeps what is known of cancels, and so does a list of events.
+use Prim.Native.Nat.{ℕ, _<_}
+use mathlib.Core.Bool.{Bool, true, false, false≢true}
+use mathlib.Core.List.{List, [], _∷_}
+use mathlib.Core.Logic.{_⊎_, inl, inr}
+use mathlib.Core.Path.{_≡_, refl, sym, ap, subst, _∙_}
+use native.Mathlib.Omega.{arith}
+use lib.Dec.{ltb}
+use lib.ListN.{length}
+use Rattle.words.specs.Choice.{choose}
+use Rattle.words.specs.Sizes.{retryLimit}
+use Rattle.answers.specs.declared.Answer.the-variants.{Done}
+use Rattle.answers.specs.declared.Ground.{Ground}
+use Rattle.answers.specs.declared.Ground.the-variants.{Pass}
+use Rattle.bodies.specs.Cancel.{cancelReading}
+use Rattle.calls.specs.declared.Notice.{Notice}
+use Rattle.calls.specs.declared.Notice.the-variants.{Nothing as Untold, Last, Count, Fault as FaultNotice, Reject, Cause, Dispatch, Cancel as CancelTold}
+use Rattle.grounds.proofs.PassLaws.{done-or-not}
+use Rattle.outgoing.specs.Sending.{sendsLast, afterSend}
+use Rattle.pdu.specs.Header.{bodyOf}
+use Rattle.reader.specs.Reading.{reading}
+use Rattle.client.specs.Machine.{starting, cancelling}
+use Rattle.client.proofs.Cancels.{start-uncancelled, transmit-cancels, timer-cancels, arrive-cancels}
+use Rattle.server_record.specs.declared.Idle.the-variants.{Spent}
+use Rattle.server_record.specs.declared.Reply.{Reply}
+use Rattle.server_record.specs.declared.Reply.the-variants.{Data, Fault as HeldFault}
+use Rattle.server_record.specs.declared.State.{State}
+use Rattle.server_record.specs.declared.State.the-variants.{Idle as IdleState, Running}
+use Rattle.server_record.specs.declared.Server.{Server}
+use Rattle.server_record.specs.Record.{holding, unarmed, withOutgoing, withResends}
+use Rattle.server_record.specs.States.{neverCalled, isFresh}
+use Rattle.server_record.specs.Arming.{runsAgain}
+use Rattle.server_record.proofs.StateLaws.{replying-state, held-state}
+use Rattle.server_steps.specs.declared.Send.the-variants.{Nothing}
+use Rattle.server_steps.specs.Plan.{accepted}
+use Rattle.server_steps.specs.Rows.{answered, replyPlan, settled, transmitted, transmitPlan, faultPlan, rewinding, resendHeld, resendRow, timerRow, timerPlan}
+use Rattle.server.specs.Machine.{outcomeOf, sending, replying, transmitting, faulting, timing}
+use Rattle.server.proofs.Judging.{transmit-passes, timer-passes}
+use Rattle.server.proofs.Accepting.{reply-accepted, transmit-accepted, fault-accepted, timer-accepted}
+use Rattle.server.proofs.Hearing.{reply-deaf, transmit-deaf, fault-deaf, timer-deaf}
+use Rattle.history.specs.Lists.{In}
+use Rattle.history.specs.World.{Started, Dispatched, Cancelled, Heard, World}
+use Rattle.history.specs.Events.{Lent, ClientEvent, ServerEvent, Event, Start, ClientTransmit, ClientArrive, ClientTimer, ClientCancel, ServerArrive, ServerTransmit, ServerTimer, Reply as GiveReply, Fault, OfClient, OfServer}
+use Rattle.history.specs.Steps.{bytesLent, ownAfter, lastStart, ofRecord, ofArrival, happens, answerTo, noticeOf, step, run}
+use Rattle.history.specs.Fairness.{Premise, ServerPremise, Fair}
+use Rattle.history.specs.Freshness.{Fresh}
+use Rattle.history.specs.Claim.{HeardAskedFor, HeardOnce, Hears}
+use Rattle.history.proofs.ListLaws.{within-grown}
+use Rattle.history.proofs.Invariant.{Inv}
+use Rattle.history.proofs.Refused.{refused-same}
+use Rattle.history.proofs.ServerSteps.{past}
+use Rattle.history.proofs.ClientEvents.{cancelled-more}
+use Rattle.history.proofs.CancelLists.{asked-more}
+use Rattle.history.proofs.Cancelling.{CancelsInv, cancels-on, cancels-started, cancel-counts}
+use Rattle.history.proofs.Hearing.{ToldIn, HeardInv, passes, hearing-on, arrive-hears, told-asked, above-told}
+use Rattle.history.proofs.Histories.{start-more, step-inv}
+use Rattle.history.proofs.Undisturbed.{running-is}
+
+-- What is known of cancels on both sides.
+pub record CancelInv (w : World) : Type 0 where
+  pub client : CancelsInv (w .client .machine) (w .books .starts) (w .books .cancels)
+  pub server : HeardInv (w .server .machine) (w .books .cancels) (w .books .dispatches) (w .books .heard)
+
+-- The server's events that are no arrival take the call past RUNNING: a reply,
+reply-passes : (s : Server) (n : ℕ) → replying s n .answer ≡ Done → past (replying s n .server .state) ≡ true
+unfolding replying outcomeOf replyPlan accepted answered withOutgoing unarmed
+reply-passes s n done = subst (λ (g : Ground). past (replyPlan g s n .server .state) ≡ true) (sym (reply-accepted s n done)) refl
+
+settled-past : (again : Bool) (s : Server) (reply : Reply) → past (settled again s reply .state) ≡ true
+unfolding settled unarmed holding choose
+settled-past true s reply = refl
+settled-past false s reply = refl
+
+-- a transmit,
+transmit-past : (s : Server) (message out : List ℕ) → transmitting s message out .outcome .answer ≡ Done
+    → past (transmitting s message out .outcome .server .state) ≡ true
+unfolding transmitting sending outcomeOf transmitPlan accepted transmitted withOutgoing choose
+transmit-past s message out done =
+    let pass = transmit-accepted s message out done in
+    let j = transmit-passes s (length message) (length out) pass in
+    subst (λ (g : Ground). past (transmitPlan g s .server .state) ≡ true) (sym pass)
+    (by-last (sendsLast (s .outgoing)) (ap past (replying-state (s .state) (j .row))))
+  where
+    by-last : (t : Bool) → past (s .state) ≡ true → past (transmitted t s .state) ≡ true
+    by-last true e = settled-past (runsAgain (s .call .idempotent) (s .outgoing)) (withOutgoing s (afterSend (s .outgoing))) Data
+    by-last false e = e
+
+-- a fault
+fault-past : (s : Server) (status : ℕ) (out : List ℕ) → faulting s status out .outcome .answer ≡ Done
+    → past (faulting s status out .outcome .server .state) ≡ true
+unfolding faulting sending outcomeOf faultPlan accepted
+fault-past s status out done =
+    subst (λ (g : Ground). past (faultPlan g s status .server .state) ≡ true) (sym (fault-accepted s status out done))
+    (settled-past (s .call .idempotent) s (HeldFault status))
+
+-- and the timer.
+resend-past : (s : Server) (reply : Reply) → past (resendRow s reply .server .state) ≡ true
+unfolding resendRow resendHeld rewinding holding withResends withOutgoing unarmed accepted choose
+resend-past s reply = by-count (ltb (s .resends) retryLimit) reply
+  where
+    by-count : (t : Bool) (r : Reply) → past (choose t (resendHeld s r) (accepted (unarmed s (IdleState Spent)) Nothing) .server .state) ≡ true
+    by-count true Data = refl
+    by-count true (HeldFault status) = refl
+    by-count false r = refl
+
+timer-past : (s : Server) (ticket : ℕ) (out : List ℕ) → timing s ticket out .outcome .answer ≡ Done
+    → past (timing s ticket out .outcome .server .state) ≡ true
+unfolding timing sending outcomeOf timerPlan timerRow
+timer-past s ticket out done =
+    let pass = timer-accepted s ticket out done in
+    let j = timer-passes s ticket (length out) pass in
+    let held = held-state (s .state) (j .row) in
+    subst (λ (g : Ground). past (timerPlan g s .server .state) ≡ true) (sym pass)
+    (subst (λ (x : State). past (timerRow x s .server .state) ≡ true) (sym (held .is)) (resend-past s (held .reply)))
+
+-- The stub is told what it was told before, where more was asked for at the client.
+heard-asked : (s : Server) (ks more : List Cancelled) (ds : List Dispatched) (heard : List Heard) → ((k : Cancelled) → In k ks → In k more)
+    → HeardInv s ks ds heard → HeardInv s more ds heard
+heard-asked s ks more ds heard grown inv = record {
+  asked = λ h m. asked-more ks more ds ds grown (λ r o e. e) h (inv .asked h m);
+  early = inv .early;
+  once = inv .once;
+  collecting = inv .collecting;
+  most = inv .most;
+  last = inv .last;
+}
+
+-- An event of the client that is answered 0,
+client-keeps : (w : World) (e : ClientEvent) → Inv w → CancelInv w → answerTo w (OfClient e) ≡ Done → CancelInv (step w (OfClient e))
+unfolding step answerTo happens
+client-keeps w (Start call n message) inv known done =
+    let more = start-more w call n message done in
+    record {
+      client =
+          subst (λ (l : List Started). CancelsInv (starting (w .client .machine) call n .client) l (w .books .cancels)) (sym (more .is))
+          (cancels-started (w .client .machine) (starting (w .client .machine) call n .client) (w .books .starts) (more .start) (w .books .cancels)
+          (start-uncancelled (w .client .machine) call n done) (known .client));
+      server = known .server;
+    }
+client-keeps w (ClientTransmit message out) inv known done = record {
+  client = cancels-on (w .client .machine) _ (w .books .starts) (w .books .cancels) (transmit-cancels (w .client .machine) message out) (known .client);
+  server = known .server;
+}
+client-keeps w (ClientArrive p lent out) inv known done = record {
+  client =
+      cancels-on (w .client .machine) _ (w .books .starts) (w .books .cancels)
+      (arrive-cancels (w .client .machine) (p .bytes) (bytesLent lent (w .client .slots)) out) (known .client);
+  server = known .server;
+}
+client-keeps w (ClientTimer kind ticket out) inv known done = record {
+  client = cancels-on (w .client .machine) _ (w .books .starts) (w .books .cancels) (timer-cancels (w .client .machine) kind ticket out) (known .client);
+  server = known .server;
+}
+client-keeps w (ClientCancel out) inv known done = record {
+  client = cancel-counts w out inv (known .client) done;
+  server =
+      subst (λ (l : List Cancelled). HeardInv (w .server .machine) l (w .books .dispatches) (w .books .heard))
+      (sym
+      (cancelled-more (w .books .cancels) (cancelling (w .client .machine) out .outcome) (cancelling (w .client .machine) out .out) (w .client .slots)
+      (lastStart (w .books .starts)) done))
+      (heard-asked (w .server .machine) (w .books .cancels) _ (w .books .dispatches) (w .books .heard) (within-grown (w .books .cancels) _) (known .server));
+}
+
+-- one of the server, where a notice other than "cancel" asks for nothing,
+abbrev tellsCancel : Notice → Bool
+tellsCancel Untold = false
+tellsCancel Last = false
+tellsCancel (Count count) = false
+tellsCancel (FaultNotice status) = false
+tellsCancel (Reject status) = false
+tellsCancel (Cause cause) = false
+tellsCancel Dispatch = false
+tellsCancel CancelTold = true
+
+untold-asks : {A : Type 0} (notice : Notice) → notice ≡ Untold → notice ≡ CancelTold → A
+untold-asks notice untold told = absurd (false≢true (sym (ap tellsCancel untold) ∙ ap tellsCancel told))
+
+server-keeps : (w : World) (e : ServerEvent) → Inv w → CancelInv w → answerTo w (OfServer e) ≡ Done → ServerPremise w e
+    → CancelInv (step w (OfServer e))
+unfolding step answerTo happens bytesLent ownAfter
+server-keeps w (ServerArrive p lent out) inv known done fair =
+    subst (λ (l : Lent). answerTo w (OfServer (ServerArrive p l out)) ≡ Done → CancelInv (step w (OfServer (ServerArrive p l out)))) (sym (fair .own))
+    (λ d. record {
+      client = known .client;
+      server =
+          hearing-on (w .server .machine) _ _ (w .books .cancels) (w .books .dispatches) (w .books .heard) (ofArrival w p Done) _ (known .server)
+          (arrive-hears (w .server .machine) (p .bytes) (w .server .slots) out (known .server .collecting) d)
+          (told-asked w p out inv (known .client) (fair .earlier) (ofArrival w p Done) refl);
+    }) done
+server-keeps w (ServerTransmit message out) inv known done fair =
+    let deaf = transmit-deaf (w .server .machine) message out in
+    record {
+      client = known .client;
+      server =
+          hearing-on (w .server .machine) _ _ (w .books .cancels) (w .books .dispatches) (w .books .heard) (ofRecord w) _ (known .server)
+          (passes (transmit-past (w .server .machine) message out done) (deaf .untold)) (untold-asks _ (deaf .untold));
+    }
+server-keeps w (ServerTimer ticket out) inv known done fair =
+    let deaf = timer-deaf (w .server .machine) ticket out in
+    record {
+      client = known .client;
+      server =
+          hearing-on (w .server .machine) _ _ (w .books .cancels) (w .books .dispatches) (w .books .heard) (ofRecord w) _ (known .server)
+          (passes (timer-past (w .server .machine) ticket out done) (deaf .untold)) (untold-asks _ (deaf .untold));
+    }
+server-keeps w (GiveReply n message) inv known done fair =
+    let deaf = reply-deaf (w .server .machine) n in
+    record {
+      client = known .client;
+      server =
+          hearing-on (w .server .machine) _ _ (w .books .cancels) (w .books .dispatches) (w .books .heard) (ofRecord w) _ (known .server)
+          (passes (reply-passes (w .server .machine) n done) (deaf .untold)) (untold-asks _ (deaf .untold));
+    }
+server-keeps w (Fault status out) inv known done fair =
+    let deaf = fault-deaf (w .server .machine) status out in
+    record {
+      client = known .client;
+      server =
+          hearing-on (w .server .machine) _ _ (w .books .cancels) (w .books .dispatches) (w .books .heard) (ofRecord w) _ (known .server)
+          (passes (fault-past (w .server .machine) status out done) (deaf .untold)) (untold-asks _ (deaf .untold));
+    }
+
+-- and so every event, keeps what is known.
+step-cancels : (w : World) (e : Event) → Inv w → CancelInv w → (answerTo w e ≡ Done → Premise w e) → CancelInv (step w e)
+step-cancels w e inv known fair = by-answer (done-or-not (answerTo w e))
+  where
+    by-event : (x : Event) → answerTo w x ≡ Done → Premise w x → CancelInv (step w x)
+    by-event (OfClient x) done premise = client-keeps w x inv known done
+    by-event (OfServer x) done premise = server-keeps w x inv known done premise
+
+    by-answer : Dec (answerTo w e ≡ Done) → CancelInv (step w e)
+    by-answer (yes done) = by-event e done (fair done)
+    by-answer (no other) = subst CancelInv (sym (refused-same w e other)) known
+
+-- A list of events keeps it.
+pub run-cancels : (w : World) (events : List Event) → Inv w → CancelInv w → Fair w events → CancelInv (run w events)
+unfolding run
+run-cancels w [] inv known fair = known
+run-cancels w (e ∷ es) inv known fair =
+    run-cancels (step w e) es (step-inv w e inv (fair .0)) (step-cancels w e inv known (fair .0)) (fair .1)
+
+-- A fresh world has none.
+pub fresh-cancels : (w : World) → Fresh w → CancelInv w
+unfolding isFresh neverCalled
+fresh-cancels w fresh = record {
+  client =
+      record {
+        small = λ some. absurd (none-started some);
+        counted = λ some. absurd (none-started some);
+        past = λ k m. absurd (subst (In k) (fresh .books .cancels) m);
+      };
+  server =
+      record {
+        asked = λ h m. absurd (subst (In h) (fresh .books .heard) m);
+        early = λ h m. absurd (subst (In h) (fresh .books .heard) m);
+        once = λ run n. rw (fresh .books .heard) (omega arith);
+        collecting = λ e. absurd (false≢true (sym (ap isFresh e) ∙ ap isFresh (fresh .server .state)));
+        most = λ e. absurd (false≢true (sym (ap isFresh e) ∙ ap isFresh (fresh .server .state)));
+        last = λ e. absurd (false≢true (sym (ap isFresh e) ∙ ap isFresh (fresh .server .state)));
+      };
+}
+  where
+    none-started : 0 < length (w .books .starts) → ⊥
+    none-started some = let none : length (w .books .starts) ≡ 0 = ap length (fresh .books .starts) in omega arith
+
+-- So each cancel that the stub is told was asked for,
+pub heard-asked-for : (w : World) → CancelInv w → HeardAskedFor w
+unfolding HeardAskedFor
+heard-asked-for w known = known .server .asked
+
+-- it is told once in a run,
+pub told-once : (w : World) → CancelInv w → HeardOnce w
+unfolding HeardOnce
+told-once w known = known .server .once
+
+-- and every one that comes in time is told.
+pub hears-all : (w : World) → CancelInv w → Hears w
+unfolding Hears answerTo noticeOf happens
+hears-all w known p lent out runs-now done typed some above =
+    above-told (w .server .machine) (p .bytes) (bytesLent lent (w .server .slots)) out state done typed (by-last (known .server .last state))
+  where
+    state : w .server .machine .state ≡ Running
+    state = running-is (w .server .machine .state) runs-now
+
+    number : ℕ
+    number = cancelReading (reading (p .bytes) .little) (bodyOf (p .bytes)) .number
+
+    by-last : (w .server .machine .seen ≡ 0) ⊎ ToldIn (w .books .heard) (length (w .books .dispatches)) (w .server .machine .seen)
+        → w .server .machine .seen < number
+    by-last (inl none) = omega (arith, some)
+    by-last (inr t) =
+        let less = above (t .entry) (t .told) (t .run-is) in
+        let is = t .number-is in
+        omega arith

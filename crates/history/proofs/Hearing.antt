@@ -1,0 +1,318 @@
+-- What the stub is told of cancels: only what was asked for, once in a run, and all that comes in time.
+use Prim.Native.Nat.{ℕ, _+_, _≤_, _<_}
+use mathlib.Core.Bool.{Bool, true, false, false≢true}
+use mathlib.Core.List.{List, [], _∷_}
+use mathlib.Core.Logic.{_⊎_, inl, inr}
+use mathlib.Core.Path.{_≡_, refl, sym, ap, subst, _∙_}
+use native.Mathlib.Omega.{arith}
+use lib.Dec.{ltb}
+use lib.ListN.{length, length-append}
+use borrow.Author.Tests.{ltb-true, lt-ltb}
+use Rattle.words.specs.Choice.{choose}
+use Rattle.words.specs.Sizes.{retryLimit}
+use Rattle.words.proofs.Tests.{choose-true}
+use Rattle.answers.specs.declared.Answer.{Answer}
+use Rattle.answers.specs.declared.Answer.the-variants.{Done, OldCall, NoRow, Repeated}
+use Rattle.answers.specs.declared.Ground.{Ground}
+use Rattle.answers.specs.declared.Ground.the-variants.{Pass}
+use Rattle.answers.specs.Number.{numberOf}
+use Rattle.bodies.specs.declared.CancelReading.{CancelReading}
+use Rattle.bodies.specs.Cancel.{cancelReading}
+use Rattle.calls.specs.declared.Notice.{Notice}
+use Rattle.calls.specs.declared.Notice.the-variants.{Nothing as Untold, Dispatch, Cancel as CancelTold}
+use Rattle.flags.specs.Flags.{idempotent, hasFlag}
+use Rattle.grounds.specs.Entry.{lentGround}
+use Rattle.grounds.specs.Fragment.{isLast, bodyLength}
+use Rattle.grounds.proofs.PassLaws.{refusal-stops}
+use Rattle.incoming.specs.Slots.{cleared, complete, stored}
+use Rattle.outgoing.specs.Sending.{sendsLast}
+use Rattle.pdu.specs.declared.Header.{Header}
+use Rattle.pdu.specs.Header.{bodyOf}
+use Rattle.reader.specs.Reading.{reading}
+use Rattle.server_record.specs.declared.Idle.the-variants.{Fresh, Spent, Repeatable}
+use Rattle.server_record.specs.declared.Reply.{Reply}
+use Rattle.server_record.specs.declared.Reply.the-variants.{Data, Fault}
+use Rattle.server_record.specs.declared.State.{State}
+use Rattle.server_record.specs.declared.State.the-variants.{Idle as IdleState, Collect, Running, Replying, Held}
+use Rattle.server_record.specs.declared.Server.{Server}
+use Rattle.server_record.specs.States.{isFresh, isHeld}
+use Rattle.server_record.specs.Record.{unarmed, withOutgoing, withIncoming, withSeen}
+use Rattle.server_record.proofs.StateLaws.{held-state}
+use Rattle.server_rows.specs.declared.Order.{Order}
+use Rattle.server_rows.specs.declared.Order.the-variants.{Below, Equal, Newer}
+use Rattle.server_rows.specs.declared.Row.{Row}
+use Rattle.server_rows.specs.declared.Row.the-variants.{Old, Missing, Repeat, Begin, Put, Working, Nocall, Replay, Acknowledge, Finish, AcceptCancel, DeclineCancel}
+use Rattle.server_rows.specs.Events.{eventOf}
+use Rattle.server_rows.specs.Table.{cancelEqual, cancelRow}
+use Rattle.server_rows.specs.Rows.{orderFor, rowFor}
+use Rattle.server_rows.proofs.TableLaws.{put-told, replay-told, acknowledge-told, accept-told}
+use Rattle.server_steps.specs.declared.Plan.{Plan}
+use Rattle.server_steps.specs.declared.Send.the-variants.{CancelAck}
+use Rattle.server_steps.specs.Plan.{accepted, refused}
+use Rattle.server_steps.specs.Rows.{rewinding, replayHeld, replayPlan}
+use Rattle.server_arrivals.specs.Rows.{begun, putState, putNotice, putPlan, requestPlan, beginPlan, workingPlan, nocallPlan, fackPlan, ackPlan, heardPlan, acceptPlan, declinePlan}
+use Rattle.server_arrivals.specs.Table.{arrivalRow}
+use Rattle.server_arrivals.proofs.CancelLaws.{above-heard}
+use Rattle.server.specs.Machine.{outcomeOf, sending, planOf, acted, arriving}
+use Rattle.server.proofs.Accepting.{arrive-row}
+use Rattle.server.proofs.CancelAnswers.{cancel-row, cancelNumber, formed-read}
+use Rattle.server.proofs.Hearing.{HeardCancel, only-cancel-heard}
+use Rattle.history.specs.Lists.{In, andThen}
+use Rattle.history.specs.World.{callNumber, Dispatched, Cancelled, Heard, SentPdu, World}
+use Rattle.history.specs.Steps.{lastStart, dispatchesAfter, heardAfter, Subject, heardEntry, answerTo}
+use Rattle.history.specs.Claim.{timesHeard, AskedFor, RunOf}
+use Rattle.history.proofs.ListLaws.{in-grown, in-added}
+use Rattle.history.proofs.CancelLists.{heard-once, last-run, run-more, asked-more}
+use Rattle.history.proofs.Ordinals.{equal-start}
+use Rattle.history.proofs.Invariant.{Inv}
+use Rattle.history.proofs.ServerSteps.{past}
+use Rattle.history.proofs.Cancelling.{CancelsInv}
+
+-- The number last seen was told in this run.
+pub record ToldIn (heard : List Heard) (run n : ℕ) : Type 0 where
+  pub entry : Heard
+  pub told : In entry heard
+  pub run-is : entry .run ≡ run
+  pub number-is : entry .number ≡ n
+
+-- What is known of the cancels that a server's stub was told.
+pub record HeardInv (s : Server) (cancels : List Cancelled) (dispatches : List Dispatched) (heard : List Heard) : Type 0 where
+  pub asked : (h : Heard) → In h heard → AskedFor cancels dispatches h
+  pub early : (h : Heard) → In h heard → h .run ≤ length dispatches
+  pub once : (run n : ℕ) → timesHeard run n heard ≤ 1
+  pub collecting : s .state ≡ Collect → s .seen ≡ 0
+  pub most : s .state ≡ Running → (h : Heard) → In h heard → h .run ≡ length dispatches → h .number ≤ s .seen
+  pub last : s .state ≡ Running → (s .seen ≡ 0) ⊎ ToldIn heard (length dispatches) (s .seen)
+
+-- What an event of the server does to it.
+pub data Hearing (s t : Server) (notice : Notice) : Type 0 where
+  -- The record stays.
+  stays : t ≡ s → notice ≡ Untold → Hearing s t notice
+  -- The call goes past RUNNING, or is none.
+  passes : past (t .state) ≡ true → notice ≡ Untold → Hearing s t notice
+  -- It is collected,
+  collects : t .state ≡ Collect → t .seen ≡ 0 → notice ≡ Untold → Hearing s t notice
+  -- or dispatched: no cancel was seen.
+  dispatches : t .state ≡ Running → t .seen ≡ 0 → notice ≡ Dispatch → Hearing s t notice
+  -- A cancel is told.
+  hears : s .state ≡ Running → s .seen < t .seen → t .state ≡ Running → notice ≡ CancelTold → Hearing s t notice
+
+-- A state past RUNNING is neither COLLECT nor RUNNING.
+not-collect : (x : State) → past x ≡ true → x ≡ Collect → ⊥
+not-collect x e is = false≢true (sym (ap past is) ∙ e)
+
+not-running : (x : State) → past x ≡ true → x ≡ Running → ⊥
+not-running x e is = false≢true (sym (ap past is) ∙ e)
+
+-- COLLECT and RUNNING are two.
+abbrev isCollect : State → Bool
+isCollect (IdleState idle) = false
+isCollect Collect = true
+isCollect Running = false
+isCollect Replying = false
+isCollect (Held reply) = false
+
+apart : (x : State) → x ≡ Collect → x ≡ Running → ⊥
+apart x c r = false≢true (sym (ap isCollect r) ∙ ap isCollect c)
+
+-- So what is known stays known, where a cancel that is told was asked for in the run that it is told of.
+module _ (s t : Server) (notice : Notice) (cancels : List Cancelled) (ds : List Dispatched) (heard : List Heard) (of : Subject) (d : Dispatched)
+    (inv : HeardInv s cancels ds heard) where
+  abbrev after : Type 0
+  after = HeardInv t cancels (dispatchesAfter ds notice d) (heardAfter heard notice (heardEntry ds of t))
+
+  abbrev new : Heard
+  new = heardEntry ds of t
+
+  untold : notice ≡ Untold → HeardInv t cancels ds heard → after
+  unfolding dispatchesAfter heardAfter
+  untold e next =
+      subst (λ (n : Notice). HeardInv t cancels (dispatchesAfter ds n d) (heardAfter heard n new)) (sym e) next
+
+  dispatched : notice ≡ Dispatch → HeardInv t cancels (andThen ds d) heard → after
+  unfolding dispatchesAfter heardAfter
+  dispatched e next =
+      subst (λ (n : Notice). HeardInv t cancels (dispatchesAfter ds n d) (heardAfter heard n new)) (sym e) next
+
+  told : notice ≡ CancelTold → HeardInv t cancels ds (andThen heard new) → after
+  unfolding dispatchesAfter heardAfter
+  told e next =
+      subst (λ (n : Notice). HeardInv t cancels (dispatchesAfter ds n d) (heardAfter heard n new)) (sym e) next
+
+  longer : length (andThen ds d) ≡ length ds + 1
+  longer = rw length-append refl
+
+  pub hearing-on : Hearing s t notice → (notice ≡ CancelTold → AskedFor cancels ds new) → after
+  hearing-on (stays same e) asks = untold e (subst (λ (x : Server). HeardInv x cancels ds heard) (sym same) inv)
+  hearing-on (passes gone e) asks =
+      untold e
+      (record {
+        asked = inv .asked;
+        early = inv .early;
+        once = inv .once;
+        collecting = λ is. absurd (not-collect (t .state) gone is);
+        most = λ is. absurd (not-running (t .state) gone is);
+        last = λ is. absurd (not-running (t .state) gone is);
+      })
+  hearing-on (collects state none e) asks =
+      untold e
+      (record {
+        asked = inv .asked;
+        early = inv .early;
+        once = inv .once;
+        collecting = λ is. none;
+        most = λ is. absurd (apart (t .state) state is);
+        last = λ is. absurd (apart (t .state) state is);
+      })
+  hearing-on (dispatches state none e) asks =
+      dispatched e
+      (record {
+        asked = λ h m. asked-more cancels cancels ds (andThen ds d) (λ k i. i) (run-more ds d) h (inv .asked h m);
+        early = λ h m. let below = inv .early h m in omega (arith, longer);
+        once = inv .once;
+        collecting = λ is. absurd (apart (t .state) is state);
+        most = λ is h m run. let below = inv .early h m in absurd (omega (arith, longer));
+        last = λ is. inl none;
+      })
+  hearing-on (hears before above state e) asks =
+      told e
+      (record {
+        asked = λ h m. by-place (λ x. AskedFor cancels ds x) h (in-grown heard h new m) (inv .asked h) (asks e);
+        early = λ h m. by-place (λ x. x .run ≤ length ds) h (in-grown heard h new m) (inv .early h) (omega arith);
+        once = heard-once heard new (λ x m run. let low = inv .most before x m run in omega arith) (inv .once);
+        collecting = λ is. absurd (apart (t .state) is state);
+        most =
+            λ is h m run.
+            by-place (λ x. x .run ≡ length ds → x .number ≤ t .seen) h (in-grown heard h new m)
+            (λ old r. let low = inv .most before h old r in omega arith) (λ r. omega arith) run;
+        last = λ is. inr (record { entry = new; told = in-added heard new; run-is = refl; number-is = refl });
+      })
+    where
+      by-place : (P : Heard → Type 0) (h : Heard) → In h heard ⊎ (h ≡ heardEntry ds of t) → (In h heard → P h) → P (heardEntry ds of t) → P h
+      by-place P h (inl old) known own = known old
+      by-place P h (inr same) known own = subst P (sym same) own
+
+-- A put leaves COLLECT, or RUNNING with a dispatch; no cancel was seen.
+put-hears : (s t : Server) (all : Bool) (flags1 serial : ℕ) → t .state ≡ putState all → t .seen ≡ 0 → Hearing s t (putNotice all)
+put-hears s t true flags1 serial state none = unfold putState putNotice choose in dispatches state none refl
+put-hears s t false flags1 serial state none = unfold putState putNotice choose in collects state none refl
+
+-- The row of an arriving PDU that passed.
+module _ (s : Server) (h : Header) (n cancel : ℕ) (collecting : s .state ≡ Collect → s .seen ≡ 0) where
+  abbrev bit : Bool
+  bit = hasFlag idempotent (h .flags1)
+
+  held-hears : (reply : Reply) → Hearing s (replayHeld s reply .server) (replayHeld s reply .notice)
+  unfolding replayHeld rewinding withOutgoing unarmed accepted
+  held-hears Data = passes refl refl
+  held-hears (Fault status) = stays refl refl
+
+  replay-hears : (x : State) → isHeld x ≡ true → Hearing s (replayPlan x s .server) (replayPlan x s .notice)
+  unfolding replayPlan isHeld
+  replay-hears (IdleState idle) e = absurd (false≢true e)
+  replay-hears Collect e = absurd (false≢true e)
+  replay-hears Running e = absurd (false≢true e)
+  replay-hears Replying e = absurd (false≢true e)
+  replay-hears (Held reply) e = held-hears reply
+
+  replied-past : (x : State) → (x ≡ Replying) ⊎ (isHeld x ≡ true) → past x ≡ true
+  replied-past x (inl e) = ap past e
+  replied-past x (inr e) = ap past (held-state x e .is)
+
+  accept-hears : s .state ≡ Running → Hearing s (acceptPlan s cancel .server) (acceptPlan s cancel .notice)
+  unfolding acceptPlan
+  accept-hears state = by-seen (ltb (s .seen) cancel) refl
+    where
+      by-seen : (t : Bool) → ltb (s .seen) cancel ≡ t
+          → let p = choose t (heardPlan s cancel) (accepted s (CancelAck cancel true)) in Hearing s (p .server) (p .notice)
+      by-seen true e = unfold heardPlan withSeen choose in hears state (ltb-true (s .seen) cancel e) state refl
+      by-seen false e = unfold accepted choose in stays refl refl
+
+  row-hears : (row : Row) → rowFor s h ≡ row → Hearing s (arrivalRow row s h n cancel .server) (arrivalRow row s h n cancel .notice)
+  unfolding arrivalRow beginPlan requestPlan putPlan begun withIncoming unarmed workingPlan nocallPlan fackPlan ackPlan declinePlan withOutgoing accepted refused rowFor
+  row-hears Old e = stays refl refl
+  row-hears Missing e = stays refl refl
+  row-hears Repeat e = stays refl refl
+  row-hears Begin e = put-hears s _ (complete (stored cleared (h .fragment) n (isLast (h .flags1)))) (h .flags1) (h .serial) refl refl
+  row-hears Put e =
+      put-hears s _ (complete (stored (s .incoming) (h .fragment) n (isLast (h .flags1)))) (h .flags1) (h .serial) refl
+      (collecting (put-told (eventOf (h .kind)) (orderFor s h) (s .state) bit (s .call .idempotent) e .2))
+  row-hears Working e = stays refl refl
+  row-hears Nocall e = stays refl refl
+  row-hears Replay e = replay-hears (s .state) (replay-told (eventOf (h .kind)) (orderFor s h) (s .state) bit (s .call .idempotent) e .1)
+  row-hears Acknowledge e =
+      passes (replied-past (s .state) (acknowledge-told (eventOf (h .kind)) (orderFor s h) (s .state) bit (s .call .idempotent) e .2)) refl
+  row-hears Finish e = passes refl refl
+  row-hears AcceptCancel e = accept-hears (accept-told (eventOf (h .kind)) (orderFor s h) (s .state) bit (s .call .idempotent) e .2)
+  row-hears DeclineCancel e = stays refl refl
+
+-- So does an arriving datagram that is answered 0.
+pub arrive-hears : (s : Server) (datagram slots out : List ℕ) → (s .state ≡ Collect → s .seen ≡ 0)
+    → arriving s datagram slots out .outcome .answer ≡ Done
+    → Hearing s (arriving s datagram slots out .outcome .server) (arriving s datagram slots out .outcome .notice)
+unfolding arriving acted sending outcomeOf
+arrive-hears s datagram slots out collecting done =
+    let h = reading datagram .header in
+    subst (λ (p : Plan). Hearing s (p .server) (p .notice)) (sym (arrive-row s datagram slots out done))
+    (row-hears s h (bodyLength (bodyOf datagram)) (cancelReading (reading datagram .little) (bodyOf datagram) .number) collecting (rowFor s h) refl)
+
+-- A cancel that is told was asked for at the client, in the run that it is told of.
+pub told-asked : (w : World) (p : SentPdu) (out : List ℕ) → Inv w → CancelsInv (w .client .machine) (w .books .starts) (w .books .cancels)
+    → In p (w .client .sent)
+    → let r = arriving (w .server .machine) (p .bytes) (w .server .slots) out in
+    (of : Subject) → of .ordinal ≡ p .ordinal → r .outcome .notice ≡ CancelTold
+    → AskedFor (w .books .cancels) (w .books .dispatches) (heardEntry (w .books .dispatches) of (r .outcome .server))
+unfolding isFresh
+told-asked w p out inv cancels sent of is told =
+    let s = w .server .machine in
+    let k = only-cancel-heard s (p .bytes) (w .server .slots) out told in
+    let known = inv .asked p sent .told (k .comes .read) (k .comes .typed) in
+    let called = inv .server .called (ap isFresh (k .running)) in
+    let ran = inv .server .running (k .running) in
+    let below = cancels .past _ (known .asked) in
+    let stood = inv .calls .below (called .start) (called .started) in
+    let stands = called .is in
+    let same : w .books .standing ≡ p .ordinal =
+    equal-start (p .ordinal) (w .books .standing) (lastStart (w .books .starts)) (omega arith) (omega arith)
+    (sym (called .number) ∙ k .own ∙ known .number) in
+    let number : cancelReading (reading (p .bytes) .little) (bodyOf (p .bytes)) .number ≡ cancelNumber (p .bytes) =
+    ap (λ (r : CancelReading). r .number) (formed-read (p .bytes) (k .formed)) in
+    record {
+      cancel = record { ordinal = p .ordinal; number = cancelReading (reading (p .bytes) .little) (bodyOf (p .bytes)) .number };
+      asked = known .asked;
+      ordinal = sym is;
+      number = number ∙ sym (k .seen);
+      ran =
+          subst (RunOf (w .books .dispatches) (length (w .books .dispatches))) (ran .last ∙ same ∙ sym is)
+          (last-run (w .books .dispatches) (ran .ran .dispatch) (ran .ran .dispatched));
+    }
+
+-- A cancel that is taken in RUNNING with a number above the last seen is told.
+pub above-told : (s : Server) (datagram slots out : List ℕ) → s .state ≡ Running → arriving s datagram slots out .outcome .answer ≡ Done
+    → reading datagram .header .kind ≡ 8 → s .seen < cancelReading (reading datagram .little) (bodyOf datagram) .number
+    → arriving s datagram slots out .outcome .notice ≡ CancelTold
+unfolding arriving acted sending outcomeOf
+above-told s datagram slots out state done typed above =
+    let plan = planOf s (lentGround (length slots) (length out)) (reading datagram) (bodyOf datagram) in
+    let row : plan ≡ arrivalRow (cancelRow (orderFor s h) Running) s h n cancel =
+    arrive-row s datagram slots out done
+    ∙ ap (λ (r : Row). arrivalRow r s h n cancel) (cancel-row s h typed ∙ ap (cancelRow (orderFor s h)) state) in
+    ap (λ (p : Plan). p .notice) row ∙ by-order (orderFor s h) (sym (ap (λ (p : Plan). p .answer) row) ∙ done)
+  where
+    h : Header
+    h = reading datagram .header
+
+    n : ℕ
+    n = bodyLength (bodyOf datagram)
+
+    cancel : ℕ
+    cancel = cancelReading (reading datagram .little) (bodyOf datagram) .number
+
+    refused-not : (a : Answer) → (numberOf a ≡ numberOf Done → ⊥) → refused s a .answer ≡ Done → ⊥
+    refused-not a other e = unfold refused in other (ap numberOf e)
+
+    by-order : (order : Order) → arrivalRow (cancelRow order Running) s h n cancel .answer ≡ Done
+        → arrivalRow (cancelRow order Running) s h n cancel .notice ≡ CancelTold
+    by-order Below e = unfold arrivalRow cancelRow in absurd (refused-not OldCall (λ x. omega arith) e)
+    by-order Equal e = unfold arrivalRow cancelRow cancelEqual heardPlan in ap (λ (p : Plan). p .notice) (above-heard s cancel above)
+    by-order Newer e = unfold arrivalRow cancelRow in absurd (refused-not NoRow (λ x. omega arith) e)
