@@ -25,7 +25,7 @@ before-fresh clientSlots serverSlots = record {
   server = server-record-fresh activity 7 100 refl (omega arith);
   client-unsent = refl;
   server-unsent = refl;
-  books = record { starts = refl; dispatches = refl; replies = refl; completions = refl };
+  books = record { starts = refl; dispatches = refl; replies = refl; completions = refl; cancels = refl; heard = refl };
 }
 
 -- What a story that was played shows.
