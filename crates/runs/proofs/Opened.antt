@@ -51,7 +51,7 @@ use Rattle.history.specs.Steps
 
 -- What both sides judge by.
 unfoldable pub shared : Unit {0}
-unfolding Choice.choose Choice.both Choice.either
+unfolding Choice.choose Choice.both Choice.either Choice.markOf
     Flags.hasFlag Flags.withFlag
     FackBody.fackGround FackBody.fackBy FackBody.fackReading
     CancelBody.cancelFormed CancelBody.cancelWhere CancelBody.cancelReading
@@ -131,5 +131,5 @@ unfolding shared clientTables serverTables
     ClientMachine.outcomeOf ClientMachine.sending ClientMachine.starting ClientMachine.planOf ClientMachine.acted ClientMachine.arriving
     ServerSending.replyHeader ServerSending.echoed ServerSending.echoHeader
     ServerMachine.outcomeOf ServerMachine.replying ServerMachine.planOf
-    Steps.bytesLent Steps.ownAfter Steps.sentAfter Steps.dispatchesAfter Steps.completionsAfter Steps.heardAfter Steps.happens Steps.step Steps.answerTo
+    Steps.bytesLent Steps.ownAfter Steps.sentAfter Steps.dispatchesAfter Steps.completionsAfter Steps.heardAfter Steps.happens Steps.step Steps.answerTo Steps.noticeOf
 opened = tt
