@@ -88,9 +88,10 @@ start-idle FaultState e = refl
 unfoldable pub Stays : Client → ℕ → Type 0
 Stays d ticket = (d .cancel ≡ Armed ticket) ⊎ (isActive (d .state) ≡ false)
 
--- A datagram that is a cancel_ack, type 10, well formed and with the record's cancel number.
+-- A datagram that is a cancel_ack, type 10, with the record's call number, well formed and with the record's cancel number.
 pub record AnswersLast (c : Client) (datagram : List ℕ) : Type 0 where
   pub kind : reading datagram .header .kind ≡ 10
+  pub call : reading datagram .header .number ≡ c .number
   pub formed : cancelAckReading (reading datagram .little) (bodyOf datagram) .answer ≡ Done
   pub number : cancelAckReading (reading datagram .little) (bodyOf datagram) .number ≡ c .cancels
 
@@ -205,7 +206,12 @@ module _ (c : Client) (ticket : ℕ) (armed : c .cancel ≡ Armed ticket) where
       answers e is =
           let j = acknowledgement-passes c lent r (bodyOf datagram) e is in (
             unfold arrivalPlan arrivalRow cancelAckPlan accepted in ap (λ (x : Event). arrivalRow x c (r .header) n status .answer) is,
-            record { kind = cancel-ack-kind (r .header .kind) is; formed = j .formed; number = sym (j .number) },
+            record {
+              kind = cancel-ack-kind (r .header .kind) is;
+              call = sym (arrival-passes c lent r (bodyOf datagram) e .1 .mine);
+              formed = j .formed;
+              number = sym (j .number);
+            },
           )
 
       by-row : arrivalGround c lent r (bodyOf datagram) ≡ Pass → let d = arrivalRow (eventOf (r .header .kind)) c (r .header) n status .client in
@@ -431,9 +437,11 @@ module _ (c : Client) (datagram slots out : List ℕ) (done : arriving c datagra
 
   pub cancel-ack-answers : AnswersLast c datagram × (off (c .cancel) ≡ false)
   cancel-ack-answers =
-      let j =
-      acknowledgement-passes c (lentGround (length slots) (length out)) (reading datagram) (bodyOf datagram) (arrive-accepted c datagram slots out done) is-ack in
-      (record { kind = typed; formed = j .formed; number = sym (j .number) }, j .armed)
+      let lent = lentGround (length slots) (length out) in
+      let pass = arrive-accepted c datagram slots out done in
+      let j = acknowledgement-passes c lent (reading datagram) (bodyOf datagram) pass is-ack in
+      let call = sym (arrival-passes c lent (reading datagram) (bodyOf datagram) pass .1 .mine) in
+      (record { kind = typed; call = call; formed = j .formed; number = sym (j .number) }, j .armed)
 
   pub cancel-ack-disarms : arriving c datagram slots out .outcome .client ≡ cancelDisarmed c
   unfolding arriving acted sending outcomeOf arrivalRow cancelAckPlan accepted

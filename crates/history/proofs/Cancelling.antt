@@ -143,6 +143,7 @@ stays-armed w (OfClient e) ticket armed active = by-event e refl active
           is = ap OfClient is;
           done = unfold answerTo happens in subst (λ (x : ClientEvent). clientTurn (w .client) x .answer ≡ Done) (sym is) (answered .0);
           kind = answered .1 .kind;
+          call = answered .1 .call;
           number = answered .1 .number;
         })
     arrived p lent out is (inr stays) on =

@@ -40,7 +40,7 @@ use Rattle.history.proofs.ClientArrivals.{whole-handed}
 use Rattle.history.proofs.Refused.{late-nothing}
 use Rattle.history.proofs.Undisturbed.{running-is, undisturbed}
 use Rattle.history.proofs.Cancelling.{some-start, named-cancel, stays-armed}
-use Rattle.history.proofs.CancelRuns.{CancelInv, run-cancels, fresh-cancels, heard-asked-for, told-once, hears-all}
+use Rattle.history.proofs.CancelRuns.{CancelInv, run-cancels, fresh-cancels, heard-asked-for, told-once, told-running, hears-all}
 use Rattle.history.proofs.Histories.{run-inv, run-append, fair-append, run-grows}
 use Rattle.history.proofs.Tickets.{counterOf, run-counts, run-gone, acts-once, armed-afresh}
 
@@ -225,7 +225,8 @@ theorem w fresh events fair =
       counted = cancels-counted (run w events) inv cancels;
       asked = heard-asked-for (run w events) cancels;
       heard = told-once (run w events) cancels;
-      hears = hears-all (run w events) cancels;
+      told = told-running (run w events);
+      hears = hears-all (run w events) inv cancels;
       rules = record { client = inv .client .kept; server = inv .server .kept };
       numbered = numbered (run w events) inv;
     }
