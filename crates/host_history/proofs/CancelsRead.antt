@@ -29,24 +29,23 @@ use Rattle.client_table.specs.Events.{eventOf as clientEventOf}
 use Rattle.client.proofs.Accepting.{arrive-accepted as client-accepted}
 use Rattle.client.proofs.Judging.{acknowledgement-passes}
 use Rattle.client_bytes.specs.Layout.{stateOf as clientState, clientOf, clientIn}
-use Rattle.server_record.specs.declared.State.{State as ServerState}
 use Rattle.server.proofs.Accepting.{arrive-accepted as server-accepted}
 use Rattle.server.proofs.CancelAnswers.{formed-read, taken-formed}
 use Rattle.server.proofs.Cancels.{cancel-touches-nothing}
 use Rattle.server.proofs.Hearing.{reply-deaf, transmit-deaf, fault-deaf, timer-deaf, only-cancel-heard}
 use Rattle.server_bytes.specs.Layout.{serverOf, serverIn}
-use Rattle.history.specs.Lists.{In, andThen}
+use Rattle.history.specs.Lists.{andThen}
 use Rattle.history.specs.World.{Heard, SentPdu, World}
 use Rattle.history.specs.Events.{Lent, Event, Start, ClientTransmit as TransmitOfClient, ClientArrive as ArriveOfClient, ClientTimer as TimerOfClient, ClientCancel as CancelOfClient, ServerArrive as ArriveOfServer, OfClient, OfServer}
 use Rattle.history.specs.Steps.{bytesLent, heardAfter, ofArrival, heardEntry, happens, answerTo, noticeOf, step, run}
-use Rattle.history.specs.Claim.{runs, OnClient, timerIn, namesCancel, clientCalls, Answered, StaysArmed, CancelsCounted, Hears}
+use Rattle.history.specs.Claim.{runs, OnClient, timerIn, namesCancel, clientCalls, Answered, StaysArmed, CancelsCounted, HeardAskedFor, HeardOnce, Hears}
 use Rattle.morphelai.specs.Result.{noticeKind}
 use Rattle.host_history.specs.Results.{noticeIn}
-use Rattle.host_history.specs.Hosts.{HostWorld, worldOf, ClientCall, ServerCall, HostCall, ClientStart, ClientTransmit, ClientArrive, ClientTimer, ClientCancel, ServerArrive, ServerTransmit, ServerTimer, ServerReply, ServerFault, ToClient, ToServer, exported, serverSeen, hostStep}
+use Rattle.host_history.specs.Hosts.{HostWorld, worldOf, ServerCall, HostCall, ClientStart, ClientTransmit, ClientArrive, ClientTimer, ClientCancel, ServerArrive, ServerTransmit, ServerTimer, ServerReply, ServerFault, ToClient, ToServer, exported, serverSeen, hostStep}
 use Rattle.host_history.specs.Meaning.{meant, HostFits, Keeps, Tells}
-use Rattle.host_history.specs.HostReads.{stateByte, NamesCancel, CancelTimer, ArmedWith, cancelNumber, numberCarried}
+use Rattle.host_history.specs.HostReads.{NamesCancel, CancelTimer, ArmedWith, numberCarried}
 use Rattle.host_history.specs.HostBooks.{CancelRead, CancelsRead}
-use Rattle.host_history.specs.HostDemand.{AnswersCancel, CancelStays, CancelNumberCounts, CancelsTold}
+use Rattle.host_history.specs.HostDemand.{AnswersCancel, CancelStays, CancelNumberCounts, CancelsAsked, CancelsOnce, CancelsTold}
 use Rattle.host_history.proofs.Refusals.{refused-leaves}
 use Rattle.host_history.proofs.Unchanged.{refused-same}
 use Rattle.host_history.proofs.SameRun.{same-step, told}
@@ -58,20 +57,20 @@ use Rattle.host_history.proofs.RunsRead.{state-runs}
 
 -- Where the notice is "cancel" there is one more cancel told, else none.
 module _ (before : List Heard) (heard : Heard) where
-  cancel-adds : (n : Notice) → n ≡ Cancel → heardAfter before n heard ≡ andThen before heard
+  heard-adds : (n : Notice) → n ≡ Cancel → heardAfter before n heard ≡ andThen before heard
   unfolding heardAfter
-  cancel-adds n e = ap (λ (m : Notice). heardAfter before m heard) e
+  heard-adds n e = ap (λ (m : Notice). heardAfter before m heard) e
 
-  no-cancel : (n : Notice) → (n ≡ Cancel → ⊥) → heardAfter before n heard ≡ before
+  none-heard : (n : Notice) → (n ≡ Cancel → ⊥) → heardAfter before n heard ≡ before
   unfolding heardAfter
-  no-cancel Untold other = refl
-  no-cancel Last other = refl
-  no-cancel (Count count) other = refl
-  no-cancel (Fault status) other = refl
-  no-cancel (Reject status) other = refl
-  no-cancel (Cause cause) other = refl
-  no-cancel Dispatch other = refl
-  no-cancel Cancel other = absurd (other refl)
+  none-heard Untold other = refl
+  none-heard Last other = refl
+  none-heard (Count count) other = refl
+  none-heard (Fault status) other = refl
+  none-heard (Reject status) other = refl
+  none-heard (Cause cause) other = refl
+  none-heard Dispatch other = refl
+  none-heard Cancel other = absurd (other refl)
 
 untold-cancel : (n : Notice) → n ≡ Untold → n ≡ Cancel → ⊥
 untold-cancel n untold cancel =
@@ -142,14 +141,14 @@ module _ (p : SentPdu) (lent : Lent) (out : List ℕ) where
       ap (arrivalCall (ToClient (ClientArrive q other lent-out))) is
   arrival-call (ToClient (ClientTimer kind ticket lent-out)) is =
       absurd (no-arrival _
-      (choice-keeps (λ (es : List Event). isArrival es ≡ false) (eqb kind 1) _ _ refl
-      (choice-keeps (λ (es : List Event). isArrival es ≡ false) (eqb kind 2) _ _ refl
-      (choice-keeps (λ (es : List Event). isArrival es ≡ false) (eqb kind 4) _ _ refl refl))) is)
+      (choice-keeps (λ (es : List Event). isArrival es ≡ false) _ _ _ refl
+      (choice-keeps (λ (es : List Event). isArrival es ≡ false) _ _ _ refl
+      (choice-keeps (λ (es : List Event). isArrival es ≡ false) _ _ _ refl refl))) is)
   arrival-call (ToClient (ClientCancel lent-out)) is = absurd (no-arrival _ refl is)
   arrival-call (ToServer (ServerArrive q other lent-out)) is = absurd (no-arrival _ refl is)
   arrival-call (ToServer (ServerTransmit message lent-out)) is = absurd (no-arrival _ refl is)
   arrival-call (ToServer (ServerTimer kind ticket lent-out)) is =
-      absurd (no-arrival _ (choice-keeps (λ (es : List Event). isArrival es ≡ false) (eqb kind 3) _ _ refl refl) is)
+      absurd (no-arrival _ (choice-keeps (λ (es : List Event). isArrival es ≡ false) _ _ _ refl refl) is)
   arrival-call (ToServer (ServerReply n message)) is = absurd (no-arrival _ refl is)
   arrival-call (ToServer (ServerFault status lent-out)) is = absurd (no-arrival _ refl is)
 
@@ -208,7 +207,7 @@ module _ (h : HostWorld) (keeps : Keeps h) where
         arrives = refl;
         cancel = sym (kind-there (p .bytes) (known .comes .read)) ∙ known .comes .typed;
         heard = heardEntry (h .books .dispatches) (ofArrival (worldOf h) p (t .answer)) (t .machine);
-        added = cancel-adds (h .books .heard) _ (t .notice) cancel;
+        added = heard-adds (h .books .heard) _ (t .notice) cancel;
         run = refl;
         ordinal = refl;
         number =
@@ -230,7 +229,7 @@ module _ (h : HostWorld) (keeps : Keeps h) where
   server-cancel (ServerTimer kind ticket out) small cancel =
       let call = ToServer (ServerTimer kind ticket out) in
       absurd (deaf call (meant call) (told h call keeps small)
-      (choice-keeps Deaf (eqb kind 3) _ [] (timer-deaf _ ticket out .untold) tt) cancel)
+      (choice-keeps Deaf _ _ _ (timer-deaf _ ticket out .untold) tt) cancel)
   server-cancel (ServerReply n message) small cancel =
       let call = ToServer (ServerReply n message) in
       absurd (deaf call (meant call) (told h call keeps small) (reply-deaf _ n .untold) cancel)
@@ -251,7 +250,7 @@ module _ (h : HostWorld) (keeps : Keeps h) where
       stays (ToClient call) other = unfold hostStep in refl
       stays (ToServer call) other =
           let t = serverSeen (h .server) call in
-          unfold hostStep in no-cancel (h .books .heard) _ (t .notice) other
+          unfold hostStep in none-heard (h .books .heard) _ (t .notice) other
 
   -- CANCEL stays armed until its cancel is answered.
   pub stays-read : StaysArmed (worldOf h) → CancelStays h
@@ -319,3 +318,12 @@ module _ (h : HostWorld) (keeps : Keeps h) where
       tells .notice
       ∙ hears p lent out (state-runs h state) answered kind (subst (λ (n : ℕ). 0 < n) number above)
       (λ heard in-books here. subst (λ (n : ℕ). heard .number < n) number (highest heard in-books here))
+
+-- The cancels told are those of the theorem's world, so they were asked for, and each is told once in a run.
+pub asked-read : (h : HostWorld) → HeardAskedFor (worldOf h) → CancelsAsked h
+unfolding HeardAskedFor CancelsAsked
+asked-read h asked = asked
+
+pub once-read : (h : HostWorld) → HeardOnce (worldOf h) → CancelsOnce h
+unfolding HeardOnce CancelsOnce
+once-read h once = once
