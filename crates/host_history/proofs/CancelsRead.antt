@@ -30,7 +30,6 @@ use Rattle.client_table.specs.Events.{eventOf as clientEventOf}
 use Rattle.client.proofs.Accepting.{arrive-accepted as client-accepted}
 use Rattle.client.proofs.Judging.{acknowledgement-passes}
 use Rattle.client_bytes.specs.Layout.{stateOf as clientState, clientOf, clientIn}
-use Rattle.server.proofs.Accepting.{arrive-accepted as server-accepted}
 use Rattle.server.proofs.CancelAnswers.{WellFormed, formed-read}
 use Rattle.server.proofs.Cancels.{cancel-touches-nothing}
 use Rattle.server.proofs.Hearing.{reply-deaf, transmit-deaf, fault-deaf, timer-deaf, only-cancel-heard}
