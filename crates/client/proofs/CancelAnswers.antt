@@ -212,19 +212,7 @@ module _ (c : Client) (out : List ℕ) where
 
       -- In the three, with a number left,
       module _ (three : Active (c .state)) (below : c .cancels ≡ 4294967295 → ⊥) where
-        -- it is 20 where CANCEL is not armed and no ticket is left;
-        pub ticketless-cancel : c .cancel ≡ Off → c .tickets ≡ 18446744073709551615 → answer ≡ TicketsUsedUp
-        unfolding cancelGround mayCancel ticketGround usedUp off both choose refuseIf
-        ticketless-cancel unarmed last =
-            answered TicketsUsedUp
-            (ap answerOf
-            (passed _ WrongLength _ (eq-eqb _ pduSize sized)
-            ∙ passed _ BrokenRecord _ kept
-            ∙ passed _ NoRow _ (both-hold _ _ (active (c .state) three) (ap not (ne-eqb _ 4294967295 below)))
-            ∙ ap (λ (t : Timer). ticketGround (off t) (c .tickets)) unarmed
-            ∙ ap (λ (t : Bool). refuseIf t TicketsUsedUp) (eq-eqb _ 18446744073709551615 last)))
-
-        -- else it is taken, with a ticket left
+        -- it is taken with a ticket left
         pub first-cancel : c .cancel ≡ Off → (c .tickets ≡ 18446744073709551615 → ⊥) → answer ≡ Done
         unfolding cancelGround mayCancel ticketGround usedUp off both choose refuseIf
         first-cancel unarmed left =
@@ -246,6 +234,18 @@ module _ (c : Client) (out : List ℕ) where
             ∙ passed _ BrokenRecord _ kept
             ∙ passed _ NoRow _ (both-hold _ _ (active (c .state) three) (ap not (ne-eqb _ 4294967295 below)))
             ∙ ap (λ (t : Timer). ticketGround (off t) (c .tickets)) armed))
+
+        -- It is 20 where CANCEL is not armed and no ticket is left.
+        pub ticketless-cancel : c .cancel ≡ Off → c .tickets ≡ 18446744073709551615 → answer ≡ TicketsUsedUp
+        unfolding cancelGround mayCancel ticketGround usedUp off both choose refuseIf
+        ticketless-cancel unarmed last =
+            answered TicketsUsedUp
+            (ap answerOf
+            (passed _ WrongLength _ (eq-eqb _ pduSize sized)
+            ∙ passed _ BrokenRecord _ kept
+            ∙ passed _ NoRow _ (both-hold _ _ (active (c .state) three) (ap not (ne-eqb _ 4294967295 below)))
+            ∙ ap (λ (t : Timer). ticketGround (off t) (c .tickets)) unarmed
+            ∙ ap (λ (t : Bool). refuseIf t TicketsUsedUp) (eq-eqb _ 18446744073709551615 last)))
 
 -- A call that is given up: FAULT, nothing armed, and the rest as it was.
 pub record GivenUp (c d : Client) : Type 0 where
@@ -294,19 +294,8 @@ module _ (c : Client) (ticket : ℕ) (out : List ℕ) where
         ∙ passed _ BrokenRecord _ kept
         ∙ stopped _ NoRow _ (inactive (c .state) other)))
 
-    -- in them it is 18 unless CANCEL is armed with that ticket.
-    pub late-timer : Active (c .state) → (c .cancel ≡ Armed ticket → ⊥) → timed ≡ LateTimer
-    unfolding timerGround namedBy namedTimer lateGround
-    late-timer three other =
-        timed-by LateTimer
-        (ap answerOf
-        (passed _ WrongLength _ (eq-eqb _ pduSize sized)
-        ∙ passed _ BrokenRecord _ kept
-        ∙ passed _ NoRow _ (active (c .state) three)
-        ∙ stopped _ LateTimer _ (not-armed-with (c .cancel) ticket other)))
-
     module _ (armed : c .cancel ≡ Armed ticket) where
-      -- Where it is, it is taken,
+      -- where CANCEL is armed with its ticket, it is taken,
       pub own-timer : timed ≡ Done
       unfolding timerGround namedBy namedTimer lateGround ticketGround pings both choose refuseIf
       own-timer =
@@ -349,6 +338,17 @@ module _ (c : Client) (ticket : ℕ) (out : List ℕ) where
         cancels = ap (λ (p : Plan). p .client .cancels) acts;
         tickets = ap (λ (p : Plan). p .client .tickets) acts;
       }
+
+    -- In the three, with any other ticket or CANCEL not armed, it is 18.
+    pub late-timer : Active (c .state) → (c .cancel ≡ Armed ticket → ⊥) → timed ≡ LateTimer
+    unfolding timerGround namedBy namedTimer lateGround
+    late-timer three other =
+        timed-by LateTimer
+        (ap answerOf
+        (passed _ WrongLength _ (eq-eqb _ pduSize sized)
+        ∙ passed _ BrokenRecord _ kept
+        ∙ passed _ NoRow _ (active (c .state) three)
+        ∙ stopped _ LateTimer _ (not-armed-with (c .cancel) ticket other)))
 
 -- A PDU of a type comes: the record keeps its rules, the buffers lent have their lengths, and the reader takes the datagram
 -- as a PDU of the record's activity, of that type.
