@@ -1,5 +1,5 @@
--- What a host reads of a datagram that an arrival took is what the reader gives: its type, and the number of a cancel or
--- a cancel_ack.
+-- What a host reads of a datagram that the reader takes is what the reader gives: its type, its call number, and the number
+-- of a cancel or a cancel_ack.
 use Prim.Native.Nat.{ℕ, zero, suc, _+_}
 use mathlib.Core.Bool.{Bool, true, false}
 use mathlib.Core.List.{List, _∷_}
@@ -21,14 +21,12 @@ use Rattle.writer.proofs.RoundTrip.{accepted-readable, accepted-reading}
 use Rattle.grounds.specs.Entry.{lentGround}
 use Rattle.client.proofs.Accepting.{arrive-accepted as client-accepted}
 use Rattle.client.proofs.Judging.{arrival-passes as client-passes}
-use Rattle.server.proofs.Accepting.{arrive-accepted as server-accepted}
-use Rattle.server.proofs.Judging.{arrival-passes as server-passes}
 use Rattle.history.specs.World.{SentPdu, World}
-use Rattle.history.specs.Events.{Lent, ClientArrive, ServerArrive, OfClient, OfServer}
+use Rattle.history.specs.Events.{Lent, ClientArrive, OfClient}
 use Rattle.history.specs.Steps.{bytesLent, happens, answerTo}
-use Rattle.host_history.specs.HostReads.{typeByte, numberCarried}
+use Rattle.host_history.specs.HostReads.{typeByte, callCarried, numberCarried}
 
--- What is answered 0 was read: at the client,
+-- What the client answers 0 was read.
 module _ (w : World) (p : SentPdu) (lent : Lent) (out : List ℕ) where
   pub client-took : answerTo w (OfClient (ClientArrive p lent out)) ≡ Done → reading (p .bytes) .answer ≡ Done
   unfolding answerTo happens
@@ -36,14 +34,6 @@ module _ (w : World) (p : SentPdu) (lent : Lent) (out : List ℕ) where
       let slots = bytesLent lent (w .client .slots) in
       client-passes (w .client .machine) (lentGround (length slots) (length out)) (reading (p .bytes))
       (bodyOf (p .bytes)) (client-accepted (w .client .machine) (p .bytes) slots out done) .0 .done
-
-  -- and at the server.
-  pub server-took : answerTo w (OfServer (ServerArrive p lent out)) ≡ Done → reading (p .bytes) .answer ≡ Done
-  unfolding answerTo happens
-  server-took done =
-      let slots = bytesLent lent (w .server .slots) in
-      server-passes (w .server .machine) (lentGround (length slots) (length out)) (reading (p .bytes))
-      (bodyOf (p .bytes)) (server-accepted (w .server .machine) (p .bytes) slots out done) .0 .done
 
 -- The order of a representation that is known is told by its first byte.
 order-there : (a b c : ℕ) → either (represents 16 a b c) (represents 0 a b c) ≡ true → represents 16 a b c ≡ eqb a 16
@@ -70,11 +60,19 @@ module _ (s : List ℕ) (done : reading s .answer ≡ Done) where
   unfolding headerOf
   kind-there = ap (λ (r : Reading). r .header .kind) (accepted-reading s done)
 
+  little-there : orderIs 16 s ≡ eqb (getD s 4 0) 16
+  unfolding orderIs
+  little-there = order-there (getD s 4 0) (getD s 5 0) (getD s 6 0) (accepted-readable s done .known-order)
+
+  -- the call number at 64,
+  pub call-there : reading s .header .number ≡ callCarried s
+  unfolding headerOf
+  call-there =
+      ap (λ (r : Reading). r .header .number) (accepted-reading s done) ∙ ap (λ (t : Bool). number 4 t s 64) little-there
+
   -- and the second word of the body at 84.
   pub carried-there : number 4 (reading s .little) (bodyOf s) 4 ≡ numberCarried s
-  unfolding number bodyOf orderIs
+  unfolding number bodyOf
   carried-there =
-      let little : reading s .little ≡ eqb (getD s 4 0) 16 =
-      ap (λ (r : Reading). r .little) (accepted-reading s done)
-      ∙ order-there (getD s 4 0) (getD s 5 0) (getD s 6 0) (accepted-readable s done .known-order) in
+      let little = ap (λ (r : Reading). r .little) (accepted-reading s done) ∙ little-there in
       λ i. value (little i) (part-drop 4 headerSize s 4 i)

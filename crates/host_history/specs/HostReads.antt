@@ -72,13 +72,23 @@ timerCall CancelTimer ticket out = ToClient (ClientTimer 4 ticket out)
 timerCall ResendTimer ticket out = ToServer (ServerTimer 3 ticket out)
 
 -- The cancel number of four bytes stands at 68: of the client that of its last cancel, of the server the last seen.
-abbrev pub cancelNumber : Side (List ℕ) → ℕ
-cancelNumber side = numberAt 4 true (side .machine) 68
+abbrev pub lastCancel : Side (List ℕ) → ℕ
+lastCancel side = numberAt 4 true (side .machine) 68
 
--- Of a datagram its type stands at 1, and 16 at 4 where its sender is little-endian. A cancel and a cancel_ack have
--- their cancel number of four bytes at 84, in the sender's order.
+-- The call number of four bytes stands at 16, the activity's 16 bytes at 96.
+abbrev pub lastCall : Side (List ℕ) → ℕ
+lastCall side = numberAt 4 true (side .machine) 16
+
+abbrev pub activityBytes : Side (List ℕ) → List ℕ
+activityBytes side = part 16 (side .machine) 96
+
+-- Of a datagram its type stands at 1, and 16 at 4 where its sender is little-endian. In the sender's order there are its
+-- call number of four bytes at 64, and of a cancel and a cancel_ack the cancel number of four bytes at 84.
 abbrev pub typeByte : List ℕ → ℕ
 typeByte datagram = getD datagram 1 0
+
+abbrev pub callCarried : List ℕ → ℕ
+callCarried datagram = numberAt 4 (eqb (getD datagram 4 0) 16) datagram 64
 
 abbrev pub numberCarried : List ℕ → ℕ
 numberCarried datagram = numberAt 4 (eqb (getD datagram 4 0) 16) datagram 84
@@ -86,7 +96,7 @@ numberCarried datagram = numberAt 4 (eqb (getD datagram 4 0) 16) datagram 84
 -- A dispatch is what a host reads of the server: the parts of the message, and the call data in the record's bytes.
 pub record ReadsDispatch (server : Side (List ℕ)) (d : Dispatched) : Type 0 where
   pub parts : serverParts server ≡ d .bytes
-  pub number : numberAt 4 true (server .machine) 16 ≡ d .number
+  pub number : lastCall server ≡ d .number
   pub operation : numberAt 2 true (server .machine) 14 ≡ d .call .operation
   pub version : numberAt 4 true (server .machine) 20 ≡ d .call .version
   pub object : part 16 (server .machine) 112 ≡ d .call .object
