@@ -1,7 +1,7 @@
 -- What the client makes of cancels: what a local cancel sends and leaves, and that CANCEL stays armed until the cancel is
 -- answered or the call ends.
 use Prim.Native.Nat.{ℕ, _+_, _<_}
-use mathlib.Core.Bool.{Bool, true, false, true≢false, false≢true}
+use mathlib.Core.Bool.{Bool, true, false, false≢true}
 use mathlib.Core.List.{List, []}
 use mathlib.Core.Logic.{_⊎_, inl, inr}
 use mathlib.Core.Path.{_≡_, refl, sym, ap, subst, _∙_}
@@ -9,7 +9,7 @@ use native.Mathlib.Omega.{arith}
 use lib.Dec.{ltb}
 use lib.ListN.{length}
 use Rattle.words.specs.Choice.{choose}
-use Rattle.words.specs.Sizes.{pduSize, retryLimit}
+use Rattle.words.specs.Sizes.{retryLimit}
 use Rattle.answers.specs.declared.Answer.the-variants.{Done}
 use Rattle.answers.specs.declared.Ground.{Ground}
 use Rattle.answers.specs.declared.Ground.the-variants.{Pass, Refuse}
@@ -32,7 +32,7 @@ use Rattle.reader.specs.Reading.{reading}
 use Rattle.writer.proofs.RoundTrip.{Fits, read-written, body-written}
 use Rattle.timers.specs.declared.Timer.{Timer}
 use Rattle.timers.specs.declared.Timer.the-variants.{Off, Armed}
-use Rattle.timers.specs.Tickets.{usedUp, nextTicket, armedAfresh, armedIfOff, ticketsIfOff, off}
+use Rattle.timers.specs.Tickets.{usedUp, armedAfresh, armedIfOff, ticketsIfOff, off}
 use Rattle.timers.proofs.TimerLaws.{next-is, off-has-none}
 use Rattle.grounds.specs.Entry.{lentGround}
 use Rattle.grounds.specs.Fragment.{isLast, bodyLength}
@@ -62,7 +62,6 @@ use Rattle.client.specs.Sending.{pduHeader, sentOut}
 use Rattle.client.specs.Machine.{outcomeOf, sending, planOf, acted, starting, transmitting, timing, cancelling, arriving}
 use Rattle.client.proofs.Judging.{start-passes, cancel-passes, arrival-passes, acknowledgement-passes}
 use Rattle.client.proofs.Accepting.{start-accepted, cancel-accepted, arrive-row, arrive-accepted}
-use Rattle.client.proofs.Exact.{cancel-number}
 use Rattle.client.proofs.Sends.{cancel-whole}
 
 -- A call whose CANCEL is armed is active,

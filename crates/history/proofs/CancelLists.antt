@@ -1,15 +1,15 @@
 -- How often cancels are on the books, and which dispatch a run is of.
 use Prim.Native.Nat.{ℕ, _+_, _≤_, _<_}
 use mathlib.Core.Bool.{Bool, true, false}
-use mathlib.Core.List.{List, [], _∷_, _++_, append-assoc}
-use mathlib.Core.Logic.{_⊎_, inl, inr}
+use mathlib.Core.List.{List, [], _∷_, append-assoc}
+use mathlib.Core.Logic.{inl, inr}
 use mathlib.Core.Path.{_≡_, refl, sym, ap, _∙_}
 use native.Mathlib.Omega.{arith}
 use lib.Dec.{eqb}
-use lib.ListN.{length, length-append}
+use lib.ListN.{length}
 use borrow.Author.Tests.{eq-eqb, eqb-true, ne-eqb}
 use Rattle.words.specs.Choice.{choose, both}
-use Rattle.words.proofs.Tests.{choose-true, choose-false, both-hold, both-true}
+use Rattle.words.proofs.Tests.{choose-true, choose-false, both-true}
 use Rattle.history.specs.Lists.{In, andThen}
 use Rattle.history.specs.World.{Dispatched, Cancelled, Heard}
 use Rattle.history.specs.Steps.{lastDispatched}

@@ -11,7 +11,6 @@ use Rattle.words.specs.Choice.{choose}
 use Rattle.words.specs.Sizes.{retryLimit}
 use Rattle.answers.specs.declared.Answer.the-variants.{Done}
 use Rattle.answers.specs.declared.Ground.{Ground}
-use Rattle.answers.specs.declared.Ground.the-variants.{Pass}
 use Rattle.bodies.specs.declared.CancelReading.{CancelReading}
 use Rattle.bodies.proofs.CancelTrip.{cancel-read}
 use Rattle.calls.specs.declared.Notice.{Notice}

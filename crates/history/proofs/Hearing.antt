@@ -1,35 +1,25 @@
 -- What the stub is told of cancels: only what was asked for, once in a run, and all that comes in time.
 use Prim.Native.Nat.{ℕ, _+_, _≤_, _<_}
 use mathlib.Core.Bool.{Bool, true, false, false≢true}
-use mathlib.Core.List.{List, [], _∷_}
+use mathlib.Core.List.{List}
 use mathlib.Core.Logic.{_⊎_, inl, inr}
 use mathlib.Core.Path.{_≡_, refl, sym, ap, subst, _∙_}
 use native.Mathlib.Omega.{arith}
 use lib.Dec.{ltb}
 use lib.ListN.{length, length-append}
-use borrow.Author.Tests.{ltb-true, lt-ltb}
+use borrow.Author.Tests.{ltb-true}
 use Rattle.words.specs.Choice.{choose}
-use Rattle.words.specs.Sizes.{retryLimit}
-use Rattle.words.proofs.Tests.{choose-true}
-use Rattle.answers.specs.declared.Answer.{Answer}
-use Rattle.answers.specs.declared.Answer.the-variants.{Done, OldCall, NoRow, Repeated}
-use Rattle.answers.specs.declared.Ground.{Ground}
-use Rattle.answers.specs.declared.Ground.the-variants.{Pass}
-use Rattle.answers.specs.Number.{numberOf}
+use Rattle.answers.specs.declared.Answer.the-variants.{Done}
 use Rattle.bodies.specs.declared.CancelReading.{CancelReading}
 use Rattle.bodies.specs.Cancel.{cancelReading}
 use Rattle.calls.specs.declared.Notice.{Notice}
 use Rattle.calls.specs.declared.Notice.the-variants.{Nothing as Untold, Dispatch, Cancel as CancelTold}
 use Rattle.flags.specs.Flags.{idempotent, hasFlag}
-use Rattle.grounds.specs.Entry.{lentGround}
 use Rattle.grounds.specs.Fragment.{isLast, bodyLength}
-use Rattle.grounds.proofs.PassLaws.{refusal-stops}
 use Rattle.incoming.specs.Slots.{cleared, complete, stored}
-use Rattle.outgoing.specs.Sending.{sendsLast}
 use Rattle.pdu.specs.declared.Header.{Header}
 use Rattle.pdu.specs.Header.{bodyOf}
 use Rattle.reader.specs.Reading.{reading}
-use Rattle.server_record.specs.declared.Idle.the-variants.{Fresh, Spent, Repeatable}
 use Rattle.server_record.specs.declared.Reply.{Reply}
 use Rattle.server_record.specs.declared.Reply.the-variants.{Data, Fault}
 use Rattle.server_record.specs.declared.State.{State}
@@ -38,12 +28,9 @@ use Rattle.server_record.specs.declared.Server.{Server}
 use Rattle.server_record.specs.States.{isFresh, isHeld}
 use Rattle.server_record.specs.Record.{unarmed, withOutgoing, withIncoming, withSeen}
 use Rattle.server_record.proofs.StateLaws.{held-state}
-use Rattle.server_rows.specs.declared.Order.{Order}
-use Rattle.server_rows.specs.declared.Order.the-variants.{Below, Equal, Newer}
 use Rattle.server_rows.specs.declared.Row.{Row}
 use Rattle.server_rows.specs.declared.Row.the-variants.{Old, Missing, Repeat, Begin, Put, Working, Nocall, Replay, Acknowledge, Finish, AcceptCancel, DeclineCancel}
 use Rattle.server_rows.specs.Events.{eventOf}
-use Rattle.server_rows.specs.Table.{cancelEqual, cancelRow}
 use Rattle.server_rows.specs.Rows.{orderFor, rowFor}
 use Rattle.server_rows.proofs.TableLaws.{put-told, replay-told, acknowledge-told, accept-told}
 use Rattle.server_steps.specs.declared.Plan.{Plan}
@@ -52,13 +39,12 @@ use Rattle.server_steps.specs.Plan.{accepted, refused}
 use Rattle.server_steps.specs.Rows.{rewinding, replayHeld, replayPlan}
 use Rattle.server_arrivals.specs.Rows.{begun, putState, putNotice, putPlan, requestPlan, beginPlan, workingPlan, nocallPlan, fackPlan, ackPlan, heardPlan, acceptPlan, declinePlan}
 use Rattle.server_arrivals.specs.Table.{arrivalRow}
-use Rattle.server_arrivals.proofs.CancelLaws.{above-heard}
-use Rattle.server.specs.Machine.{outcomeOf, sending, planOf, acted, arriving}
+use Rattle.server.specs.Machine.{outcomeOf, sending, acted, arriving}
 use Rattle.server.proofs.Accepting.{arrive-row}
-use Rattle.server.proofs.CancelAnswers.{cancel-row, cancelNumber, formed-read}
-use Rattle.server.proofs.Hearing.{HeardCancel, only-cancel-heard}
+use Rattle.server.proofs.CancelAnswers.{cancelNumber, formed-read}
+use Rattle.server.proofs.Hearing.{only-cancel-heard}
 use Rattle.history.specs.Lists.{In, andThen}
-use Rattle.history.specs.World.{callNumber, Dispatched, Cancelled, Heard, SentPdu, World}
+use Rattle.history.specs.World.{Dispatched, Cancelled, Heard, SentPdu, World}
 use Rattle.history.specs.Steps.{lastStart, dispatchesAfter, heardAfter, Subject, cancelOf, ofArrival, heardEntry}
 use Rattle.history.specs.Claim.{timesHeard, AskedFor, RunOf}
 use Rattle.history.proofs.ListLaws.{in-grown, in-added}

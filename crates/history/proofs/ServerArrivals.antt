@@ -15,7 +15,6 @@ use Rattle.answers.specs.declared.Answer.the-variants.{Done, OldCall, NoRow, Re
 use Rattle.answers.specs.declared.Ground.{Ground}
 use Rattle.answers.specs.declared.Ground.the-variants.{Pass}
 use Rattle.bodies.specs.Cancel.{cancelReading}
-use Rattle.calls.specs.declared.Notice.the-variants.{Nothing as Untold}
 use Rattle.flags.specs.Flags.{idempotent, hasFlag}
 use Rattle.fragments.specs.Slots.{storing}
 use Rattle.outgoing.specs.Sending.{acknowledgedTo}

@@ -15,7 +15,7 @@ use Rattle.history.specs.World.{World}
 use Rattle.history.specs.Freshness.{Fresh}
 use Rattle.history.specs.Claim.{replyHandedUp}
 use Rattle.history.proofs.Beginning.{client-record-fresh, server-record-fresh}
-use Rattle.runs.specs.Runs.{Story, Ran, Told, timersIn, activity, called, asking, before, lossy, lossyNotices, lossyClientPdus, lossyServerPdus, twice, twiceNotices, twiceClientPdus, twiceServerPdus, twiceAndNext, twiceAndNextNotices, twiceAndNextClientPdus, twiceAndNextServerPdus, question, secondReply, nextReply, exampleMessage, exampleReply, zeros}
+use Rattle.runs.specs.Runs.{Story, Ran, Told, timersIn, activity, called, asking, before, lossy, lossyNotices, lossyClientPdus, lossyServerPdus, twice, twiceClientPdus, twiceServerPdus, twiceAndNext, twiceAndNextNotices, twiceAndNextClientPdus, twiceAndNextServerPdus, question, secondReply, nextReply, exampleMessage, exampleReply, zeros}
 use Rattle.runs.specs.Stops.{stopped, unanswered, stoppedNotices, unansweredNotices, stopClientPdus, stoppedServerPdus, unansweredServerPdus, stopCancels, toldOf}
 use Rattle.runs.proofs.Stories.{Plays}
 use Rattle.runs.proofs.Lossy.{reply-whole as lossy-reply, plays-lossy}
