@@ -7,14 +7,15 @@ use mathlib.Core.Logic.{_⊎_, inl, inr}
 use mathlib.Core.Path.{_≡_, refl, sym, ap, subst, _∙_}
 use native.Mathlib.Omega.{arith}
 use lib.Dec.{eqb}
-use lib.ListN.{length}
+use lib.ListN.{length, length-drop}
 use borrow.Author.Tests.{eqb-true}
 use Rattle.words.specs.Choice.{choose}
+use Rattle.words.specs.Sizes.{headerSize}
 use Rattle.answers.specs.declared.Answer.the-variants.{Done}
 use Rattle.bodies.specs.declared.CancelReading.{CancelReading}
 use Rattle.bodies.specs.declared.CancelAckReading.{CancelAckReading}
 use Rattle.bodies.specs.Cancel.{cancelReading, cancelAckReading}
-use Rattle.bodies.proofs.CancelTrip.{cancel-read, cancel-ack-read}
+use Rattle.bodies.proofs.CancelTrip.{cancel-ack-read}
 use Rattle.calls.specs.declared.Notice.{Notice}
 use Rattle.calls.specs.declared.Notice.the-variants.{Nothing as Untold, Last, Count, Fault, Reject, Cause, Dispatch, Cancel}
 use Rattle.grounds.specs.Entry.{lentGround}
@@ -43,16 +44,16 @@ use Rattle.morphelai.specs.Result.{noticeKind}
 use Rattle.host_history.specs.Results.{noticeIn}
 use Rattle.host_history.specs.Hosts.{HostWorld, worldOf, ServerCall, HostCall, ClientStart, ClientTransmit, ClientArrive, ClientTimer, ClientCancel, ServerArrive, ServerTransmit, ServerTimer, ServerReply, ServerFault, ToClient, ToServer, exported, serverSeen, hostStep}
 use Rattle.host_history.specs.Meaning.{meant, HostFits, Keeps, Tells}
-use Rattle.host_history.specs.HostReads.{NamesCancel, CancelTimer, ArmedWith, numberCarried}
+use Rattle.host_history.specs.HostReads.{NamesCancel, CancelTimer, ArmedWith, versionCarried, numberCarried}
 use Rattle.host_history.specs.HostBooks.{CancelRead, CancelsRead}
-use Rattle.host_history.specs.HostDemand.{CancelAnswered, CancelStays, CancelNumberCounts, CancelsAsked, CancelsOnce, CancelsTold}
+use Rattle.host_history.specs.HostDemand.{CancelAnswered, CancelStays, CancelNumberCounts, CancelsAsked, CancelsOnce, OwnCancel, CancelsTold}
 use Rattle.host_history.proofs.Refusals.{refused-leaves}
 use Rattle.host_history.proofs.Unchanged.{refused-same}
 use Rattle.host_history.proofs.SameRun.{same-step, told}
 use Rattle.host_history.proofs.BooksRead.{runs-there, client-told}
 use Rattle.host_history.proofs.Notices.{ClientTells}
 use Rattle.host_history.proofs.TimersRead.{armed-told, armed-read}
-use Rattle.host_history.proofs.Datagrams.{client-took, kind-there, call-there, carried-there}
+use Rattle.host_history.proofs.Datagrams.{client-took, read-took, kind-there, activity-there, call-there, version-there, carried-there}
 use Rattle.host_history.proofs.RunsRead.{state-runs}
 
 -- Where the notice is "cancel" there is one more cancel told, else none.
@@ -82,6 +83,14 @@ carried : (datagram : List ℕ) → reading datagram .answer ≡ Done → WellFo
     → cancelReading (reading datagram .little) (bodyOf datagram) .number ≡ numberCarried datagram
 carried datagram read formed =
     ap (λ (r : CancelReading). r .number) (formed-read datagram formed) ∙ carried-there datagram read
+
+-- as one of 88 bytes with version 0 is;
+well-formed : (s : List ℕ) → reading s .answer ≡ Done → length s ≡ 88 → versionCarried s ≡ 0 → WellFormed s
+unfolding bodyOf
+well-formed s done size version = record {
+  size = omega (arith, length-drop headerSize s, size);
+  version = version-there s done ∙ version;
+}
 
 -- and so is that of a cancel_ack that was taken.
 module _ (w : World) (p : SentPdu) (lent : Lent) (out : List ℕ) where
@@ -302,28 +311,36 @@ module _ (h : HostWorld) (keeps : Keeps h) where
   unfolding CancelsCounted CancelNumberCounts clientIn clientOf fieldsIn
   counted-read counted other = counted (called-byte _ other)
 
-  -- A cancel that comes in time is taken and told.
-  pub hears-read : Hears (worldOf h) → CancelsTold h
-  unfolding Hears CancelsTold meant serverIn serverOf fieldsIn
-  hears-read hears p lent out small state comes above highest =
-      let call = ToServer (ServerArrive p lent out) in
-      let tells = told h call keeps small in
+  -- A cancel of the server's call is one in the theorem's world,
+  own-read : (p : SentPdu) (lent : Lent) (out : List ℕ) → OwnCancel h p lent out → OfHistory (worldOf h) p lent out
+  unfolding serverIn serverOf fieldsIn
+  own-read p lent out comes =
+      let s = p .bytes in
+      let took = read-took s (comes .header) (comes .read) in
       let whole = keeps .server .size in
-      let read = cancel-read (reading (p .bytes) .little) (bodyOf (p .bytes)) (comes .formed) in
-      let number =
-      sym (carried (p .bytes) (comes .read) (record { size = read .size; version = read .version })) in
-      let own : OfHistory (worldOf h) p lent out =
       record {
         slotted = comes .slotted;
         room = comes .room;
-        read = comes .read;
-        kind = kind-there (p .bytes) (comes .read) ∙ comes .cancel;
-        activity = comes .activity ∙ sym (uuid-part (h .server .machine) 96 (omega (arith, whole)));
-        call = call-there (p .bytes) (comes .read) ∙ comes .call;
-        formed = comes .formed;
-      } in
+        read = took;
+        kind = kind-there s took ∙ comes .cancel;
+        activity =
+            activity-there s took ∙ comes .activity
+            ∙ sym (uuid-part (h .server .machine) 96 (omega (arith, whole)));
+        call = call-there s took ∙ comes .call;
+        formed =
+            ap (λ (r : CancelReading). r .answer)
+            (formed-read s (well-formed s took (comes .size) (comes .version)));
+      }
+
+  -- and one that comes in time is taken and told.
+  pub hears-read : Hears (worldOf h) → CancelsTold h
+  unfolding Hears CancelsTold meant
+  hears-read hears p lent out small state comes above highest =
+      let tells = told h (ToServer (ServerArrive p lent out)) keeps small in
+      let took = read-took (p .bytes) (comes .header) (comes .read) in
+      let number = sym (carried (p .bytes) took (well-formed (p .bytes) took (comes .size) (comes .version))) in
       let heard =
-      hears p lent out (state-runs h state) own (subst (λ (n : ℕ). 0 < n) number above)
+      hears p lent out (state-runs h state) (own-read p lent out comes) (subst (λ (n : ℕ). 0 < n) number above)
       (λ entry in-books here. subst (λ (n : ℕ). entry .number < n) number (highest entry in-books here)) in
       (tells .answer ∙ heard .0, tells .notice ∙ heard .1)
 
