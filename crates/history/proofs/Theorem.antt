@@ -6,7 +6,6 @@ use mathlib.Core.Logic.{_⊎_, inl, inr}
 use mathlib.Core.Path.{_≡_, refl, sym, ap, subst, _∙_}
 use native.Mathlib.Omega.{arith}
 use lib.Dec.{eqb}
-use Rattle.words.specs.Choice.{choose}
 use Rattle.fragments.specs.Joined.{Leads}
 use Rattle.fragments.proofs.BufferLaws.{joined}
 use Rattle.timers.specs.declared.Timer.the-variants.{Armed}
@@ -24,7 +23,7 @@ use Rattle.server_record.specs.States.{isHeld, isFresh, neverCalled}
 use Rattle.server_record.specs.declared.State.{State as ServerState}
 use Rattle.server_record.specs.declared.State.the-variants.{Idle, Collect, Running, Replying, Held}
 use Rattle.server_record.proofs.RuleLaws.{resend-off, rules-told as server-rules-told}
-use Rattle.history.specs.Lists.{In}
+use Rattle.history.specs.Lists.{In, howMany}
 use Rattle.history.specs.World.{callNumber, Started, Dispatched, SentPdu, World}
 use Rattle.history.specs.Events.{Event}
 use Rattle.history.specs.Steps.{lastStart, run}
@@ -240,8 +239,7 @@ acks-told w fresh events fair = run-inv w events (fresh-inv w fresh) fair .acks
 -- The same by call numbers, which today name starts for good: a number whose start is not idempotent is dispatched at
 -- most once.
 abbrev timesNumbered : ℕ → List Dispatched → ℕ
-timesNumbered n [] = 0
-timesNumbered n (d ∷ ds) = choose (eqb n (d .number)) 1 0 + timesNumbered n ds
+timesNumbered n = howMany (λ d. eqb n (d .number))
 
 same-times : (n : ℕ) (ds : List Dispatched) → ((d : Dispatched) → In d ds → d .number ≡ callNumber (d .ordinal)) → timesNumbered n ds ≡ times n ds
 same-times n [] all = refl

@@ -1,20 +1,21 @@
--- Of cancels: what a host is told and reads of them, that CANCEL stays armed, and that the client's cancel number counts
--- them.
-use Prim.Native.Nat.{ℕ, _<_}
+-- Of cancels: what a host is told and reads of them, that CANCEL stays armed, and that the client's cancel number
+-- counts them.
+use Prim.Native.Nat.{ℕ, _+_, _<_, _≤_}
 use mathlib.Core.Bool.{Bool, true, false, false≢true}
 use mathlib.Core.List.{List, [], _∷_}
 use mathlib.Core.Logic.{_⊎_, inl, inr}
 use mathlib.Core.Path.{_≡_, refl, sym, ap, subst, _∙_}
 use native.Mathlib.Omega.{arith}
 use lib.Dec.{eqb}
-use lib.ListN.{length}
+use lib.ListN.{length, length-drop}
 use borrow.Author.Tests.{eqb-true}
 use Rattle.words.specs.Choice.{choose}
+use Rattle.words.specs.Sizes.{headerSize}
 use Rattle.answers.specs.declared.Answer.the-variants.{Done}
 use Rattle.bodies.specs.declared.CancelReading.{CancelReading}
 use Rattle.bodies.specs.declared.CancelAckReading.{CancelAckReading}
-use Rattle.bodies.specs.Cancel.{cancelReading, cancelAckReading}
-use Rattle.bodies.proofs.CancelTrip.{cancel-read, cancel-ack-read}
+use Rattle.bodies.specs.Cancel.{cancelAckReading}
+use Rattle.bodies.proofs.CancelTrip.{cancel-ack-read}
 use Rattle.calls.specs.declared.Notice.{Notice}
 use Rattle.calls.specs.declared.Notice.the-variants.{Nothing as Untold, Last, Count, Fault, Reject, Cause, Dispatch, Cancel}
 use Rattle.grounds.specs.Entry.{lentGround}
@@ -22,12 +23,12 @@ use Rattle.pdu.specs.Header.{bodyOf}
 use Rattle.reader.specs.Reading.{reading}
 use Rattle.timers.specs.declared.Timer.the-variants.{Armed}
 use Rattle.record_bytes.specs.Layout.{fieldsIn}
-use Rattle.record_bytes.proofs.Keeping.{choice-by, choice-keeps}
 use Rattle.record_bytes.proofs.PartLaws.{uuid-part}
+use Rattle.record_bytes.proofs.Keeping.{choice-by, choice-keeps}
 use Rattle.client_record.specs.declared.State.{State as ClientState}
 use Rattle.client_record.specs.declared.TimerKind.the-variants.{Cancel as CancelKind}
 use Rattle.client_table.specs.Events.{eventOf as clientEventOf}
-use Rattle.client.proofs.Accepting.{arrive-accepted as client-accepted}
+use Rattle.client.proofs.Accepting.{arrive-accepted}
 use Rattle.client.proofs.Judging.{acknowledgement-passes}
 use Rattle.client_bytes.specs.Layout.{stateOf as clientState, clientOf, clientIn}
 use Rattle.server.proofs.CancelAnswers.{WellFormed, formed-read}
@@ -37,22 +38,22 @@ use Rattle.server_bytes.specs.Layout.{serverOf, serverIn}
 use Rattle.history.specs.Lists.{andThen}
 use Rattle.history.specs.World.{Heard, SentPdu, World}
 use Rattle.history.specs.Events.{Lent, Event, Start, ClientTransmit as TransmitOfClient, ClientArrive as ArriveOfClient, ClientTimer as TimerOfClient, ClientCancel as CancelOfClient, ServerArrive as ArriveOfServer, OfClient, OfServer}
-use Rattle.history.specs.Steps.{bytesLent, heardAfter, ofArrival, heardEntry, happens, answerTo, noticeOf, step, run}
-use Rattle.history.specs.Claim.{runs, OnClient, timerIn, namesCancel, clientCalls, Answered, StaysArmed, CancelsCounted, HeardAskedFor, HeardOnce, OwnCancel as OfHistory, Hears}
+use Rattle.history.specs.Steps.{bytesLent, heardAfter, cancelOf, ofArrival, heardEntry, happens, answerTo, noticeOf, step, run}
+use Rattle.history.specs.Claim.{runs, OnClient, timerIn, namesCancel, clientCalls, Answered, StaysArmed, CancelsCounted, HeardAskedFor, HeardOnce, OwnCancel as ComesOwn, Hears}
 use Rattle.morphelai.specs.Result.{noticeKind}
 use Rattle.host_history.specs.Results.{noticeIn}
 use Rattle.host_history.specs.Hosts.{HostWorld, worldOf, ServerCall, HostCall, ClientStart, ClientTransmit, ClientArrive, ClientTimer, ClientCancel, ServerArrive, ServerTransmit, ServerTimer, ServerReply, ServerFault, ToClient, ToServer, exported, serverSeen, hostStep}
 use Rattle.host_history.specs.Meaning.{meant, HostFits, Keeps, Tells}
-use Rattle.host_history.specs.HostReads.{NamesCancel, CancelTimer, ArmedWith, numberCarried}
+use Rattle.host_history.specs.HostReads.{NamesCancel, CancelTimer, ArmedWith, versionCarried, cancelCarried}
 use Rattle.host_history.specs.HostBooks.{CancelRead, CancelsRead}
-use Rattle.host_history.specs.HostDemand.{CancelAnswered, CancelStays, CancelNumberCounts, CancelsAsked, CancelsOnce, CancelsTold}
+use Rattle.host_history.specs.HostDemand.{CancelAnswered, CancelStays, CancelNumberCounts, CancelsAsked, CancelsOnce, OwnCancel, CancelsTold}
 use Rattle.host_history.proofs.Refusals.{refused-leaves}
 use Rattle.host_history.proofs.Unchanged.{refused-same}
 use Rattle.host_history.proofs.SameRun.{same-step, told}
 use Rattle.host_history.proofs.BooksRead.{runs-there, client-told}
 use Rattle.host_history.proofs.Notices.{ClientTells}
 use Rattle.host_history.proofs.TimersRead.{armed-told, armed-read}
-use Rattle.host_history.proofs.Datagrams.{client-took, kind-there, call-there, carried-there}
+use Rattle.host_history.proofs.Datagrams.{client-took, read-took, kind-there, activity-there, call-there, version-there, carried-there}
 use Rattle.host_history.proofs.RunsRead.{state-runs}
 
 -- Where the notice is "cancel" there is one more cancel told, else none.
@@ -77,25 +78,32 @@ untold-cancel n untold cancel =
     let e : noticeKind Untold ≡ noticeKind Cancel = ap noticeKind (sym untold ∙ cancel) in
     omega (arith, e)
 
--- The number of a cancel that is well formed is the one that it carries,
-carried : (datagram : List ℕ) → reading datagram .answer ≡ Done → WellFormed datagram
-    → cancelReading (reading datagram .little) (bodyOf datagram) .number ≡ numberCarried datagram
-carried datagram read formed =
-    ap (λ (r : CancelReading). r .number) (formed-read datagram formed) ∙ carried-there datagram read
+-- The number of a cancel that is well formed, and of a cancel_ack that was taken, is the one that it carries.
+cancel-carried : (p : SentPdu) → reading (p .bytes) .answer ≡ Done → WellFormed (p .bytes)
+    → cancelOf p ≡ cancelCarried (p .bytes)
+cancel-carried p done formed =
+    ap (λ (r : CancelReading). r .number) (formed-read (p .bytes) formed) ∙ carried-there (p .bytes) done
 
--- and so is that of a cancel_ack that was taken.
-module _ (w : World) (p : SentPdu) (lent : Lent) (out : List ℕ) where
-  ack-carried : answerTo w (OfClient (ArriveOfClient p lent out)) ≡ Done → reading (p .bytes) .header .kind ≡ 10
-      → cancelAckReading (reading (p .bytes) .little) (bodyOf (p .bytes)) .number ≡ numberCarried (p .bytes)
-  unfolding answerTo happens clientEventOf choose
-  ack-carried done typed =
-      let slots = bytesLent lent (w .client .slots) in
-      let formed =
-      acknowledgement-passes (w .client .machine) (lentGround (length slots) (length out)) (reading (p .bytes))
-      (bodyOf (p .bytes)) (client-accepted (w .client .machine) (p .bytes) slots out done) (ap clientEventOf typed)
-      .formed in
-      ap (λ (r : CancelAckReading). r .number) (cancel-ack-read _ (bodyOf (p .bytes)) formed .reading)
-      ∙ carried-there (p .bytes) (client-took w p lent out done)
+ack-carried : (w : World) (p : SentPdu) (lent : Lent) (out : List ℕ)
+    → answerTo w (OfClient (ArriveOfClient p lent out)) ≡ Done → reading (p .bytes) .header .kind ≡ 10
+    → cancelAckReading (reading (p .bytes) .little) (bodyOf (p .bytes)) .number ≡ cancelCarried (p .bytes)
+unfolding answerTo happens clientEventOf choose
+ack-carried w p lent out done typed =
+    let slots = bytesLent lent (w .client .slots) in
+    let formed =
+    acknowledgement-passes (w .client .machine) (lentGround (length slots) (length out)) (reading (p .bytes))
+    (bodyOf (p .bytes)) (arrive-accepted (w .client .machine) (p .bytes) slots out done) (ap clientEventOf typed)
+    .formed in
+    ap (λ (r : CancelAckReading). r .number) (cancel-ack-read _ (bodyOf (p .bytes)) formed .reading)
+    ∙ carried-there (p .bytes) (client-took w p lent out done)
+
+-- A datagram of 88 bytes with version 0 has a well formed cancel.
+well-formed : (s : List ℕ) → reading s .answer ≡ Done → length s ≡ 88 → versionCarried s ≡ 0 → WellFormed s
+unfolding bodyOf
+well-formed s done size version = record {
+  size = omega (arith, length-drop headerSize s, size);
+  version = version-there s done ∙ version;
+}
 
 -- The call of an arrival is that arrival, and no other call is.
 abbrev arrives : Event → Bool
@@ -195,22 +203,21 @@ module _ (h : HostWorld) (keeps : Keeps h) where
       let known = only-cancel-heard s (p .bytes) slots out (sym (told h call keeps small .notice) ∙ cancel) in
       let same = cancel-touches-nothing s (p .bytes) slots out (known .comes .typed) .1 in
       let state : t .machine .state ≡ s .state = ap (λ (w : World). w .server .machine .state) next ∙ same .state in
-      let carries = carried (p .bytes) (known .comes .read) (known .formed) in
       record {
         pdu = p;
         lent = lent;
         out = out;
         arrives = refl;
         cancel = sym (kind-there (p .bytes) (known .comes .read)) ∙ known .comes .typed;
+        running = runs-there (h .server) (ap runs (known .running));
         heard = heardEntry (h .books .dispatches) (ofArrival (worldOf h) p (t .answer));
         added = heard-adds (h .books .heard) _ (t .notice) cancel;
         run = refl;
         ordinal = refl;
-        number = carries;
+        number = cancel-carried p (known .comes .read) (known .formed);
         seen =
             ap (λ (w : World). w .server .machine .seen) next ∙ known .seen
-            ∙ carried-there (p .bytes) (known .comes .read) ∙ sym carries;
-        runs = runs-there (h .server) (ap runs (known .running));
+            ∙ sym (ap (λ (r : CancelReading). r .number) (formed-read (p .bytes) (known .formed)));
         still = runs-there (hostStep h call .server) (ap runs (state ∙ known .running));
       }
 
@@ -302,30 +309,37 @@ module _ (h : HostWorld) (keeps : Keeps h) where
   unfolding CancelsCounted CancelNumberCounts clientIn clientOf fieldsIn
   counted-read counted other = counted (called-byte _ other)
 
-  -- A cancel that comes in time is taken and told.
-  pub hears-read : Hears (worldOf h) → CancelsTold h
-  unfolding Hears CancelsTold meant serverIn serverOf fieldsIn
-  hears-read hears p lent out small state comes above highest =
-      let call = ToServer (ServerArrive p lent out) in
-      let tells = told h call keeps small in
-      let whole = keeps .server .size in
-      let read = cancel-read (reading (p .bytes) .little) (bodyOf (p .bytes)) (comes .formed) in
-      let number =
-      sym (carried (p .bytes) (comes .read) (record { size = read .size; version = read .version })) in
-      let own : OfHistory (worldOf h) p lent out =
+  -- A cancel of the server's call is one in the theorem's world,
+  own-read : (p : SentPdu) (lent : Lent) (out : List ℕ) → OwnCancel h p lent out → ComesOwn (worldOf h) p lent out
+  unfolding serverIn serverOf fieldsIn
+  own-read p lent out own =
+      let s = p .bytes in
+      let took = read-took s (own .header) (own .read) in
+      let b = h .server .machine in
+      let within : 96 + 16 ≤ length b = omega (arith, keeps .server .size) in
       record {
-        slotted = comes .slotted;
-        room = comes .room;
-        read = comes .read;
-        kind = kind-there (p .bytes) (comes .read) ∙ comes .cancel;
-        activity = comes .activity ∙ sym (uuid-part (h .server .machine) 96 (omega (arith, whole)));
-        call = call-there (p .bytes) (comes .read) ∙ comes .call;
-        formed = comes .formed;
-      } in
-      let heard =
-      hears p lent out (state-runs h state) own (subst (λ (n : ℕ). 0 < n) number above)
-      (λ entry in-books here. subst (λ (n : ℕ). entry .number < n) number (highest entry in-books here)) in
-      (tells .answer ∙ heard .0, tells .notice ∙ heard .1)
+        slotted = own .slotted;
+        room = own .room;
+        read = took;
+        kind = kind-there s took ∙ own .cancel;
+        activity = activity-there s took ∙ own .activity ∙ sym (uuid-part b 96 within);
+        call = call-there s took ∙ own .call;
+        formed =
+            ap (λ (r : CancelReading). r .answer)
+            (formed-read s (well-formed s took (own .size) (own .version)));
+      }
+
+  -- and one that comes in time is told.
+  pub hears-read : Hears (worldOf h) → CancelsTold h
+  unfolding Hears CancelsTold meant
+  hears-read hears p lent out small state own above highest =
+      let tells = told h (ToServer (ServerArrive p lent out)) keeps small in
+      let took = read-took (p .bytes) (own .header) (own .read) in
+      let number = sym (cancel-carried p took (well-formed (p .bytes) took (own .size) (own .version))) in
+      let known =
+      hears p lent out (state-runs h state) (own-read p lent out own) (subst (λ (n : ℕ). 0 < n) number above)
+      (λ heard in-books here. subst (λ (n : ℕ). heard .number < n) number (highest heard in-books here)) in
+      (tells .answer ∙ known .0, tells .notice ∙ known .1)
 
 -- The cancels told are those of the theorem's world, so they were asked for, and each is told once in a run.
 pub asked-read : (h : HostWorld) → HeardAskedFor (worldOf h) → CancelsAsked h

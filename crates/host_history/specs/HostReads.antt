@@ -8,6 +8,7 @@ use mathlib.Core.Path.{_≡_}
 use lib.Dec.{eqb}
 use lib.ListN.{getD}
 use Rattle.words.specs.Number.{part, number as numberAt}
+use Rattle.pdu.specs.Header.{uuidAt}
 use Rattle.history.specs.World.{Dispatched, Side}
 use Rattle.host_history.specs.Hosts.{HostWorld, ClientTimer, HostCall, ServerArrive, ServerTransmit, ServerTimer, ServerReply, ServerFault, ToClient, ToServer}
 use Rattle.host_history.specs.HandedUp.{serverParts}
@@ -75,23 +76,30 @@ timerCall ResendTimer ticket out = ToServer (ServerTimer 3 ticket out)
 abbrev pub lastCancel : Side (List ℕ) → ℕ
 lastCancel side = numberAt 4 true (side .machine) 68
 
--- The call number of four bytes stands at 16, the activity's 16 bytes at 96.
+-- The call number of four bytes stands at 16.
 abbrev pub lastCall : Side (List ℕ) → ℕ
 lastCall side = numberAt 4 true (side .machine) 16
 
-abbrev pub activityBytes : Side (List ℕ) → List ℕ
-activityBytes side = part 16 (side .machine) 96
-
--- Of a datagram its type stands at 1, and 16 at 4 where its sender is little-endian. In the sender's order there are its
--- call number of four bytes at 64, and of a cancel and a cancel_ack the cancel number of four bytes at 84.
+-- Of a datagram its type stands at 1, and 16 at 4 where its sender is little-endian. In the sender's order stand its
+-- activity at 40 and its call number of four bytes at 64,
 abbrev pub typeByte : List ℕ → ℕ
 typeByte datagram = getD datagram 1 0
 
-abbrev pub callCarried : List ℕ → ℕ
-callCarried datagram = numberAt 4 (eqb (getD datagram 4 0) 16) datagram 64
+abbrev pub isLittle : List ℕ → Bool
+isLittle datagram = eqb (getD datagram 4 0) 16
 
-abbrev pub numberCarried : List ℕ → ℕ
-numberCarried datagram = numberAt 4 (eqb (getD datagram 4 0) 16) datagram 84
+abbrev pub activityCarried : List ℕ → List ℕ
+activityCarried datagram = uuidAt (isLittle datagram) datagram 40
+
+abbrev pub callCarried : List ℕ → ℕ
+callCarried datagram = numberAt 4 (isLittle datagram) datagram 64
+
+-- and in the body of a cancel or a cancel_ack its version of four bytes at 80 and its cancel number of four at 84.
+abbrev pub versionCarried : List ℕ → ℕ
+versionCarried datagram = numberAt 4 (isLittle datagram) datagram 80
+
+abbrev pub cancelCarried : List ℕ → ℕ
+cancelCarried datagram = numberAt 4 (isLittle datagram) datagram 84
 
 -- A dispatch is what a host reads of the server: the parts of the message, and the call data in the record's bytes.
 pub record ReadsDispatch (server : Side (List ℕ)) (d : Dispatched) : Type 0 where
