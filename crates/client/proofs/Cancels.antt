@@ -10,6 +10,7 @@ use lib.Dec.{ltb}
 use lib.ListN.{length}
 use Rattle.words.specs.Choice.{choose}
 use Rattle.words.specs.Sizes.{retryLimit}
+use Rattle.answers.specs.declared.Answer.{Answer}
 use Rattle.answers.specs.declared.Answer.the-variants.{Done}
 use Rattle.answers.specs.declared.Ground.{Ground}
 use Rattle.answers.specs.declared.Ground.the-variants.{Pass, Refuse}
@@ -182,9 +183,13 @@ module _ (c : Client) (ticket : ℕ) (armed : c .cancel ≡ Armed ticket) where
   row-stays CancelAck h n status = inl refl
   row-stays Foreign h n status = inr (inl armed)
 
-  -- So it is after an arriving datagram, unless that is taken and answers the last cancel.
+  -- A datagram was taken and answers the last cancel, and CANCEL is off.
+  abbrev pub Answered : Answer → Client → List ℕ → Type 0
+  Answered answer d datagram = (answer ≡ Done) × (d .cancel ≡ Off) × AnswersLast c datagram
+
+  -- So it is after an arriving datagram, unless that is taken and answers the last cancel; then it is off.
   pub arrive-stays : (datagram slots out : List ℕ)
-      → ((arriving c datagram slots out .outcome .answer ≡ Done) × AnswersLast c datagram) ⊎ Stays (arriving c datagram slots out .outcome .client) ticket
+      → Answered (arriving c datagram slots out .outcome .answer) (arriving c datagram slots out .outcome .client) datagram ⊎ Stays (arriving c datagram slots out .outcome .client) ticket
   unfolding Stays arriving acted sending outcomeOf planOf arrivalPlan refused
   arrive-stays datagram slots out = by-ground (arrivalGround c lent r (bodyOf datagram)) refl
     where
@@ -201,10 +206,12 @@ module _ (c : Client) (ticket : ℕ) (armed : c .cancel ≡ Armed ticket) where
       status = statusReading (r .little) (bodyOf datagram) .status
 
       answers : arrivalGround c lent r (bodyOf datagram) ≡ Pass → eventOf (r .header .kind) ≡ CancelAck
-          → (arrivalPlan Pass c (r .header) n status .answer ≡ Done) × AnswersLast c datagram
+          → Answered (arrivalPlan Pass c (r .header) n status .answer) (arrivalPlan Pass c (r .header) n status .client) datagram
       answers e is =
           let j = acknowledgement-passes c lent r (bodyOf datagram) e is in (
             unfold arrivalPlan arrivalRow cancelAckPlan accepted in ap (λ (x : Event). arrivalRow x c (r .header) n status .answer) is,
+            unfold arrivalPlan arrivalRow cancelAckPlan accepted cancelDisarmed in
+            ap (λ (x : Event). arrivalRow x c (r .header) n status .client .cancel) is,
             record {
               kind = cancel-ack-kind (r .header .kind) is;
               call = sym (arrival-passes c lent r (bodyOf datagram) e .1 .mine);
@@ -215,13 +222,13 @@ module _ (c : Client) (ticket : ℕ) (armed : c .cancel ≡ Armed ticket) where
 
       by-row : arrivalGround c lent r (bodyOf datagram) ≡ Pass → let d = arrivalRow (eventOf (r .header .kind)) c (r .header) n status .client in
           (eventOf (r .header .kind) ≡ CancelAck) ⊎ ((d .cancel ≡ Armed ticket) ⊎ (isActive (d .state) ≡ false))
-          → ((arrivalPlan Pass c (r .header) n status .answer ≡ Done) × AnswersLast c datagram)
+          → Answered (arrivalPlan Pass c (r .header) n status .answer) (arrivalPlan Pass c (r .header) n status .client) datagram
           ⊎ ((arrivalPlan Pass c (r .header) n status .client .cancel ≡ Armed ticket) ⊎ (isActive (arrivalPlan Pass c (r .header) n status .client .state) ≡ false))
       by-row e (inl is) = inl (answers e is)
       by-row e (inr stays) = unfold arrivalPlan in inr stays
 
       by-ground : (g : Ground) → arrivalGround c lent r (bodyOf datagram) ≡ g
-          → ((arrivalPlan g c (r .header) n status .answer ≡ Done) × AnswersLast c datagram)
+          → Answered (arrivalPlan g c (r .header) n status .answer) (arrivalPlan g c (r .header) n status .client) datagram
           ⊎ ((arrivalPlan g c (r .header) n status .client .cancel ≡ Armed ticket) ⊎ (isActive (arrivalPlan g c (r .header) n status .client .state) ≡ false))
       by-ground (Refuse a) e = inr (inl armed)
       by-ground Pass e = by-row e (row-stays (eventOf (r .header .kind)) (r .header) n status)

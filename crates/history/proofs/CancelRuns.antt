@@ -57,6 +57,7 @@ use Rattle.history.proofs.Cancelling.{CancelsInv, cancels-on, cancels-s
 use Rattle.history.proofs.Hearing.{ToldIn, HeardInv, passes, hearing-on, arrive-hears, told-asked}
 use Rattle.history.proofs.Histories.{start-more, step-inv}
 use Rattle.history.proofs.Undisturbed.{running-is}
+use Rattle.history.proofs.ClientNotices.{ClientTells, client-tells}
 
 -- What is known of cancels on both sides.
 pub record CancelInv (w : World) : Type 0 where
@@ -278,12 +279,14 @@ told-once w known = known .server .once
 -- only while the call runs,
 pub told-running : (w : World) → HeardRunning w
 unfolding HeardRunning noticeOf happens
-told-running w (ServerArrive p lent out) told =
-    ap runs (only-cancel-heard (w .server .machine) (p .bytes) (bytesLent lent (w .server .slots)) out told .running)
-told-running w (ServerTransmit message out) told = untold-asks _ (transmit-deaf (w .server .machine) message out .untold) told
-told-running w (ServerTimer ticket out) told = untold-asks _ (timer-deaf (w .server .machine) ticket out .untold) told
-told-running w (GiveReply n message) told = untold-asks _ (reply-deaf (w .server .machine) n .untold) told
-told-running w (Fault status out) told = untold-asks _ (fault-deaf (w .server .machine) status out .untold) told
+told-running w (OfClient e) told = absurd (subst (ClientTells _) told (client-tells (w .client) e))
+told-running w (OfServer (ServerArrive p lent out)) told =
+    (refl, ap runs (only-cancel-heard (w .server .machine) (p .bytes) (bytesLent lent (w .server .slots)) out told .running))
+told-running w (OfServer (ServerTransmit message out)) told =
+    untold-asks _ (transmit-deaf (w .server .machine) message out .untold) told
+told-running w (OfServer (ServerTimer ticket out)) told = untold-asks _ (timer-deaf (w .server .machine) ticket out .untold) told
+told-running w (OfServer (GiveReply n message)) told = untold-asks _ (reply-deaf (w .server .machine) n .untold) told
+told-running w (OfServer (Fault status out)) told = untold-asks _ (fault-deaf (w .server .machine) status out .untold) told
 
 -- and every one that comes in time is told.
 pub hears-all : (w : World) → Inv w → CancelInv w → Hears w

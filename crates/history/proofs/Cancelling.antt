@@ -7,7 +7,7 @@ use mathlib.Core.Path.{_≡_, refl, sym, ap, subst, _∙_}
 use native.Mathlib.Omega.{arith}
 use lib.ListN.{length, length-append}
 use Rattle.answers.specs.declared.Answer.the-variants.{Done}
-use Rattle.timers.specs.declared.Timer.the-variants.{Armed}
+use Rattle.timers.specs.declared.Timer.the-variants.{Off, Armed}
 use Rattle.client_record.specs.declared.State.{State}
 use Rattle.client_record.specs.declared.State.the-variants.{Queued, SendFrags, Dispatched as DispatchedState, ReceiveFrags, AckPending, Complete, Fault}
 use Rattle.client_record.specs.declared.Client.{Client}
@@ -130,7 +130,7 @@ stays-armed w (OfClient e) ticket armed active = by-event e refl active
         by-sum (inr over) = absurd (false≢true (sym over ∙ sym (named-cancel (d .state)) ∙ on))
 
     arrived : (p : _) (lent : Lent) (out : List ℕ) → e ≡ ClientArrive p lent out
-        → ((clientTurn (w .client) (ClientArrive p lent out) .answer ≡ Done) × AnswersLast c (p .bytes)) ⊎ Stays (clientTurn (w .client) (ClientArrive p lent out) .machine) ticket
+        → ((clientTurn (w .client) (ClientArrive p lent out) .answer ≡ Done) × (clientTurn (w .client) (ClientArrive p lent out) .machine .cancel ≡ Off) × AnswersLast c (p .bytes)) ⊎ Stays (clientTurn (w .client) (ClientArrive p lent out) .machine) ticket
         → namesCancel (clientTurn (w .client) (ClientArrive p lent out) .machine .state) ≡ true
         → Answered w (OfClient e) ⊎ (clientTurn (w .client) e .machine .cancel ≡ Armed ticket)
     arrived p lent out is (inl answered) on =
@@ -141,9 +141,10 @@ stays-armed w (OfClient e) ticket armed active = by-event e refl active
           out = out;
           is = ap OfClient is;
           done = unfold answerTo happens in subst (λ (x : ClientEvent). clientTurn (w .client) x .answer ≡ Done) (sym is) (answered .0);
-          kind = answered .1 .kind;
-          call = answered .1 .call;
-          number = answered .1 .number;
+          kind = answered .2 .kind;
+          call = answered .2 .call;
+          number = answered .2 .number;
+          disarmed = unfold step happens timerIn in subst (λ (x : ClientEvent). clientTurn (w .client) x .machine .cancel ≡ Off) (sym is) (answered .1);
         })
     arrived p lent out is (inr stays) on =
         inr (subst (λ (x : ClientEvent). clientTurn (w .client) x .machine .cancel ≡ Armed ticket) (sym is) (by-stays _ stays on))

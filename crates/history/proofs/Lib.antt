@@ -21,8 +21,10 @@ pub mod ServerArrivals
 pub mod Histories
 pub mod Tickets
 pub mod Undisturbed
+pub mod ClientNotices
 pub mod CancelLists
 pub mod Cancelling
+pub mod CancelSends
 pub mod Hearing
 pub mod CancelRuns
 pub mod Theorem

@@ -39,6 +39,7 @@ use Rattle.history.proofs.ClientArrivals.{whole-handed}
 use Rattle.history.proofs.Refused.{late-nothing}
 use Rattle.history.proofs.Undisturbed.{running-is, undisturbed}
 use Rattle.history.proofs.Cancelling.{some-start, named-cancel, stays-armed}
+use Rattle.history.proofs.CancelSends.{cancels-taken, cancels-sent}
 use Rattle.history.proofs.CancelRuns.{CancelInv, run-cancels, fresh-cancels, heard-asked-for, told-once, told-running, hears-all}
 use Rattle.history.proofs.Histories.{run-inv, run-append, fair-append, run-grows}
 use Rattle.history.proofs.Tickets.{counterOf, run-counts, run-gone, acts-once, armed-afresh}
@@ -221,6 +222,8 @@ theorem w fresh events fair =
       afresh = armed-afresh (run w events);
       quiet = quiet (run w events) inv;
       stays = stays-armed (run w events);
+      taken = cancels-taken (run w events) inv;
+      sent = cancels-sent (run w events) inv;
       counted = cancels-counted (run w events) inv cancels;
       asked = heard-asked-for (run w events) cancels;
       heard = told-once (run w events) cancels;

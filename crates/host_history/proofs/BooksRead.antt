@@ -34,7 +34,8 @@ use Rattle.host_history.proofs.ClientCalls.{ClientMeets, client-meets}
 use Rattle.host_history.proofs.ServerCalls.{ServerMeets, server-meets}
 use Rattle.host_history.proofs.SameRun.{keeps-step}
 use Rattle.host_history.proofs.Handing.{client-parts, server-parts}
-use Rattle.host_history.proofs.Notices.{ClientTells, client-tells, Dispatches, ServerTells, server-tells}
+use Rattle.history.proofs.ClientNotices.{ClientTells, client-tells}
+use Rattle.host_history.proofs.Notices.{Dispatches, ServerTells, server-tells}
 
 -- Where the notice is "dispatch" there is one more, else none; the same of "last".
 module _ (before : List Dispatched) (d : Dispatched) where

@@ -51,7 +51,7 @@ use Rattle.host_history.proofs.Refusals.{refused-leaves}
 use Rattle.host_history.proofs.Unchanged.{refused-same}
 use Rattle.host_history.proofs.SameRun.{same-step, told}
 use Rattle.host_history.proofs.BooksRead.{runs-there, client-told}
-use Rattle.host_history.proofs.Notices.{ClientTells}
+use Rattle.history.proofs.ClientNotices.{ClientTells}
 use Rattle.host_history.proofs.TimersRead.{armed-told, armed-read}
 use Rattle.host_history.proofs.Datagrams.{client-took, read-took, kind-there, activity-there, call-there, version-there, carried-there}
 use Rattle.host_history.proofs.RunsRead.{state-runs}

@@ -1,5 +1,5 @@
--- Which notices a side gives: the server alone tells "dispatch", by a request that has the number that its record then
--- has, and is in RUNNING then; it alone tells "cancel"; the client alone tells "last", and has its reply then.
+-- Which notices the server gives: "dispatch", by a request that has the number that its record then has, and is in RUNNING
+-- then; "cancel"; and no other.
 use Prim.Native.Nat.{ℕ}
 use mathlib.Core.Bool.{Bool, true, false}
 use mathlib.Core.Path.{_≡_, refl, sym, subst}
@@ -49,77 +49,6 @@ use Rattle.history.specs.World.{Side, World}
 use Rattle.history.specs.Events.{ClientEvent, ServerEvent, Start, ClientTransmit, ClientArrive, ClientTimer, ClientCancel, ServerArrive, ServerTransmit, ServerTimer, Reply, Fault}
 use Rattle.history.specs.Steps.{clientTurn, serverTurn, subjectOf}
 use Rattle.history.specs.Claim.{runs, hasReply}
-
--- The client never tells "dispatch" or "cancel", and "last" only where it has its reply.
-abbrev pub ClientTells : ClientState → Notice → Type 0
-ClientTells state Untold = Unit {0}
-ClientTells state Last = hasReply state ≡ true
-ClientTells state (Count n) = Unit {0}
-ClientTells state (FaultNotice status) = Unit {0}
-ClientTells state (RejectNotice status) = Unit {0}
-ClientTells state (Cause cause) = Unit {0}
-ClientTells state Dispatch = ⊥
-ClientTells state CancelNotice = ⊥
-
-abbrev ClientPlanTells : ClientPlan → Type 0
-ClientPlanTells plan = ClientTells (plan .client .state) (plan .notice)
-
-module _ (c : Client) where
-  start-tells : (g : Ground) (call : Call) (n : ℕ) → ClientPlanTells (startPlan g c call n)
-  unfolding startPlan clientRefused clientAccepted
-  start-tells Pass call n = tt
-  start-tells (Refuse a) call n = tt
-
-  transmit-tells : (g : Ground) → ClientPlanTells (clientTransmitPlan g c)
-  unfolding clientTransmitPlan clientRefused clientAccepted
-  transmit-tells Pass = tt
-  transmit-tells (Refuse a) = tt
-
-  timer-tells : (g : Ground) (kind : TimerKind) → ClientPlanTells (clientTimerPlan g kind c)
-  unfolding clientTimerPlan clientTimerRow waitPlan clientAckPlan cancelTimerPlan clientRefused clientAccepted failed
-  timer-tells (Refuse a) kind = tt
-  timer-tells Pass Wait = choice-keeps ClientPlanTells _ _ _ tt tt
-  timer-tells Pass Ack = tt
-  timer-tells Pass Cancel = tt
-
-  cancel-tells : (g : Ground) → ClientPlanTells (cancelPlan g c)
-  unfolding cancelPlan clientRefused clientAccepted
-  cancel-tells Pass = tt
-  cancel-tells (Refuse a) = tt
-
-  put-tells : (all idempotent : Bool) (count : ℕ)
-      → ClientTells (clientPutRecord all idempotent c .state) (clientPutNotice all count)
-  unfolding clientPutRecord clientPutNotice choose clientUnarmed ackPending
-  put-tells true true count = refl
-  put-tells true false count = refl
-  put-tells false idempotent count = tt
-
-  row-tells : (event : Event) (h : Header) (n status : ℕ) → ClientPlanTells (clientRow event c h n status)
-  unfolding clientRow responsePlan clientPutPlan clientWithIncoming withWaits clientWorking clientNocall clientFackPlan
-      cancelAckPlan clientRefused clientAccepted failed
-  row-tells Response h n status = put-tells _ (c .call .idempotent) _
-  row-tells FaultRow h n status = tt
-  row-tells Reject h n status = tt
-  row-tells WorkingRow h n status = tt
-  row-tells NocallRow h n status = choice-keeps ClientPlanTells _ _ _ tt tt
-  row-tells Fack h n status = tt
-  row-tells CancelAck h n status = tt
-  row-tells Foreign h n status = tt
-
-  arrival-tells : (g : Ground) (h : Header) (n status : ℕ) → ClientPlanTells (clientArrivalPlan g c h n status)
-  unfolding clientArrivalPlan clientRefused
-  arrival-tells (Refuse a) h n status = tt
-  arrival-tells Pass h n status = row-tells (clientEventOf (h .kind)) h n status
-
-pub client-tells : (c : Side Client) (e : ClientEvent)
-    → ClientTells (clientTurn c e .machine .state) (clientTurn c e .notice)
-unfolding starting clientTransmitting clientTiming cancelling clientArriving clientActed clientPlanOf clientSending
-    clientOutcome
-client-tells c (Start call n message) = start-tells (c .machine) _ call n
-client-tells c (ClientTransmit message out) = transmit-tells (c .machine) _
-client-tells c (ClientArrive p lent out) = arrival-tells (c .machine) _ _ _ _
-client-tells c (ClientTimer kind ticket out) = timer-tells (c .machine) _ kind
-client-tells c (ClientCancel out) = cancel-tells (c .machine) _
 
 -- The server tells nothing, "cancel" or, with a record of that number and in RUNNING, "dispatch".
 pub record Dispatches (asked kept : ℕ) (state : State) : Type 0 where
