@@ -211,7 +211,7 @@ module _ (c : Client) (ticket : ℕ) (armed : c .cancel ≡ Armed ticket) where
           let j = acknowledgement-passes c lent r (bodyOf datagram) e is in (
             unfold arrivalPlan arrivalRow cancelAckPlan accepted in ap (λ (x : Event). arrivalRow x c (r .header) n status .answer) is,
             unfold arrivalPlan arrivalRow cancelAckPlan accepted cancelDisarmed in
-            ap (λ (x : Event). arrivalRow x c (r .header) n status .client .cancel) is,
+                ap (λ (x : Event). arrivalRow x c (r .header) n status .client .cancel) is,
             record {
               kind = cancel-ack-kind (r .header .kind) is;
               call = sym (arrival-passes c lent r (bodyOf datagram) e .1 .mine);

@@ -1,18 +1,16 @@
 -- What a local cancel does: it is taken in an active call, CANCEL is armed then, and a cancel goes out.
 use Prim.Native.Nat.{ℕ, _<_}
-use mathlib.Core.Bool.{Bool, true, false, false≢true}
+use mathlib.Core.Bool.{Bool, true, false≢true}
 use mathlib.Core.List.{List, []}
-use mathlib.Core.Logic.{_⊎_, inl, inr}
+use mathlib.Core.Logic.{inl, inr}
 use mathlib.Core.Path.{_≡_, refl, sym, ap, subst, _∙_}
 use native.Mathlib.Omega.{arith}
 use lib.ListN.{length}
 use Rattle.answers.specs.declared.Answer.the-variants.{Done}
 use Rattle.answers.specs.declared.Ground.{Ground}
-use Rattle.answers.specs.declared.Ground.the-variants.{Pass}
 use Rattle.bodies.specs.declared.CancelReading.{CancelReading}
 use Rattle.bodies.specs.Cancel.{cancelBytes, cancelReading}
 use Rattle.bodies.proofs.CancelTrip.{read-written-cancel}
-use Rattle.pdu.specs.declared.Header.{Header}
 use Rattle.pdu.specs.Header.{datagram, bodyOf}
 use Rattle.reader.specs.Reading.{reading}
 use Rattle.calls.specs.Sent.{sentHeader}
@@ -33,12 +31,11 @@ use Rattle.client.proofs.Judging.{cancel-passes}
 use Rattle.client.proofs.Accepting.{cancel-accepted}
 use Rattle.client.proofs.Cancels.{CancelAfter, cancel-arms}
 use Rattle.client.proofs.CancelAnswers.{Active, first-cancel, further-cancel}
-use Rattle.history.specs.World.{SentPdu, Side, World}
-use Rattle.history.specs.Events.{ClientCancel, OfClient}
+use Rattle.history.specs.World.{World}
 use Rattle.history.specs.Steps.{lastStart, clientTurnOf, sideAfter, happens, answerTo, step}
 use Rattle.history.specs.Claim.{namesCancel, Asked, CancelsSent, CancelsTaken}
 use Rattle.history.proofs.Network.{pduOf, Uuids, read-little, call-sized}
-use Rattle.history.proofs.Invariant.{Inv, CurrentStart}
+use Rattle.history.proofs.Invariant.{Inv}
 use Rattle.client_record.proofs.StateLaws.{active-state}
 use Rattle.history.proofs.ClientSends.{client-sent, client-uuids}
 

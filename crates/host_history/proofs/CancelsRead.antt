@@ -15,13 +15,14 @@ use Rattle.answers.specs.declared.Answer.the-variants.{Done}
 use Rattle.bodies.specs.declared.CancelReading.{CancelReading}
 use Rattle.bodies.specs.declared.CancelAckReading.{CancelAckReading}
 use Rattle.bodies.specs.Cancel.{cancelAckReading}
-use Rattle.bodies.proofs.CancelTrip.{cancel-ack-read}
+use Rattle.bodies.proofs.CancelTrip.{cancel-read, cancel-ack-read}
 use Rattle.calls.specs.declared.Notice.{Notice}
 use Rattle.calls.specs.declared.Notice.the-variants.{Nothing as Untold, Last, Count, Fault, Reject, Cause, Dispatch, Cancel}
 use Rattle.grounds.specs.Entry.{lentGround}
 use Rattle.pdu.specs.Header.{bodyOf}
 use Rattle.reader.specs.Reading.{reading}
 use Rattle.timers.specs.declared.Timer.the-variants.{Armed}
+use Rattle.timers.proofs.TimerLaws.{off-has-none}
 use Rattle.record_bytes.specs.Layout.{fieldsIn}
 use Rattle.record_bytes.proofs.PartLaws.{uuid-part}
 use Rattle.record_bytes.proofs.Keeping.{choice-by, choice-keeps}
@@ -39,14 +40,14 @@ use Rattle.history.specs.Lists.{andThen}
 use Rattle.history.specs.World.{Heard, SentPdu, World}
 use Rattle.history.specs.Events.{Lent, Event, Start, ClientTransmit as TransmitOfClient, ClientArrive as ArriveOfClient, ClientTimer as TimerOfClient, ClientCancel as CancelOfClient, ServerArrive as ArriveOfServer, OfClient, OfServer}
 use Rattle.history.specs.Steps.{bytesLent, heardAfter, cancelOf, ofArrival, heardEntry, happens, answerTo, noticeOf, step, run}
-use Rattle.history.specs.Claim.{runs, OnClient, timerIn, namesCancel, clientCalls, Answered, StaysArmed, CancelsCounted, HeardAskedFor, HeardOnce, OwnCancel as ComesOwn, Hears}
+use Rattle.history.specs.Claim.{runs, OnClient, timerIn, namesCancel, clientCalls, Answered, StaysArmed, CancelsTaken as Taken, Asked, CancelsSent as Sent, CancelsCounted, HeardAskedFor, HeardOnce, OwnCancel as ComesOwn, Hears}
 use Rattle.morphelai.specs.Result.{noticeKind}
 use Rattle.host_history.specs.Results.{noticeIn}
 use Rattle.host_history.specs.Hosts.{HostWorld, worldOf, ServerCall, HostCall, ClientStart, ClientTransmit, ClientArrive, ClientTimer, ClientCancel, ServerArrive, ServerTransmit, ServerTimer, ServerReply, ServerFault, ToClient, ToServer, exported, serverSeen, hostStep}
 use Rattle.host_history.specs.Meaning.{meant, HostFits, Keeps, Tells}
 use Rattle.host_history.specs.HostReads.{NamesCancel, CancelTimer, ArmedWith, versionCarried, cancelCarried}
 use Rattle.host_history.specs.HostBooks.{CancelRead, CancelsRead}
-use Rattle.host_history.specs.HostDemand.{CancelAnswered, CancelStays, CancelNumberCounts, CancelsAsked, CancelsOnce, OwnCancel, CancelsTold}
+use Rattle.host_history.specs.HostDemand.{CancelAnswered, CancelStays, CancelsTaken, CancelsSent, CancelNumberCounts, CancelsAsked, CancelsOnce, OwnCancel, CancelsTold}
 use Rattle.host_history.proofs.Refusals.{refused-leaves}
 use Rattle.host_history.proofs.Unchanged.{refused-same}
 use Rattle.host_history.proofs.SameRun.{same-step, told}
@@ -265,9 +266,9 @@ module _ (h : HostWorld) (keeps : Keeps h) where
       there : namesCancel (worldOf (hostStep h call) .client .machine .state) ≡ true
       there = unfold clientIn clientOf fieldsIn in named-cancel _ state
 
-      answers : (e : Event) → meant call ≡ e ∷ [] → Tells (worldOf h) (exported h call) (e ∷ [])
+      answers : (e : Event) → meant call ≡ e ∷ [] → worldOf (hostStep h call) ≡ step (worldOf h) e → Tells (worldOf h) (exported h call) (e ∷ [])
           → Answered (worldOf h) e → CancelAnswered h call
-      answers e is tells a =
+      answers e is next tells a =
           let w = worldOf h in
           let done : answerTo w (OfClient (ArriveOfClient (a .pdu) (a .lent) (a .out))) ≡ Done =
           sym (ap (answerTo w) (a .is)) ∙ a .done in
@@ -282,13 +283,18 @@ module _ (h : HostWorld) (keeps : Keeps h) where
             cancel-ack = sym (kind-there (a .pdu .bytes) took) ∙ a .kind;
             call-number = sym (call-there (a .pdu .bytes) took) ∙ a .call;
             number = sym (ack-carried w (a .pdu) (a .lent) (a .out) done (a .kind)) ∙ a .number;
+            disarmed =
+                λ other is.
+                off-has-none other
+                (sym (a .disarmed) ∙ sym (ap (λ (v : World). timerIn v (OnClient CancelKind)) next)
+                ∙ armed-told (hostStep h call) CancelTimer other is);
           }
 
       by-answer : (e : Event) → meant call ≡ e ∷ [] → worldOf (hostStep h call) ≡ step (worldOf h) e
           → Tells (worldOf h) (exported h call) (e ∷ [])
           → Answered (worldOf h) e ⊎ (timerIn (step (worldOf h) e) (OnClient CancelKind) ≡ Armed ticket)
           → CancelAnswered h call ⊎ ArmedWith (hostStep h call) CancelTimer ticket
-      by-answer e is next tells (inl a) = inl (answers e is tells a)
+      by-answer e is next tells (inl a) = inl (answers e is next tells a)
       by-answer e is next tells (inr still) =
           inr (armed-read (hostStep h call) CancelTimer ticket
           (subst (λ (w : World). timerIn w (OnClient CancelKind) ≡ Armed ticket) (sym next) still))
@@ -303,6 +309,37 @@ module _ (h : HostWorld) (keeps : Keeps h) where
           (stays e ticket (armed-told h CancelTimer ticket armed)
           (subst (λ (w : World). namesCancel (w .client .machine .state) ≡ true) same there))
       by-events (e ∷ (f ∷ es)) is same never = absurd never
+
+  -- A cancel of an active call is taken,
+  pub taken-read : Taken (worldOf h) → CancelsTaken h
+  unfolding Taken CancelsTaken meant clientIn clientOf fieldsIn
+  taken-read taken out small state room number ticket =
+      told h (ToClient (ClientCancel out)) keeps small .answer ∙ taken out (named-cancel _ state) room number ticket
+
+  -- and goes out.
+  pub sent-read : Sent (worldOf h) → CancelsSent h
+  unfolding Sent CancelsSent meant run timerIn clientIn clientOf fieldsIn
+  sent-read sent out small done =
+      let call = ToClient (ClientCancel out) in
+      let next : worldOf (hostStep h call) ≡ step (worldOf h) (OfClient (CancelOfClient out)) =
+      same-step h call keeps small in
+      let a : Asked (worldOf h) (worldOf (hostStep h call) .client) =
+      subst (λ (v : World). Asked (worldOf h) (v .client)) (sym next)
+      (sent out (sym (told h call keeps small .answer) ∙ done)) in
+      let s = a .pdu .bytes in
+      let read = cancel-read (reading s .little) (bodyOf s) (a .formed) in
+      record {
+        ticket = a .ticket;
+        armed = armed-read (hostStep h call) CancelTimer (a .ticket) (a .armed);
+        pdu = a .pdu;
+        sent = a .sent;
+        ordinal = a .ordinal;
+        cancel = sym (kind-there s (a .read)) ∙ a .kind;
+        call = sym (call-there s (a .read)) ∙ a .call;
+        version = sym (version-there s (a .read)) ∙ read .version;
+        number =
+            sym (cancel-carried (a .pdu) (a .read) (record { size = read .size; version = read .version })) ∙ a .number;
+      }
 
   -- The client's cancel number counts the cancels of its last start.
   pub counted-read : CancelsCounted (worldOf h) → CancelNumberCounts h

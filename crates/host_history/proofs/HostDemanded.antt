@@ -12,7 +12,7 @@ use Rattle.client_bytes.specs.Layout.{stateOf, clientOf, clientIn}
 use Rattle.history.specs.World.{World}
 use Rattle.history.specs.Events.{Event}
 use Rattle.history.specs.Steps.{run}
-use Rattle.history.specs.Claim.{AtMostOnce, WholeMessages, WholeWhereRunning, RunsUndisturbed, RepliesToDispatches, replyHandedUp, OneReply, WholeReplies, hasReply, WholeWhereAnswered, OnlyGrows, timerIn, LateTimers, GoneTickets, ActsOnce, ArmedAfresh, Quiet, StaysArmed, CancelsCounted, HeardAskedFor, HeardOnce, Hears, Numbered}
+use Rattle.history.specs.Claim.{AtMostOnce, WholeMessages, WholeWhereRunning, RunsUndisturbed, RepliesToDispatches, replyHandedUp, OneReply, WholeReplies, hasReply, WholeWhereAnswered, OnlyGrows, timerIn, LateTimers, GoneTickets, ActsOnce, ArmedAfresh, Quiet, StaysArmed, CancelsTaken as Taken, CancelsSent as Sent, CancelsCounted, HeardAskedFor, HeardOnce, Hears, Numbered}
 use Rattle.host_history.specs.Hosts.{HostWorld, worldOf, HostCall, hostStep, hostRun}
 use Rattle.host_history.specs.Meaning.{meant, eventsOf, AllFit, FairHost, Keeps, FreshHost}
 use Rattle.host_history.specs.HostClaim.{HostClaim}
@@ -28,7 +28,7 @@ use Rattle.host_history.proofs.BooksRead.{dispatches-read, completions-
 use Rattle.host_history.proofs.TimersRead.{named, armed-told, armed-read, late-nothing, strange-nothing, acts-read, quiet-read}
 use Rattle.host_history.proofs.WaitRead.{afresh-read}
 use Rattle.host_history.proofs.RunsRead.{running-read, running-alone}
-use Rattle.host_history.proofs.CancelsRead.{cancels-read, stays-read, counted-read, asked-read, once-read, hears-read}
+use Rattle.host_history.proofs.CancelsRead.{cancels-read, stays-read, taken-read, sent-read, counted-read, asked-read, once-read, hears-read}
 
 -- The events of calls one behind the other, and the first of calls that fit.
 events-append : (before after : List HostCall) → eventsOf (before ++ after) ≡ eventsOf before ++ eventsOf after
@@ -170,6 +170,8 @@ host-demanded h keeps calls small holds =
       afresh = afresh-read now kept (at-host h calls holds ArmedAfresh (claim .afresh));
       quiet = quiet-read now kept (at-host h calls holds Quiet (claim .quiet));
       stays = stays-read now kept (at-host h calls holds StaysArmed (claim .stays));
+      taken = taken-read now kept (at-host h calls holds Taken (claim .taken));
+      sent = sent-read now kept (at-host h calls holds Sent (claim .sent));
       counted = counted-read now kept (at-host h calls holds CancelsCounted (claim .counted));
       asked = asked-read now (at-host h calls holds HeardAskedFor (claim .asked));
       heard = once-read now (at-host h calls holds HeardOnce (claim .heard));

@@ -7,26 +7,11 @@ use Rattle.words.specs.Choice.{choose}
 use Rattle.answers.specs.declared.Answer.{Answer}
 use Rattle.answers.specs.declared.Ground.{Ground}
 use Rattle.answers.specs.declared.Ground.the-variants.{Pass, Refuse}
-use Rattle.calls.specs.declared.Call.{Call}
 use Rattle.calls.specs.declared.Notice.{Notice}
 use Rattle.calls.specs.declared.Notice.the-variants.{Nothing as Untold, Last, Count, Fault as FaultNotice, Reject as RejectNotice, Cause, Dispatch, Cancel as CancelNotice}
 use Rattle.flags.specs.Flags.{idempotent, hasFlag}
 use Rattle.pdu.specs.declared.Header.{Header}
 use Rattle.record_bytes.proofs.Keeping.{choice-keeps}
-use Rattle.client_record.specs.declared.Client.{Client}
-use Rattle.client_record.specs.declared.State.{State as ClientState}
-use Rattle.client_record.specs.declared.TimerKind.{TimerKind}
-use Rattle.client_record.specs.declared.TimerKind.the-variants.{Wait, Ack, Cancel}
-use Rattle.client_record.specs.Record.{ackPending, unarmed as clientUnarmed, withIncoming as clientWithIncoming, withWaits}
-use Rattle.client_table.specs.declared.Event.{Event}
-use Rattle.client_table.specs.declared.Event.the-variants.{Response, Fault as FaultRow, Reject, Working as WorkingRow, Nocall as NocallRow, Fack, CancelAck, Foreign}
-use Rattle.client_table.specs.Events.{eventOf as clientEventOf}
-use Rattle.client_steps.specs.declared.Plan.{Plan as ClientPlan}
-use Rattle.client_steps.specs.Plan.{refused as clientRefused, accepted as clientAccepted, failed}
-use Rattle.client_steps.specs.Rows.{startPlan, transmitPlan as clientTransmitPlan, waitPlan, ackPlan as clientAckPlan, cancelTimerPlan, timerRow as clientTimerRow, timerPlan as clientTimerPlan, cancelPlan}
-use Rattle.client_arrivals.specs.Rows.{putRecord as clientPutRecord, putNotice as clientPutNotice, putPlan as clientPutPlan, responsePlan, workingPlan as clientWorking, nocallPlan as clientNocall, fackPlan as clientFackPlan, cancelAckPlan}
-use Rattle.client_arrivals.specs.Table.{arrivalRow as clientRow, arrivalPlan as clientArrivalPlan}
-use Rattle.client.specs.Machine.{outcomeOf as clientOutcome, starting, sending as clientSending, transmitting as clientTransmitting, timing as clientTiming, cancelling, planOf as clientPlanOf, acted as clientActed, arriving as clientArriving}
 use Rattle.server_record.specs.declared.Reply.{Reply as HeldReply}
 use Rattle.server_record.specs.declared.Reply.the-variants.{Data, Fault as FaultReply}
 use Rattle.server_record.specs.declared.State.{State}
@@ -45,10 +30,10 @@ use Rattle.server_steps.specs.Rows.{replyPlan, transmitPlan, faultPlan, replayH
 use Rattle.server_arrivals.specs.Rows.{begun, putState, putNotice, putPlan, requestPlan, beginPlan, workingPlan, nocallPlan, fackPlan, ackPlan, declinePlan, heardPlan, acceptPlan}
 use Rattle.server_arrivals.specs.Table.{arrivalRow, arrivalPlan}
 use Rattle.server.specs.Machine.{outcomeOf, replying, sending, transmitting, timing, faulting, planOf, acted, arriving}
-use Rattle.history.specs.World.{Side, World}
-use Rattle.history.specs.Events.{ClientEvent, ServerEvent, Start, ClientTransmit, ClientArrive, ClientTimer, ClientCancel, ServerArrive, ServerTransmit, ServerTimer, Reply, Fault}
-use Rattle.history.specs.Steps.{clientTurn, serverTurn, subjectOf}
-use Rattle.history.specs.Claim.{runs, hasReply}
+use Rattle.history.specs.World.{World}
+use Rattle.history.specs.Events.{ServerEvent, ServerArrive, ServerTransmit, ServerTimer, Reply, Fault}
+use Rattle.history.specs.Steps.{serverTurn, subjectOf}
+use Rattle.history.specs.Claim.{runs}
 
 -- The server tells nothing, "cancel" or, with a record of that number and in RUNNING, "dispatch".
 pub record Dispatches (asked kept : ℕ) (state : State) : Type 0 where

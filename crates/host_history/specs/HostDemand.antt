@@ -20,11 +20,11 @@ use Rattle.history.specs.Steps.{bytesLent, lastStart}
 use Rattle.history.specs.Claim.{times, DispatchOf, WholeMessage, WholeReply, timesCancelled, AskedFor, timesHeard}
 use Rattle.morphelai.specs.CodecDoor.{codecRead}
 use Rattle.host_history.specs.Results.{answerIn, noticeIn, sentIn}
-use Rattle.host_history.specs.Hosts.{HostWorld, HostCall, ClientArrive, ClientTimer, ServerArrive, ServerTimer, ToClient, ToServer, exported, hostStep, hostRun}
+use Rattle.host_history.specs.Hosts.{HostWorld, HostCall, ClientArrive, ClientTimer, ClientCancel, ServerArrive, ServerTimer, ToClient, ToServer, exported, hostStep, hostRun}
 use Rattle.host_history.specs.Meaning.{HostFits}
 use Rattle.host_history.specs.Refusal.{bufferLent}
 use Rattle.host_history.specs.HandedUp.{clientParts}
-use Rattle.host_history.specs.HostReads.{stateByte, InRunning, HasReply, NamesWait, NamesAck, NamesCancel, NamesResend, HostTimer, WaitTimer, AckTimer, CancelTimer, ResendTimer, markByte, ArmedWith, timerCall, lastCancel, lastCall, typeByte, activityCarried, callCarried, versionCarried, cancelCarried, ReadsDispatch, endsRun}
+use Rattle.host_history.specs.HostReads.{stateByte, InRunning, HasReply, NamesWait, NamesAck, NamesCancel, NamesResend, HostTimer, WaitTimer, AckTimer, CancelTimer, ResendTimer, markByte, ArmedWith, timerCall, lastCancel, lastTicket, lastCall, typeByte, activityCarried, callCarried, versionCarried, cancelCarried, ReadsDispatch, endsRun}
 use Rattle.host_history.specs.HostBooks.{StartsGiven, CancelsGiven, RepliesGiven, DispatchesRead, CompletionsRead, CancelsRead}
 
 -- A start that is not marked idempotent is dispatched at most once.
@@ -192,12 +192,41 @@ pub record CancelAnswered (h : HostWorld) (call : HostCall) : Type 0 where
   pub cancel-ack : typeByte (pdu .bytes) ≡ 10
   pub call-number : callCarried (pdu .bytes) ≡ lastCall (h .client)
   pub number : cancelCarried (pdu .bytes) ≡ lastCancel (h .client)
+  pub disarmed : (ticket : ℕ) → ArmedWith (hostStep h call) CancelTimer ticket → ⊥
 
 unfoldable pub CancelStays : HostWorld → Type 0
 CancelStays h =
     (call : HostCall) → HostFits call → (ticket : ℕ) → ArmedWith h CancelTimer ticket
     → NamesCancel (stateByte (hostStep h call .client))
     → CancelAnswered h call ⊎ ArmedWith (hostStep h call) CancelTimer ticket
+
+-- A cancel is answered 0 in states 1 to 3, where the PDU buffer has its length, and a cancel number and a ticket are left.
+unfoldable pub CancelsTaken : HostWorld → Type 0
+CancelsTaken h =
+    (out : List ℕ)
+    → let call = ToClient (ClientCancel out) in
+    HostFits call → NamesCancel (stateByte (h .client)) → length out ≡ pduSize
+    → (lastCancel (h .client) ≡ 4294967295 → ⊥) → (lastTicket (h .client) ≡ 18446744073709551615 → ⊥)
+    → answerIn (exported h call .result) ≡ Done
+
+-- One that is answered 0 leaves CANCEL armed and sends a PDU more, of the last start: type 8, with the call number at 16,
+-- version 0 and the cancel number that then stands at 68.
+pub record CancelSent (before after : HostWorld) : Type 0 where
+  pub ticket : ℕ
+  pub armed : ArmedWith after CancelTimer ticket
+  pub pdu : SentPdu
+  pub sent : after .client .sent ≡ andThen (before .client .sent) pdu
+  pub ordinal : pdu .ordinal ≡ lastStart (before .books .starts)
+  pub cancel : typeByte (pdu .bytes) ≡ 8
+  pub call : callCarried (pdu .bytes) ≡ lastCall (before .client)
+  pub version : versionCarried (pdu .bytes) ≡ 0
+  pub number : cancelCarried (pdu .bytes) ≡ lastCancel (after .client)
+
+unfoldable pub CancelsSent : HostWorld → Type 0
+CancelsSent h =
+    (out : List ℕ)
+    → let call = ToClient (ClientCancel out) in
+    HostFits call → answerIn (exported h call .result) ≡ Done → CancelSent h (hostStep h call)
 
 -- The client's cancel number is how often its last start was cancelled, wherever it has a call: not in QUEUED, 0.
 unfoldable pub CancelNumberCounts : HostWorld → Type 0
@@ -283,6 +312,10 @@ pub record HostDemand (h : HostWorld) (calls : List HostCall) : Type 0 where
   pub quiet : QuietBytes (hostRun h calls)
   -- CANCEL stays armed until the cancel is answered or the call ends.
   pub stays : CancelStays (hostRun h calls)
+  -- A cancel of an active call is accepted,
+  pub taken : CancelsTaken (hostRun h calls)
+  -- and sent, with CANCEL armed.
+  pub sent : CancelsSent (hostRun h calls)
   -- The client's cancel number counts the cancels of its call.
   pub counted : CancelNumberCounts (hostRun h calls)
   -- The host is told cancels that were asked for,

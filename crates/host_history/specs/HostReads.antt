@@ -76,6 +76,10 @@ timerCall ResendTimer ticket out = ToServer (ServerTimer 3 ticket out)
 abbrev pub lastCancel : Side (List ℕ) → ℕ
 lastCancel side = numberAt 4 true (side .machine) 68
 
+-- The last ticket that was armed stands at 32, in eight bytes.
+abbrev pub lastTicket : Side (List ℕ) → ℕ
+lastTicket side = numberAt 8 true (side .machine) 32
+
 -- The call number of four bytes stands at 16.
 abbrev pub lastCall : Side (List ℕ) → ℕ
 lastCall side = numberAt 4 true (side .machine) 16
