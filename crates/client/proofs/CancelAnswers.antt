@@ -28,7 +28,6 @@ use Rattle.reader.specs.Reading.{reading}
 use Rattle.timers.specs.declared.Timer.{Timer}
 use Rattle.timers.specs.declared.Timer.the-variants.{Off, Armed}
 use Rattle.timers.specs.Tickets.{usedUp, off, armedWith}
-use Rattle.timers.proofs.TimerLaws.{off-has-none}
 use Rattle.grounds.specs.Order.{first, refuseIf, groundOf}
 use Rattle.grounds.specs.Entry.{same, lentGround, entryGround}
 use Rattle.grounds.specs.Fragment.{bodyLength}
@@ -42,7 +41,6 @@ use Rattle.client_record.specs.States.{isQueued, isActive}
 use Rattle.client_record.specs.Rules.{sound}
 use Rattle.client_record.specs.Record.{unarmed, cancelDisarmed}
 use Rattle.client_record.specs.Arming.{namedTimer, namedBy, pings}
-use Rattle.client_record.proofs.RuleLaws.{cancel-off}
 use Rattle.client_table.specs.declared.Event.{Event}
 use Rattle.client_table.specs.declared.Event.the-variants.{CancelAck, Foreign}
 use Rattle.client_table.specs.Events.{serverEvent, eventOf, byEvent, sideGround, hasRow, arms}
@@ -57,6 +55,7 @@ use Rattle.client_arrivals.specs.Table.{arrivalRow, arrivalPlan}
 use Rattle.client.specs.Sending.{sentOut}
 use Rattle.client.specs.Machine.{outcomeOf, sending, planOf, acted, timing, cancelling, arriving}
 use Rattle.client.proofs.Accepting.{timer-accepted, arrive-row}
+use Rattle.client.proofs.Cancels.{armed-active}
 
 -- The three active states, by their names.
 abbrev pub Active : State → Type 0
@@ -91,14 +90,6 @@ unqueued ReceiveFrags other = refl
 unqueued AckPending other = refl
 unqueued Complete other = refl
 unqueued Fault other = refl
-
--- In a record that keeps its rules CANCEL is armed only in the three.
-armed-active : (c : Client) (ticket : ℕ) → sound c ≡ true → c .cancel ≡ Armed ticket → isActive (c .state) ≡ true
-armed-active c ticket kept armed = by-state (isActive (c .state)) refl
-  where
-    by-state : (t : Bool) → isActive (c .state) ≡ t → t ≡ true
-    by-state true is = refl
-    by-state false is = absurd (off-has-none ticket (sym (cancel-off c kept is) ∙ armed))
 
 -- A timer is armed with a ticket, or it is not.
 armed-with : (timer : Timer) (ticket : ℕ) → timer ≡ Armed ticket → armedWith timer ticket ≡ true

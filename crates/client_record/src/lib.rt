@@ -28,7 +28,7 @@ pub enum TimerKind {
     Cancel,
 }
 
-// The number and the call mean nothing in QUEUED.
+// The number, the call and the cancel number mean nothing in QUEUED.
 pub struct Client {
     pub state: State,
     pub activity: [u8; 16],

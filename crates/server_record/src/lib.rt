@@ -35,7 +35,7 @@ pub enum State {
     Held(Reply),
 }
 
-// The number and the call mean nothing in IDLE fresh.
+// The number, the call and the cancel number last seen mean nothing in IDLE fresh.
 pub struct Server {
     pub state: State,
     pub activity: [u8; 16],
