@@ -1,19 +1,25 @@
 //! A whole small console over UDP, to copy: `console_loop PORT TEXT...` calls the controller at 127.0.0.1:PORT,
-//! operation 0, once for each TEXT, and prints the replies. docs/USING.md explains it.
+//! operation 0, once for each TEXT, and prints the replies. It cancels a call that takes longer than two seconds.
+//! docs/USING.md explains it.
 use morphelai::programs::operations::{ECHO, INTERFACE, VERSION};
 use morphelai::{Call, Client, ClientState, ClientTimer, Notice, Outcome, PDU_SIZE};
 use std::net::{Ipv4Addr, UdpSocket};
 use std::time::{Duration, Instant};
 use std::{env, error::Error, fs::File, io, io::Read, io::Write, num::NonZeroU16, process::ExitCode};
 
-const TIMERS: [(ClientTimer, Duration); 2] =
-    [(ClientTimer::Wait, Duration::from_millis(200)), (ClientTimer::Ack, Duration::from_millis(50))];
+const TIMERS: [(ClientTimer, Duration); 3] = [
+    (ClientTimer::Wait, Duration::from_millis(200)),
+    (ClientTimer::Ack, Duration::from_millis(50)),
+    (ClientTimer::Cancel, Duration::from_millis(1000)),
+];
+/// When a call is cancelled.
+const LONGEST_CALL: Duration = Duration::from_millis(2000);
 
 struct Console {
     socket: UdpSocket,
     client: Client,
     /// Our own timers: the ticket that each was started with, and when it runs out.
-    started: [Option<(u64, Instant)>; 2],
+    started: [Option<(u64, Instant)>; 3],
 }
 
 impl Console {
@@ -25,13 +31,17 @@ impl Console {
         let socket = UdpSocket::bind((Ipv4Addr::LOCALHOST, 0))?;
         socket.connect((Ipv4Addr::LOCALHOST, port.get()))?;
         socket.set_read_timeout(Some(Duration::from_millis(10)))?;
-        Ok(Console { socket, client, started: [None; 2] })
+        Ok(Console { socket, client, started: [None; 3] })
     }
 
     /// One call: the whole reply, or why there is none. A call that failed may have been executed all the same.
     fn call(&mut self, call: &Call, request: &[u8]) -> Result<Vec<u8>, String> {
         post(&self.socket, self.client.start(call, request))?;
+        let mut stop = Some(Instant::now() + LONGEST_CALL);
         loop {
+            if stop.take_if(|stop| *stop <= Instant::now()).is_some() {
+                post(&self.socket, self.client.cancel())?;
+            }
             match self.event()? {
                 None | Some(Notice::Count(_)) => {}
                 Some(Notice::Last) => return Ok(self.client.message()),

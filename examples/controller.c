@@ -1,11 +1,12 @@
 /*
  * A whole controller over UDP, in C99 and POSIX: copy it, and put your own work into `operate`.
  *
- *   controller_c [PORT [SECONDS]]
+ *   controller_c [PORT [SECONDS [WORK]]]
  *
  * It listens on 127.0.0.1 (port 0, the default: any that is free). It replies to every operation of its interface with
- * the request's own bytes, but answers operation 2 and every other interface by a fault. It ends after SECONDS, or
- * never. docs/USING.md explains it.
+ * the request's own bytes, but answers operation 2 and every other interface by a fault. Each operation takes WORK
+ * milliseconds (0), and a call that is cancelled before is ended by a fault. It ends after SECONDS, or never.
+ * docs/USING.md explains it.
  */
 #define _POSIX_C_SOURCE 200809L
 #include <arpa/inet.h>
@@ -19,8 +20,9 @@
 
 #include "morphelai.h"
 
-enum { ACTIVITIES = 64, RESEND_MILLISECONDS = 300, VERSION = 1, FAULTED_OPERATION = 2, MOST_SECONDS = 1000000 };
+enum { ACTIVITIES = 64, RESEND_MILLISECONDS = 300, VERSION = 1, FAULTED_OPERATION = 2, MOST = 1000000 };
 #define FAULT_STATUS 0x1c010003u
+#define CANCELLED_STATUS 0x1c00000du /* nca_s_fault_cancel of C706 */
 
 /* The interface that is served, in little-endian form. */
 static const uint8_t interface[MORPHELAI_UUID_SIZE] = {0x56, 0x41, 0x4c, 0x56, 0x45, 0x43, 0x0e, 0x47,
@@ -34,6 +36,8 @@ struct activity {
     uint8_t reply[MORPHELAI_MESSAGE_SIZE];
     size_t reply_length;
     struct sockaddr_in console;
+    bool working;    /* whether the call that was dispatched is still worked on, */
+    int64_t done;    /* and when that is done */
     bool ticking;    /* whether our timer for RESEND runs, */
     uint64_t ticket; /* with which ticket it was started, */
     int64_t due;     /* and when it runs out */
@@ -45,7 +49,8 @@ static size_t activity_count;
 static uint8_t pdu[MORPHELAI_PDU_SIZE], request[MORPHELAI_MESSAGE_SIZE];
 static int udp;
 static uint32_t boot;
-static unsigned long executed;
+static long work;
+static unsigned long executed, cancelled;
 
 static int64_t now(void) {
     struct timespec time;
@@ -86,10 +91,17 @@ static bool operate(const uint8_t *record, size_t request_length, uint8_t *reply
     return true;
 }
 
-/* At the notice dispatch and nowhere else: executes the call and answers it, once. */
+/* At the notice dispatch and nowhere else: the call is worked on. While it lasts, the host goes on with its events. */
+static void begin(struct activity *a) {
+    a->working = true;
+    a->done = now() + work;
+}
+
+/* The work is done: what the operation does is done whole, here, and answered, once. */
 static void execute(struct activity *a) {
     size_t length = 0;
     uint64_t result;
+    a->working = false;
     executed++;
     if (operate(a->record, take_request(a), a->reply, &length)) {
         result = morphelai_server_reply(a->record, sizeof a->record, (uint32_t)length);
@@ -98,6 +110,14 @@ static void execute(struct activity *a) {
         result = morphelai_server_fault(a->record, sizeof a->record, FAULT_STATUS, pdu, sizeof pdu);
     }
     settle(a, result);
+}
+
+/* At the notice cancel: nothing was done yet, so the work is dropped, and a fault says so. A stub that has begun to
+   move something brings it to a safe place first, and tells by its status where it is. */
+static void stop(struct activity *a) {
+    a->working = false;
+    cancelled++;
+    settle(a, morphelai_server_fault(a->record, sizeof a->record, CANCELLED_STATUS, pdu, sizeof pdu));
 }
 
 /* Sends the reply, whole or again. It stops at a refusal, after which the record would stay in REPLYING. */
@@ -141,7 +161,8 @@ static void receive(void) {
     uint64_t result = morphelai_server_arrive(a->record, sizeof a->record, datagram, length, a->slots, sizeof a->slots,
                                               pdu, sizeof pdu);
     settle(a, result);
-    if (morphelai_notice(result) == MORPHELAI_NOTICE_DISPATCH) execute(a);
+    if (morphelai_notice(result) == MORPHELAI_NOTICE_DISPATCH) begin(a);
+    if (morphelai_notice(result) == MORPHELAI_NOTICE_CANCEL) stop(a);
     transmit_reply(a);
 }
 
@@ -152,12 +173,23 @@ static void run_out(struct activity *a) {
     transmit_reply(a);
 }
 
-/* How long to wait for a datagram: until the next timer, at most a second. */
+/* How long to wait for a datagram: until the next timer or the end of some work, at most a second. */
 static int patience(int64_t end) {
     int64_t until = now() + 1000 < end ? now() + 1000 : end;
-    for (size_t i = 0; i < activity_count; i++)
-        if (activities[i].ticking && activities[i].due < until) until = activities[i].due;
+    for (struct activity *a = activities; a < activities + activity_count; a++) {
+        if (a->ticking && a->due < until) until = a->due;
+        if (a->working && a->done < until) until = a->done;
+    }
     return until > now() ? (int)(until - now()) : 0;
+}
+
+/* What has become due: the answer of a call whose work is done, or our timer. */
+static void look(struct activity *a) {
+    if (a->working && a->done <= now()) {
+        execute(a);
+        transmit_reply(a);
+    }
+    if (a->ticking && a->due <= now()) run_out(a);
 }
 
 static void serve(int64_t end) {
@@ -165,8 +197,7 @@ static void serve(int64_t end) {
         struct pollfd socket_event = {udp, POLLIN, 0};
         poll(&socket_event, 1, patience(end));
         if (socket_event.revents != 0) receive();
-        for (size_t i = 0; i < activity_count; i++)
-            if (activities[i].ticking && activities[i].due <= now()) run_out(&activities[i]);
+        for (size_t i = 0; i < activity_count; i++) look(&activities[i]);
     }
 }
 
@@ -204,14 +235,16 @@ static long number_of(const char *text, long most) {
 
 int main(int count, char **words) {
     long port = count > 1 ? number_of(words[1], 65535) : 0;
-    long seconds = count > 2 ? number_of(words[2], MOST_SECONDS) : 0;
-    if (count > 3 || port < 0 || seconds < 0) {
-        fprintf(stderr, "usage: controller_c [PORT [SECONDS]], at most 65535 and %d\n", MOST_SECONDS);
+    long seconds = count > 2 ? number_of(words[2], MOST) : 0;
+    work = count > 3 ? number_of(words[3], MOST) : 0;
+    if (count > 4 || port < 0 || seconds < 0 || work < 0) {
+        fprintf(stderr, "usage: controller_c [PORT [SECONDS [WORK]]], at most 65535, %d and %d\n", MOST, MOST);
         return 2;
     }
     boot = (uint32_t)time(NULL);
     if (!listens((uint16_t)port)) return 1;
     serve(count > 2 ? now() + seconds * 1000 : INT64_MAX);
+    if (cancelled > 0) printf("ended %lu calls because of a cancel\n", cancelled);
     printf("executed %lu calls\n", executed);
     return is_printed() ? 0 : 1;
 }

@@ -48,7 +48,7 @@ enum {
     MORPHELAI_MAYBE_OR_BROADCAST = 11,    /* a request marked maybe or broadcast */
     MORPHELAI_WRONG_FRAGMENT = 12,        /* a fragment number above 31, or not 0 in a lone fragment */
     MORPHELAI_OLD_CALL = 13,              /* client: not of its call; server: of an older one, or a spent request */
-    MORPHELAI_MALFORMED_BODY = 14,        /* the body of a fault, reject or fack is malformed */
+    MORPHELAI_MALFORMED_BODY = 14,        /* the body of a fault, reject, fack, cancel or cancel_ack is malformed */
     MORPHELAI_NO_ROW = 15,                /* the state has nothing to do for this event, or no such timer */
     MORPHELAI_REPEATED = 16,              /* a fragment already held, or a repeated request or ping */
     MORPHELAI_CONTRADICTION = 17,         /* it contradicts what is held or what was called */
@@ -59,27 +59,29 @@ enum {
 
 /* ---- Notices: what the stub is told, and what the notice's value then is */
 enum {
-    MORPHELAI_NOTICE_NONE = 0,    /* nothing */
-    MORPHELAI_NOTICE_LAST = 1,    /* client: the whole reply can be taken */
-    MORPHELAI_NOTICE_COUNT = 2,   /* client: value parts of the reply can be taken already */
-    MORPHELAI_NOTICE_FAULT = 3,   /* client: the call failed, the server's fault has the status value */
-    MORPHELAI_NOTICE_REJECT = 4,  /* client: the call was rejected with the status value */
-    MORPHELAI_NOTICE_CAUSE = 5,   /* client: given up here, value is a cause */
-    MORPHELAI_NOTICE_DISPATCH = 6 /* server: the whole request is there; execute the call now, and only now */
+    MORPHELAI_NOTICE_NONE = 0,     /* nothing */
+    MORPHELAI_NOTICE_LAST = 1,     /* client: the whole reply can be taken */
+    MORPHELAI_NOTICE_COUNT = 2,    /* client: value parts of the reply can be taken already */
+    MORPHELAI_NOTICE_FAULT = 3,    /* client: the call failed, the server's fault has the status value */
+    MORPHELAI_NOTICE_REJECT = 4,   /* client: the call was rejected with the status value */
+    MORPHELAI_NOTICE_CAUSE = 5,    /* client: given up here, value is a cause */
+    MORPHELAI_NOTICE_DISPATCH = 6, /* server: the whole request is there; execute the call now, and only now */
+    MORPHELAI_NOTICE_CANCEL = 7    /* server: the client wants the running call to end; a fault may end it, value 0 */
 };
 
-/* ---- Causes: why the client gave up. Neither says that the call was not executed. */
+/* ---- Causes: why the client gave up. None says that the call was not executed. */
 enum {
-    MORPHELAI_CAUSE_NO_RESPONSE = 1, /* WAIT ran out too often */
-    MORPHELAI_CAUSE_NO_CALL = 2      /* the server answered nocall too often */
+    MORPHELAI_CAUSE_NO_RESPONSE = 1,  /* WAIT ran out too often */
+    MORPHELAI_CAUSE_NO_CALL = 2,      /* the server answered nocall too often */
+    MORPHELAI_CAUSE_NO_CANCEL_ACK = 3 /* CANCEL ran out: no cancel_ack with the current number came in time */
 };
 
 /* ---- States of a client */
 enum {
     MORPHELAI_CLIENT_QUEUED = 0,        /* fresh: no call yet; may start */
-    MORPHELAI_CLIENT_SEND_FRAGS = 1,    /* the request is being sent: call transmit */
-    MORPHELAI_CLIENT_DISPATCHED = 2,    /* all sent, no reply yet; WAIT runs */
-    MORPHELAI_CLIENT_RECEIVE_FRAGS = 3, /* a part of the reply is there; WAIT runs */
+    MORPHELAI_CLIENT_SEND_FRAGS = 1,    /* the request is being sent: call transmit; may cancel */
+    MORPHELAI_CLIENT_DISPATCHED = 2,    /* all sent, no reply yet; WAIT runs; may cancel */
+    MORPHELAI_CLIENT_RECEIVE_FRAGS = 3, /* a part of the reply is there; WAIT runs; may cancel */
     MORPHELAI_CLIENT_ACK_PENDING = 4,   /* the whole reply is there, an ack is owed; ACK runs; may start */
     MORPHELAI_CLIENT_COMPLETE = 5,      /* the call is over; may start */
     MORPHELAI_CLIENT_FAULT = 6          /* the call has failed; may start */
@@ -99,9 +101,10 @@ enum {
 
 /* ---- Kinds of timers */
 enum {
-    MORPHELAI_WAIT = 1,  /* client: how long to wait for the server before a ping */
-    MORPHELAI_ACK = 2,   /* client: how long an ack may be put off */
-    MORPHELAI_RESEND = 3 /* server: how long to wait for an ack before the reply is sent again */
+    MORPHELAI_WAIT = 1,   /* client: how long to wait for the server before a ping */
+    MORPHELAI_ACK = 2,    /* client: how long an ack may be put off */
+    MORPHELAI_RESEND = 3, /* server: how long to wait for an ack before the reply is sent again */
+    MORPHELAI_CANCEL = 4  /* client: how long to wait for a cancel_ack before the call is given up */
 };
 
 /* ---- Places in a header as morphelai_read gives it, for hosts that sort datagrams by activity */
@@ -132,9 +135,13 @@ uint64_t morphelai_client_arrive(uint8_t *record, size_t record_length, const ui
                                  size_t datagram_length, uint8_t *slots, size_t slots_length, uint8_t *pdu,
                                  size_t pdu_length);
 
-/* A timer ran out: MORPHELAI_WAIT or MORPHELAI_ACK, with the ticket that it was started with. */
+/* A timer ran out: MORPHELAI_WAIT, MORPHELAI_ACK or MORPHELAI_CANCEL, with the ticket that it was started with. */
 uint64_t morphelai_client_timer(uint8_t *record, size_t record_length, uint8_t kind, uint64_t ticket, uint8_t *pdu,
                                 size_t pdu_length);
+
+/* Asks the server to end the call, in SEND_FRAGS, DISPATCHED and RECEIVE_FRAGS: sends a cancel with the next number,
+   from 1 in each call, and arms CANCEL if it is not armed. The call goes on until a notice tells its end. */
+uint64_t morphelai_client_cancel(uint8_t *record, size_t record_length, uint8_t *pdu, size_t pdu_length);
 
 /* The length of part `number` of the reply, which lies in slots at number * MORPHELAI_BODY_SIZE; 0: none or empty. */
 uint64_t morphelai_client_part(const uint8_t *record, size_t record_length, uint16_t number, const uint8_t *slots,
@@ -146,7 +153,7 @@ uint64_t morphelai_client_part(const uint8_t *record, size_t record_length, uint
 uint64_t morphelai_server_fresh(uint8_t *record, size_t record_length, const uint8_t *activity, size_t activity_length,
                                 uint32_t boot, uint64_t tickets);
 
-/* A datagram came from the client. Its notice may be MORPHELAI_NOTICE_DISPATCH. */
+/* A datagram came from the client. Its notice may be MORPHELAI_NOTICE_DISPATCH or MORPHELAI_NOTICE_CANCEL. */
 uint64_t morphelai_server_arrive(uint8_t *record, size_t record_length, const uint8_t *datagram,
                                  size_t datagram_length, uint8_t *slots, size_t slots_length, uint8_t *pdu,
                                  size_t pdu_length);
@@ -208,14 +215,19 @@ static inline uint64_t morphelai_number_at(const uint8_t *bytes, size_t size) {
 /* The state: MORPHELAI_CLIENT_... or MORPHELAI_SERVER_... */
 static inline uint8_t morphelai_state(const uint8_t *record) { return record[0]; }
 
-/* Whether the timer of this kind is armed, 1 or 0. */
+/* Which of its side's timers this kind is: WAIT and RESEND are the first. */
+static inline size_t morphelai_timer_place(uint8_t kind) {
+    return kind == MORPHELAI_ACK ? 1 : kind == MORPHELAI_CANCEL ? 2 : 0;
+}
+
+/* Whether the timer of this kind, one of the record's side, is armed, 1 or 0. */
 static inline int morphelai_armed(const uint8_t *record, uint8_t kind) {
-    return record[kind == MORPHELAI_ACK ? 65 : 64] == 1;
+    return record[64 + morphelai_timer_place(kind)] == 1;
 }
 
 /* The ticket that the timer of this kind is armed with, where it is. */
 static inline uint64_t morphelai_ticket(const uint8_t *record, uint8_t kind) {
-    return morphelai_number_at(record + (kind == MORPHELAI_ACK ? 48 : 40), 8);
+    return morphelai_number_at(record + 40 + 8 * morphelai_timer_place(kind), 8);
 }
 
 /* The call: its number, operation, interface with version, and object. At a server, those of the call dispatched. */

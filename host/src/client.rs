@@ -53,6 +53,8 @@ pub enum ClientTimer {
     Wait,
     /// When to send the ack.
     Ack,
+    /// How long to wait for the server's cancel_ack.
+    Cancel,
 }
 
 impl Client {
@@ -95,12 +97,22 @@ impl Client {
         self.memory.outcome(result)
     }
 
+    /// Asks the server to end the call that is out: sends a cancel, and arms [`ClientTimer::Cancel`] if it is not
+    /// armed. The call goes on until a notice tells its end, and may be executed all the same. Refused where no call
+    /// is out.
+    pub fn cancel(&mut self) -> Outcome<'_> {
+        let Memory { record, pdu, .. } = &mut self.memory;
+        let result = door::client_cancel(record, pdu);
+        self.memory.outcome(result)
+    }
+
     /// Takes a timer that ran out, with the ticket that it was started with.
     pub fn timer(&mut self, kind: ClientTimer, ticket: u64) -> Outcome<'_> {
         let Memory { record, pdu, .. } = &mut self.memory;
         let kind = match kind {
             ClientTimer::Wait => 1,
             ClientTimer::Ack => 2,
+            ClientTimer::Cancel => 4,
         };
         let result = door::client_timer(record, kind, ticket, pdu);
         self.memory.outcome(result)
@@ -136,6 +148,7 @@ impl Client {
         match kind {
             ClientTimer::Wait => self.memory.ticket(40, 64),
             ClientTimer::Ack => self.memory.ticket(48, 65),
+            ClientTimer::Cancel => self.memory.ticket(56, 66),
         }
     }
 

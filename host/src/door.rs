@@ -79,7 +79,13 @@ pub fn client_arrive(record: &mut [u8], datagram: &[u8], slots: &mut [u8], pdu: 
     }
 }
 
-/// Takes a timer of the client that ran out: kind 1 is WAIT, 2 is ACK.
+/// Asks the server to end the client's call.
+pub fn client_cancel(record: &mut [u8], pdu: &mut [u8]) -> u64 {
+    // SAFETY: each pointer goes with the length of its slice; what is written is borrowed alone.
+    unsafe { morphelai_client_cancel(record.as_mut_ptr(), record.len(), pdu.as_mut_ptr(), pdu.len()) }
+}
+
+/// Takes a timer of the client that ran out: kind 1 is WAIT, 2 is ACK, 4 is CANCEL.
 pub fn client_timer(record: &mut [u8], kind: u8, ticket: u64, pdu: &mut [u8]) -> u64 {
     // SAFETY: each pointer goes with the length of its slice; what is written is borrowed alone.
     unsafe { morphelai_client_timer(record.as_mut_ptr(), record.len(), kind, ticket, pdu.as_mut_ptr(), pdu.len()) }

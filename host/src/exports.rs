@@ -56,7 +56,7 @@ extern "C" {
         pdu_length: usize,
     ) -> u64;
 
-    /// Takes a timer that ran out: kind 1 is WAIT, 2 is ACK.
+    /// Takes a timer that ran out: kind 1 is WAIT, 2 is ACK, 4 is CANCEL.
     pub fn morphelai_client_timer(
         record: *mut u8,
         record_length: usize,
@@ -65,6 +65,9 @@ extern "C" {
         pdu: *mut u8,
         pdu_length: usize,
     ) -> u64;
+
+    /// Asks the server to end the call.
+    pub fn morphelai_client_cancel(record: *mut u8, record_length: usize, pdu: *mut u8, pdu_length: usize) -> u64;
 
     /// The length of a fragment of the reply that is handed up.
     pub fn morphelai_client_part(

@@ -29,11 +29,11 @@ pub enum PduType {
     Reject,
     /// 7: the client has the reply.
     Ack,
-    /// 8: the client gives up.
+    /// 8: the client wants the call to end.
     Cancel,
     /// 9: which fragments are there.
     Fack,
-    /// 10: the server has the cancel.
+    /// 10: the server has the cancel, and tells whether the call was running.
     CancelAck,
     /// Another number, which no PDU that can be read has.
     Other(u8),

@@ -33,6 +33,8 @@ pub enum Notice {
     Cause(Cause),
     /// The whole request is there: execute the call now, and only now.
     Dispatch,
+    /// The client wants the running call to end. The stub may end it by a fault, or go on and reply.
+    Cancel,
     /// A notice of a later library.
     Other {
         /// Its kind.
@@ -49,6 +51,8 @@ pub enum Cause {
     NoAnswer,
     /// 2: the server said six times that it does not have the request.
     NoCall,
+    /// 3: the call was cancelled here, and no cancel_ack came before CANCEL ran out.
+    NoCancelAck,
     /// A cause of a later library.
     Other(u32),
 }
@@ -100,6 +104,7 @@ impl Notice {
             4 => Some(Notice::Reject(value)),
             5 => Some(Notice::Cause(Cause::of(value))),
             6 => Some(Notice::Dispatch),
+            7 => Some(Notice::Cancel),
             _ => Some(Notice::Other { kind, value }),
         }
     }
@@ -110,6 +115,7 @@ impl Cause {
         match value {
             1 => Cause::NoAnswer,
             2 => Cause::NoCall,
+            3 => Cause::NoCancelAck,
             _ => Cause::Other(value),
         }
     }
@@ -124,6 +130,7 @@ impl fmt::Display for Notice {
             Notice::Reject(status) => write!(to, "reject {status:#010x}"),
             Notice::Cause(cause) => write!(to, "{cause}"),
             Notice::Dispatch => write!(to, "dispatch: the whole request"),
+            Notice::Cancel => write!(to, "cancel: the call is to end"),
             Notice::Other { kind, value } => write!(to, "notice {kind} with {value}"),
         }
     }
@@ -134,6 +141,7 @@ impl fmt::Display for Cause {
         match self {
             Cause::NoAnswer => write!(to, "cause 1: no answer, WAIT ran out 6 times"),
             Cause::NoCall => write!(to, "cause 2: nocall 6 times"),
+            Cause::NoCancelAck => write!(to, "cause 3: no cancel_ack, CANCEL ran out"),
             Cause::Other(value) => write!(to, "cause {value}"),
         }
     }
@@ -151,6 +159,17 @@ mod tests {
         assert_eq!(Outcome::of(0, &buffer), Outcome::Done { pdu: None, notice: None });
         assert_eq!(Outcome::of(13, &buffer), Outcome::Refused(Refusal::OldCall));
         assert_eq!(Outcome::of(0x1_0000_0500, &buffer).notice(), Some(Notice::Cause(Cause::NoAnswer)));
+        assert_eq!(Outcome::of(0x700, &buffer), Outcome::Done { pdu: None, notice: Some(Notice::Cancel) });
+    }
+
+    #[test]
+    fn every_cause_tells_its_number() {
+        for value in 1..=4_u32 {
+            let notice = Outcome::of(u64::from(value) << 32 | 0x500, &[]).notice().expect("a notice");
+            let told = notice.to_string();
+            assert!(told.starts_with(&format!("cause {value}")), "{told}");
+            assert_eq!(told.contains(':'), value < 4, "{told}");
+        }
     }
 
     #[test]

@@ -31,7 +31,7 @@ pub enum Refusal {
     Fragment,
     /// 13: of a call that is over, or not of this client.
     OldCall,
-    /// 14: a fault, reject or fack whose body cannot be read.
+    /// 14: a fault, reject, fack, cancel or cancel_ack whose body cannot be read.
     Malformed,
     /// 15: the state has nothing to do for this event.
     NoRow,

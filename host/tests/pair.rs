@@ -5,6 +5,8 @@ use morphelai::{Call, Client, ClientState, ClientTimer, Header, Notice, Outcome,
 use morphelai::{MESSAGE_SIZE, PDU_SIZE};
 
 const ACTIVITY: [u8; 16] = *b"an activity here";
+/// The status of a call that the stub ended because of a cancel.
+const CANCELLED: u32 = 0x1c00_000d;
 
 fn call(idempotent: bool) -> Call {
     Call { idempotent, object: [3; 16], interface: [5; 16], version: 70_000, operation: 258 }
@@ -96,12 +98,29 @@ fn a_fault_comes_back_and_is_kept() {
 /// A network in memory that loses, repeats and mixes up what the two sides send.
 struct Storm {
     random: Random,
+    /// Whether the client cancels now and then, and the server takes its time.
+    cancels: bool,
     to_client: Vec<Vec<u8>>,
     to_server: Vec<Vec<u8>>,
     dispatches: u32,
 }
 
 impl Storm {
+    fn new(seed: u64, cancels: bool) -> Storm {
+        Storm { random: Random::new(seed), cancels, to_client: Vec::new(), to_server: Vec::new(), dispatches: 0 }
+    }
+
+    /// Whether the client cancels in this turn.
+    fn presses_stop(&mut self, client: &Client) -> bool {
+        let out = [ClientState::SendFrags, ClientState::Dispatched, ClientState::ReceiveFrags];
+        self.cancels && out.contains(&client.state()) && self.random.below(12) == 0
+    }
+
+    /// Whether the server goes on working in this turn.
+    fn works_on(&mut self) -> bool {
+        self.cancels && self.random.below(8) != 0
+    }
+
     /// A PDU as it passes: lost, once or twice.
     fn pass(&mut self, pdus: Vec<Vec<u8>>) -> Vec<Vec<u8>> {
         let times = [0, 1, 1, 1, 2][self.random.below(5) as usize];
@@ -109,9 +128,11 @@ impl Storm {
     }
 
     fn client_turn(&mut self, client: &mut Client) -> Option<Notice> {
-        let timers = [ClientTimer::Wait, ClientTimer::Ack];
+        let timers = [ClientTimer::Cancel, ClientTimer::Wait, ClientTimer::Ack];
         let armed = timers.into_iter().find_map(|kind| client.armed(kind).map(|ticket| (kind, ticket)));
-        let outcome = if client.state() == ClientState::SendFrags {
+        let outcome = if self.presses_stop(client) {
+            client.cancel()
+        } else if client.state() == ClientState::SendFrags {
             client.transmit()
         } else if !self.to_client.is_empty() {
             let place = self.random.below(self.to_client.len() as u64) as usize;
@@ -128,7 +149,7 @@ impl Storm {
     }
 
     fn server_turn(&mut self, server: &mut Server) {
-        let outcome = if server.state() == ServerState::Running {
+        let outcome = if server.state() == ServerState::Running && !self.works_on() {
             let reply = server.message();
             server.reply(&reply)
         } else if server.state() == ServerState::Replying {
@@ -139,9 +160,14 @@ impl Storm {
         } else {
             return;
         };
-        self.dispatches += u32::from(outcome.notice() == Some(Notice::Dispatch));
+        let notice = outcome.notice();
+        self.dispatches += u32::from(notice == Some(Notice::Dispatch));
         let pdus = self.pass(copy(outcome));
         self.to_client.extend(pdus);
+        if notice == Some(Notice::Cancel) {
+            let pdus = self.pass(copy(server.fault(CANCELLED)));
+            self.to_client.extend(pdus);
+        }
     }
 }
 
@@ -150,8 +176,7 @@ fn over_a_bad_network_every_call_ends_and_is_executed_at_most_once() {
     let (mut good, mut failed) = (0, 0);
     for seed in 0..200 {
         let (mut client, mut server) = pair();
-        let mut storm =
-            Storm { random: Random::new(seed), to_client: Vec::new(), to_server: Vec::new(), dispatches: 0 };
+        let mut storm = Storm::new(seed, false);
         for size in [0, 1, 1393, 5000] {
             let request = Random::new(seed + size as u64).bytes(size);
             let before = storm.dispatches;
@@ -173,4 +198,41 @@ fn over_a_bad_network_every_call_ends_and_is_executed_at_most_once() {
         }
     }
     assert!(good > 700, "{good} good, {failed} failed");
+}
+
+/// The same with cancels: a call that its stub ended was dispatched, and one that completed has its own reply.
+#[test]
+fn over_a_bad_network_a_cancelled_call_ends_and_is_executed_at_most_once() {
+    let (mut replies, mut faults, mut causes) = (0, 0, 0);
+    for seed in 0..200 {
+        let (mut client, mut server) = pair();
+        let mut storm = Storm::new(seed, true);
+        for size in [0, 1, 1393, 5000] {
+            let request = Random::new(seed + size as u64).bytes(size);
+            let before = storm.dispatches;
+            assert_eq!(client.start(&call(false), &request).refusal(), None);
+            let end = (0..10_000).find_map(|_| {
+                storm.server_turn(&mut server);
+                storm.client_turn(&mut client).filter(|notice| !matches!(notice, Notice::Count(_)))
+            });
+            let dispatches = storm.dispatches - before;
+            match end {
+                Some(Notice::Last) => {
+                    assert!(client.message() == request, "seed {seed}: another reply");
+                    assert_eq!(dispatches, 1, "seed {seed}: a reply");
+                    replies += 1;
+                }
+                Some(Notice::Fault(CANCELLED)) => {
+                    assert_eq!(dispatches, 1, "seed {seed}: a fault");
+                    faults += 1;
+                }
+                Some(Notice::Cause(_)) => {
+                    assert!(dispatches <= 1, "seed {seed}: executed twice");
+                    causes += 1;
+                }
+                other => panic!("seed {seed}: {other:?}"),
+            }
+        }
+    }
+    assert!(replies > 100 && faults > 100 && causes > 20, "{replies} replies, {faults} faults, {causes} causes");
 }

@@ -18,7 +18,7 @@ pub struct Difference {
 }
 
 /// Where the fields of a record begin.
-const FIELDS: [(usize, &str); 23] = [
+const FIELDS: [(usize, &str); 26] = [
     (layout::STATE, " (state)"),
     (layout::IDEMPOTENT, " (idempotent)"),
     (layout::FIRST_COUNT, " (WAIT or RESEND count)"),
@@ -36,7 +36,10 @@ const FIELDS: [(usize, &str); 23] = [
     (layout::TICKET_COUNTER, " (ticket counter)"),
     (layout::FIRST_TICKET, " (ticket of WAIT or RESEND)"),
     (layout::SECOND_TICKET, " (ticket of ACK, or status)"),
+    (layout::THIRD_TICKET, " (ticket of CANCEL, or spare)"),
     (layout::FIRST_ARMED, " (marks of timers, or spare)"),
+    (layout::CANCEL_NUMBER, " (cancel number)"),
+    (layout::LAST_SPARE, " (spare)"),
     (layout::ACTIVITY, " (activity)"),
     (layout::OBJECT, " (object)"),
     (layout::INTERFACE, " (interface)"),

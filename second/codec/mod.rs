@@ -1,5 +1,6 @@
-//! The PDUs on the wire: header, body, fack.
+//! The PDUs on the wire: header, body, cancel, fack.
 
 pub mod body;
+pub mod cancel;
 pub mod fack;
 pub mod pdu;

@@ -17,7 +17,9 @@ pub mod pdu_type {
     pub const NOCALL: u8 = 5;
     pub const REJECT: u8 = 6;
     pub const ACK: u8 = 7;
+    pub const CANCEL: u8 = 8;
     pub const FACK: u8 = 9;
+    pub const CANCEL_ACK: u8 = 10;
 }
 
 pub mod flags1 {

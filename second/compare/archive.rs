@@ -2,13 +2,14 @@
 //! length.
 
 use super::exports::{
-    morphelai_client_arrive, morphelai_client_fresh, morphelai_client_part, morphelai_client_start,
-    morphelai_client_timer, morphelai_client_transmit, morphelai_read, morphelai_record_size,
-    morphelai_server_arrive, morphelai_server_fault, morphelai_server_fresh, morphelai_server_part,
-    morphelai_server_reply, morphelai_server_timer, morphelai_server_transmit, morphelai_write,
+    morphelai_client_arrive, morphelai_client_cancel, morphelai_client_fresh,
+    morphelai_client_part, morphelai_client_start, morphelai_client_timer,
+    morphelai_client_transmit, morphelai_read, morphelai_record_size, morphelai_server_arrive,
+    morphelai_server_fault, morphelai_server_fresh, morphelai_server_part, morphelai_server_reply,
+    morphelai_server_timer, morphelai_server_transmit, morphelai_write,
 };
 use crate::bench::library::Library;
-use crate::door::invocation::{Invocation, Lent, StartArguments};
+use crate::door::invocation::{ClientInvocation, Invocation, Lent, StartArguments};
 use crate::records::client::ClientSide;
 use crate::records::server::{Answer, ServerSide};
 
@@ -57,7 +58,8 @@ impl Library for Archive {
             Invocation::Timer { kind, ticket } => {
                 timer(morphelai_client_timer, record, (*kind, *ticket), pdu)
             }
-            Invocation::Own(start) => client_start(record, start),
+            Invocation::Own(ClientInvocation::Start(start)) => client_start(record, start),
+            Invocation::Own(ClientInvocation::Cancel) => client_cancel(record, pdu),
         }
     }
 
@@ -195,6 +197,10 @@ fn server_fault(record: &mut [u8], status: u32, pdu: &mut [u8]) -> u64 {
             pdu.len(),
         )
     }
+}
+
+fn client_cancel(record: &mut [u8], pdu: &mut [u8]) -> u64 {
+    unsafe { morphelai_client_cancel(lent_at(record), record.len(), lent_at(pdu), pdu.len()) }
 }
 
 fn client_start(record: &mut [u8], start: &StartArguments) -> u64 {

@@ -21,6 +21,12 @@ extern "C" {
         operation: u16,
         length: u32,
     ) -> u64;
+    pub fn morphelai_client_cancel(
+        record: *mut u8,
+        record_length: usize,
+        pdu: *mut u8,
+        pdu_length: usize,
+    ) -> u64;
     pub fn morphelai_client_transmit(
         record: *mut u8,
         record_length: usize,

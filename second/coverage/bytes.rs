@@ -2,6 +2,7 @@
 
 use crate::coverage::counts::Group;
 use crate::door::layout;
+use crate::generate::bytes::arguments::other_timer_names;
 use crate::generate::bytes::calls::{functions, Callable};
 use crate::generate::bytes::records::ways;
 use crate::generate::bytes::scenes::{NUMBERS_BEYOND, RECORD_LENGTHS};
@@ -63,7 +64,7 @@ fn argument_names<S: Callable>() -> Vec<String> {
     }
     let numbers = (0..32).chain(NUMBERS_BEYOND);
     names.extend(numbers.map(|number| format!("{side} part {number}")));
-    names.extend([1, 2, 15].map(|answer| format!("{side} timer of another kind: {answer}")));
+    names.extend(other_timer_names::<S>());
     names.extend([0, 1].map(|answer| format!("{side}-fresh-answer-{answer}")));
     names
 }

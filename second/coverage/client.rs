@@ -2,13 +2,14 @@
 
 use crate::codec::pdu::{flags1, pdu_type, Pdu};
 use crate::coverage::boundary::Boundary;
+use crate::coverage::client_cancel::{self, cancel_row, count_armed_row};
 use crate::coverage::counts::Counts;
 use crate::coverage::side::{again_name, contradiction_name, count_put, type_name, Put};
 use crate::coverage::step::{Counted, Step};
 use crate::coverage::system::Calls;
 use crate::machines::effect::Notice;
 use crate::machines::event::Event;
-use crate::records::client::{ClientSide, Start, State, TimerKind};
+use crate::records::client::{ClientEvent, ClientSide, State, TimerKind};
 use crate::records::incoming::Fragment;
 use crate::records::outgoing::Outgoing;
 use crate::records::side::Side;
@@ -16,12 +17,18 @@ use crate::records::side::Side;
 type ClientStep<'a> = Step<'a, ClientSide>;
 
 impl Counted for ClientSide {
-    fn own_event_name(_: &Start) -> &'static str {
-        "start"
+    fn own_event_name(event: &ClientEvent) -> &'static str {
+        match event {
+            ClientEvent::Start(_) => "start",
+            ClientEvent::Cancel => "cancel",
+        }
     }
 
-    fn message_length(start: &Start) -> Option<u32> {
-        Some(start.length)
+    fn message_length(event: &ClientEvent) -> Option<u32> {
+        match event {
+            ClientEvent::Start(start) => Some(start.length),
+            ClientEvent::Cancel => None,
+        }
     }
 
     fn timer_name(kind: TimerKind) -> &'static str {
@@ -43,8 +50,13 @@ impl Counted for ClientSide {
                 kind: TimerKind::Wait,
                 ..
             } if at_limit => format!("client WAIT in {state}: the count is 5"),
+            Event::Timer {
+                kind: TimerKind::Cancel,
+                ..
+            } => format!("client CANCEL in {state}: to FAULT"),
             Event::Timer { kind, .. } => format!("client {} in {state}: sends", kind.name()),
-            Event::Own(_) => format!("client start in {state}"),
+            Event::Own(ClientEvent::Start(_)) => format!("client start in {state}"),
+            Event::Own(ClientEvent::Cancel) => cancel_row(step),
             _ => transmit_row(step),
         }
     }
@@ -57,6 +69,7 @@ impl Counted for ClientSide {
             pdu_type::NOCALL if step.effect.notice.is_some() => "the resends are 5",
             pdu_type::NOCALL => again_name(&step.before.outgoing),
             pdu_type::WORKING => "WAIT armed afresh",
+            pdu_type::CANCEL_ACK => "CANCEL disarmed",
             _ => "to FAULT",
         };
         let kind = type_name(pdu.header.pdu_type);
@@ -65,8 +78,12 @@ impl Counted for ClientSide {
 
     fn count_in_system(step: &ClientStep, calls: &mut Calls, counts: &mut Counts) {
         let number = step.after.number;
-        if let Event::Own(start) = step.event {
-            calls.started(number, start.call.idempotent, counts);
+        match step.event {
+            Event::Own(ClientEvent::Start(start)) => {
+                calls.started(number, start.call.idempotent, counts);
+            }
+            Event::Own(ClientEvent::Cancel) => calls.cancelled(number, counts),
+            _ => {}
         }
         if (step.before.state, step.after.state) == (State::Dispatched, State::SendFrags)
             && step.after.outgoing.sent > 0
@@ -83,13 +100,18 @@ impl Counted for ClientSide {
     }
 
     fn count_own(step: &ClientStep, pdu: Option<&Pdu>, counts: &mut Counts) {
-        let is_start = matches!(step.event, Event::Own(_));
+        let is_start = matches!(step.event, Event::Own(ClientEvent::Start(_)));
         if is_start && step.answer == 0 && step.after.number == u32::MAX {
             counts.add_name(&Boundary::LastCallNumber.name(&ClientSide::WORDS));
         }
         if let Some(pdu) = pdu {
             count_pdu(pdu, step, counts);
         }
+        client_cancel::count(step, pdu, counts);
+    }
+
+    fn count_row(step: &ClientStep, row: &str, counts: &mut Counts) {
+        count_armed_row(step, row, counts);
     }
 }
 

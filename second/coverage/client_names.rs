@@ -1,20 +1,21 @@
 //! All that can be reached of the client, by name.
 //!
-//! Left out is what cannot be reached. At an arrival: 11 and 19 (a client takes no request), 18,
-//! and 15 in DISPATCHED (which has a row for each type that a client takes). 20 at the ACK timer,
-//! which arms nothing. Of the pairs of grounds: those of a datagram under 80 bytes with what its
-//! header would say, those of an unknown type with what the type decides, and those of different
-//! types.
+//! Left out is what cannot be reached. At an arrival: 11 and 19 (a client takes no request), and 18.
+//! 20 at the timers ACK and CANCEL, which arm nothing. Of the pairs of grounds: those of a datagram
+//! under 80 bytes with what its header would say, those of an unknown type with what the type
+//! decides, and those of different types.
 
+use crate::coverage::client_cancel::{self, CANCEL_ROWS};
 use crate::coverage::counts::pair_names;
 use crate::coverage::side::put_names;
 use crate::coverage::side_names::{lent_names, Named};
 use crate::records::client::{ClientSide, State, TimerKind};
 use crate::records::side::Side;
 
-/// The rows of document 01's table; @ stands for each state that has the row.
+/// The rows of document 01's table; @ stands for each state that has the row. Those of cancels stand
+/// with these.
 const START_ROWS: [&str; 1] = ["client start in @"];
-const ACTIVE_ROWS: [&str; 10] = [
+pub const ACTIVE_ROWS: [&str; 10] = [
     "client fack in @: acknowledged is raised",
     "client fack in @: acknowledged stays",
     "client response in @: put, not complete, fack",
@@ -26,25 +27,36 @@ const ACTIVE_ROWS: [&str; 10] = [
     "client fault in @: to FAULT",
     "client reject in @: to FAULT",
 ];
-const DISPATCHED_ROWS: [&str; 5] = [
+pub const DISPATCHED_ROWS: [&str; 5] = [
     "client working in @: WAIT armed afresh",
     "client nocall in @: the resends are 5",
     "client nocall in @: again from the first unacknowledged",
     "client nocall in @: again from 0, none is acknowledged",
     "client nocall in @: again from 0, all are acknowledged",
 ];
-const WAIT_ROWS: [&str; 2] = [
+pub const WAIT_ROWS: [&str; 2] = [
     "client WAIT in @: the count is 5",
     "client WAIT in @: sends",
 ];
 const ACK_ROWS: [&str; 1] = ["client ACK in @: sends"];
-const TRANSMIT_ROWS: [&str; 3] = [
+pub const TRANSMIT_ROWS: [&str; 3] = [
     "client transmit: the only fragment",
     "client transmit: the last fragment",
     "client transmit: not the last fragment",
 ];
 
-const DETAILS: [&str; 15] = [
+/// The types of PDU that a client takes.
+const TAKEN: [&str; 7] = [
+    "response",
+    "fault",
+    "working",
+    "nocall",
+    "reject",
+    "fack",
+    "cancel_ack",
+];
+
+const DETAILS: [&str; 19] = [
     "client done without a ticket left: start",
     "client done without a ticket left: transmit",
     "client done without a ticket left: response",
@@ -54,16 +66,20 @@ const DETAILS: [&str; 15] = [
     "client done without a ticket left: fack",
     "client done without a ticket left: WAIT",
     "client done without a ticket left: ACK",
+    "client done without a ticket left: cancel",
+    "client done without a ticket left: cancel_ack",
+    "client done without a ticket left: CANCEL",
     "client notice last",
     "client notice count",
     "client notice fault",
     "client notice reject",
     "client notice cause:1",
     "client notice cause:2",
+    "client notice cause:3",
 ];
 
 impl Named for ClientSide {
-    const EVENTS: &'static [&'static str] = &["start", "transmit", "arrive", "timer"];
+    const EVENTS: &'static [&'static str] = &["start", "cancel", "transmit", "arrive", "timer"];
     const OTHER_ROWS: &'static [&'static str] = &TRANSMIT_ROWS;
 
     fn answers(event: &str, state: State) -> Vec<u8> {
@@ -71,14 +87,12 @@ impl Named for ClientSide {
         match (event, state) {
             ("start", State::Queued) => vec![0, 1, 2],
             ("start", _) if state.may_start() => vec![0, 1, 2, 19],
+            ("cancel", _) if state.is_active() => vec![0, 1, 2, 15, 20],
             ("transmit", State::SendFrags) => vec![0, 1, 2, 20],
             ("timer", State::Dispatched | State::ReceiveFrags) => vec![0, 1, 2, 15, 18, 20],
-            ("timer", State::AckPending) => vec![0, 1, 2, 15, 18],
+            ("timer", State::SendFrags | State::AckPending) => vec![0, 1, 2, 15, 18],
             ("arrive", State::Queued) => arrival.to_vec(),
-            ("arrive", State::Dispatched) => [&arrival[..], &[0, 14, 16, 17, 20]].concat(),
-            ("arrive", State::SendFrags | State::ReceiveFrags) => {
-                [&arrival[..], &[0, 14, 15, 16, 17, 20]].concat()
-            }
+            ("arrive", _) if state.is_active() => [&arrival[..], &[0, 14, 15, 16, 17, 20]].concat(),
             ("arrive", _) => [&arrival[..], &[14, 15]].concat(),
             _ => vec![1, 2, 15],
         }
@@ -88,6 +102,7 @@ impl Named for ClientSide {
         vec![
             (state.may_start(), &START_ROWS),
             (state.is_active(), &ACTIVE_ROWS),
+            (state.is_active(), &CANCEL_ROWS),
             (state == State::Dispatched, &DISPATCHED_ROWS),
             (state.names(TimerKind::Wait), &WAIT_ROWS),
             (state.names(TimerKind::Ack), &ACK_ROWS),
@@ -106,6 +121,7 @@ impl Named for ClientSide {
 
     fn ground_names() -> Vec<String> {
         let mut names = pair_names("client-start", &[1, 2, 15, 19]);
+        names.extend(pair_names("client-cancel", &[1, 2, 15, 20]));
         names.extend(pair_names("client-transmit", &[1, 2, 15, 20]));
         names.extend(pair_names("client-timer", &[1, 2, 15, 18, 20]));
         names
@@ -115,7 +131,7 @@ impl Named for ClientSide {
         (&[1, 2, 4, 6, 7, 8], &[9, 10, 12, 13, 14, 15, 16, 17, 20]),
         (&[5], &[9, 13]),
         (&[9], &[10, 12, 13, 14, 15, 16, 17, 20]),
-        (&[10], &[12, 13, 15]),
+        (&[10], &[12, 13, 14, 15]),
         (&[12], &[13, 15, 16, 17, 20]),
         (&[13], &[14, 15, 16, 17, 20]),
         (&[14], &[15, 17]),
@@ -128,13 +144,13 @@ impl Named for ClientSide {
         let mut names = DETAILS.map(String::from).to_vec();
         names.extend(lent_names(&ClientSide::WORDS));
         names.extend(["version", "length"].map(|what| format!("client fack malformed: {what}")));
-        for kind in ["request", "ping", "ack", "fack"] {
+        for kind in ["request", "ping", "ack", "fack", "cancel"] {
             let marks = ["is", "is not"];
             names.extend(
                 marks.map(|mark| format!("client sends {kind} of a call that {mark} idempotent")),
             );
         }
-        for kind in ["response", "fault", "working", "nocall", "reject", "fack"] {
+        for kind in TAKEN {
             names.extend(["little", "big"].map(|order| format!("client {kind} taken, {order}")));
         }
         names.extend(put_names(&ClientSide::WORDS));
@@ -142,6 +158,7 @@ impl Named for ClientSide {
             let kinds = ["fault", "reject"];
             names.extend(kinds.map(|kind| format!("client {kind} malformed: {length} bytes")));
         }
+        names.extend(client_cancel::names());
         names
     }
 }

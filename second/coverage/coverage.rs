@@ -10,10 +10,11 @@ use crate::records::record::Record;
 use crate::records::server::ServerSide;
 
 /// The functions that can give grounds for two answers.
-const FUNCTIONS: [&str; 11] = [
+const FUNCTIONS: [&str; 12] = [
     "read",
     "write",
     "client-start",
+    "client-cancel",
     "client-transmit",
     "client-arrive",
     "client-timer",

@@ -2,7 +2,9 @@
 
 pub mod boundary;
 pub mod bytes;
+pub mod cancel;
 pub mod client;
+pub mod client_cancel;
 pub mod client_names;
 pub mod codec;
 pub mod counts;
@@ -12,6 +14,7 @@ pub mod fack;
 pub mod grounds;
 pub mod lent;
 pub mod server;
+pub mod server_cancel;
 pub mod server_names;
 pub mod server_pdu;
 pub mod side;

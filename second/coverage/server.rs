@@ -2,6 +2,7 @@
 
 use crate::codec::pdu::{pdu_type, Pdu};
 use crate::coverage::counts::Counts;
+use crate::coverage::server_cancel::{self, cancel_outcome};
 use crate::coverage::server_pdu::count_pdu;
 use crate::coverage::side::{again_name, type_name};
 use crate::coverage::step::{Counted, Step};
@@ -57,6 +58,7 @@ impl Counted for ServerSide {
             pdu_type::FACK if step.after == step.before => "acknowledged stays".into(),
             pdu_type::FACK => "acknowledged is raised".into(),
             pdu_type::ACK => "to IDLE spent".into(),
+            pdu_type::CANCEL => cancel_outcome(step).into(),
             pdu_type::REQUEST => format!("equal, {}", equal_request_outcome(step)),
             _ if state == State::Running => "equal, sends working".into(),
             _ if state.is_held() => format!("equal, {}", replay_outcome(step.before)),
@@ -67,8 +69,13 @@ impl Counted for ServerSide {
 
     fn count_in_system(step: &ServerStep, calls: &mut Calls, counts: &mut Counts) {
         let number = step.after.number;
-        if step.effect.notice == Some(Notice::Dispatch) {
-            calls.dispatched(number, counts);
+        match (step.effect.notice, step.event) {
+            (Some(Notice::Dispatch), _) => calls.dispatched(number, counts),
+            (Some(Notice::Cancel), _) => {
+                calls.cancel_noticed(number, step.after.own.cancel_number, counts);
+            }
+            (_, Event::Own(Answer::Fault { .. })) => calls.faulted(number, counts),
+            _ => {}
         }
         if (step.before.state, step.after.state) == (State::HeldData, State::Replying)
             && step.after.outgoing.sent > 0
@@ -80,8 +87,11 @@ impl Counted for ServerSide {
     fn count_own(step: &ServerStep, pdu: Option<&Pdu>, counts: &mut Counts) {
         if let Some(pdu) = pdu {
             count_pdu(pdu, step, counts);
+            server_cancel::count(pdu, step, counts);
         }
     }
+
+    fn count_row(_: &ServerStep, _: &str, _: &mut Counts) {}
 }
 
 fn sent_name(step: &ServerStep, mark: &str) -> String {

@@ -6,12 +6,14 @@
 //! type decides, those of different types, and those of rows that exclude each other.
 
 use crate::coverage::counts::pair_names;
+use crate::coverage::server_cancel::{self, CANCEL_ROWS, RUNNING_CANCEL_ROWS};
 use crate::coverage::side::put_names;
 use crate::coverage::side_names::{lent_names, Named};
 use crate::records::server::{ServerSide, State};
 use crate::records::side::Side;
 
-/// The rows of document 01's table; @ stands for each state that has the row.
+/// The rows of document 01's table; @ stands for each state that has the row. Those of cancels stand
+/// with these.
 const BEGIN_ROWS: [&str; 4] = [
     "server request in @: newer, put, not complete, fack",
     "server request in @: newer, put, not complete, no fack",
@@ -68,7 +70,7 @@ const OTHER_ROWS: [&str; 8] = [
 ];
 
 /// What is done without a ticket left, noticed and sent.
-const DONE: [&str; 14] = [
+const DONE: [&str; 17] = [
     "server done without a ticket left: transmit",
     "server done without a ticket left: timer",
     "server done without a ticket left: reply",
@@ -77,15 +79,18 @@ const DONE: [&str; 14] = [
     "server done without a ticket left: ping",
     "server done without a ticket left: fack",
     "server done without a ticket left: ack",
+    "server done without a ticket left: cancel",
     "server notice dispatch",
+    "server notice cancel",
     "server sends response",
     "server sends fault",
     "server sends working",
     "server sends nocall",
     "server sends fack",
+    "server sends cancel_ack",
 ];
 
-const DETAILS: [&str; 40] = [
+const DETAILS: [&str; 46] = [
     "server length refused at fault: PDU buffer",
     "server request taken, little",
     "server request taken, big",
@@ -95,19 +100,25 @@ const DETAILS: [&str; 40] = [
     "server fack taken, big",
     "server ack taken, little",
     "server ack taken, big",
+    "server cancel taken, little",
+    "server cancel taken, big",
     "server old request: older",
     "server old ping: older",
     "server old fack: older",
     "server old ack: older",
+    "server old cancel: older",
     "server old request: spent in IDLE_SPENT",
     "server old request: spent in IDLE_REPEATABLE",
     "server has no row for a newer request",
     "server has no row for a newer fack",
     "server has no row for a newer ack",
+    "server has no row for a newer cancel",
     "server has no row for a newer fack in IDLE_FRESH",
     "server has no row for a newer ack in IDLE_FRESH",
+    "server has no row for a newer cancel in IDLE_FRESH",
     "server has no row for an untimely fack",
     "server has no row for an untimely ack",
+    "server has no row for an untimely cancel",
     "server has no row for the ack",
     "server repeated request in COLLECT",
     "server repeated request in REPLYING",
@@ -161,6 +172,8 @@ impl Named for ServerSide {
             (state == State::HeldData, &DATA_ROWS),
             (state == State::HeldFault, &FAULT_ROWS),
             (state.has_answer(), &ACK_ROWS),
+            (state == State::Running, &RUNNING_CANCEL_ROWS),
+            (state == State::Collect || state.has_answer(), &CANCEL_ROWS),
         ]
     }
 
@@ -203,6 +216,7 @@ impl Named for ServerSide {
         names.extend(lent_names(&ServerSide::WORDS));
         names.extend(DETAILS.map(String::from));
         names.extend(put_names(&ServerSide::WORDS));
+        names.extend(server_cancel::names());
         names
     }
 }

@@ -35,7 +35,9 @@ pub fn type_name(pdu_type: u8) -> &'static str {
         pdu_type::NOCALL => "nocall",
         pdu_type::REJECT => "reject",
         pdu_type::ACK => "ack",
+        pdu_type::CANCEL => "cancel",
         pdu_type::FACK => "fack",
+        pdu_type::CANCEL_ACK => "cancel_ack",
         _ => "other type",
     }
 }
@@ -48,6 +50,7 @@ pub fn notice_name(notice: Notice) -> String {
         Notice::Reject(_) => "reject".into(),
         Notice::Cause(cause) => format!("cause:{cause}"),
         Notice::Dispatch => "dispatch".into(),
+        Notice::Cancel => "cancel".into(),
     }
 }
 

@@ -51,6 +51,9 @@ pub trait Counted: Machine {
     /// The row of a PDU that is taken.
     fn arrive_row(pdu: &Pdu, step: &Step<Self>) -> String;
 
+    /// What only this side counts of a row that is done.
+    fn count_row(step: &Step<Self>, row: &str, counts: &mut Counts);
+
     /// What is counted of the call where the event is done and both sides are joined.
     fn count_in_system(step: &Step<Self>, calls: &mut Calls, counts: &mut Counts);
 
@@ -100,7 +103,9 @@ pub fn count_broken_rule<S: Counted>(record: &Record<S>, event: &str, counts: &m
 fn count_done<S: Counted>(step: &Step<S>, reached: &Reached, counts: &mut Counts) {
     let side = S::WORDS.side;
     let [from, to] = [step.before.state, step.after.state].map(S::state_name);
-    reached.count(format_args!("{}", row_name(step)), counts);
+    let row = row_name(step);
+    reached.count(format_args!("{row}"), counts);
+    S::count_row(step, &row, counts);
     reached.count(format_args!("{side} {from} to {to}"), counts);
     if step.before.tickets.are_used_up() {
         let name = done_name(step.event);

@@ -16,8 +16,9 @@ pub fn mark_name(idempotent: bool) -> &'static str {
 
 /// The answers that each event can get. Records are sound, PDUs are those of the other side, no
 /// call number is the last, and a server hears nothing that contradicts its call.
-const ANSWERS: [(&str, &[u8]); 9] = [
+const ANSWERS: [(&str, &[u8]); 10] = [
     ("client-start", &[0, 1, 15]),
+    ("client-cancel", &[0, 1, 15, 20]),
     ("client-transmit", &[0, 1, 15, 20]),
     ("client-arrive", &[0, 1, 13, 15, 16, 17, 20]),
     ("client-timer", &[0, 1, 15, 18, 20]),
@@ -28,7 +29,7 @@ const ANSWERS: [(&str, &[u8]); 9] = [
     ("server-fault", &[0, 1, 15, 20]),
 ];
 
-const FACTS: [&str; 18] = [
+const FACTS: [&str; 33] = [
     "system runs",
     "system calls started: idempotent",
     "system calls started: not idempotent",
@@ -43,10 +44,25 @@ const FACTS: [&str; 18] = [
     "system calls completed after a replay from the middle",
     "system calls dispatched, acknowledged in part, given up by cause 1",
     "system calls dispatched, acknowledged in part, given up by cause 2",
+    "system calls dispatched, acknowledged in part, given up by cause 3",
     "system client notice fault",
     "system client notice cause:1",
     "system client notice cause:2",
+    "system client notice cause:3",
     "system server notice dispatch",
+    "system server notice cancel",
+    "system calls cancelled the first time",
+    "system calls cancelled once more",
+    "system calls cancelled, then completed",
+    "system calls cancelled, then faulted",
+    "system calls cancelled, then given up by cause 1",
+    "system calls cancelled, then given up by cause 2",
+    "system calls cancelled, then given up by cause 3",
+    "system cancels noticed: the first one",
+    "system cancels noticed: one above the last",
+    "system cancels noticed: an old one in another run",
+    "system cancels noticed: a later one in another run",
+    "system cancels answered by a fault",
 ];
 
 /// Rows that the two sides cannot reach together; a row is named by a part of its name.

@@ -42,6 +42,13 @@ pub struct Lent<'a> {
     pub pdu: &'a mut [u8],
 }
 
+/// The functions that only a client has.
+#[derive(Clone, Copy, Debug)]
+pub enum ClientInvocation<'a> {
+    Start(StartArguments<'a>),
+    Cancel,
+}
+
 /// The arguments of a start.
 #[derive(Clone, Copy, Debug)]
 pub struct StartArguments<'a> {
@@ -67,7 +74,7 @@ impl<'a> StartArguments<'a> {
 }
 
 impl Invoked for ClientSide {
-    type OwnInvocation<'a> = StartArguments<'a>;
+    type OwnInvocation<'a> = ClientInvocation<'a>;
     type FreshArgument = ();
 }
 

@@ -24,9 +24,16 @@ pub const FIRST_TICKET: usize = 40;
 /// The ticket of ACK; at the server the status of a fault that is held.
 pub const SECOND_TICKET: usize = 48;
 pub const STATUS: usize = 48;
-/// Whether WAIT or RESEND is armed, and whether ACK is.
+/// The ticket of CANCEL; spare at the server.
+pub const THIRD_TICKET: usize = 56;
+/// Whether WAIT or RESEND is armed, whether ACK is, and whether CANCEL is.
 pub const FIRST_ARMED: usize = 64;
 pub const SECOND_ARMED: usize = 65;
+pub const THIRD_ARMED: usize = 66;
+/// The number of the last cancel; at the server that of the last one seen.
+pub const CANCEL_NUMBER: usize = 68;
+/// From here to the activity all is spare.
+pub const LAST_SPARE: usize = 72;
 pub const ACTIVITY: usize = 96;
 pub const OBJECT: usize = 112;
 pub const INTERFACE: usize = 128;
@@ -40,5 +47,5 @@ pub const SLOT_SPARE: usize = 3;
 pub const UNKNOWN_LAST: u16 = 65_535;
 
 /// The spare places before the slots: from the first byte up to but without the second.
-pub const CLIENT_SPARE: [(usize, usize); 3] = [(28, 32), (56, 64), (66, 96)];
-pub const SERVER_SPARE: [(usize, usize); 3] = [(3, 4), (52, 64), (65, 96)];
+pub const CLIENT_SPARE: [(usize, usize); 3] = [(28, 32), (67, 68), (LAST_SPARE, ACTIVITY)];
+pub const SERVER_SPARE: [(usize, usize); 4] = [(3, 4), (52, 64), (65, 68), (LAST_SPARE, ACTIVITY)];

@@ -12,6 +12,7 @@ fn notice_numbers(notice: Notice) -> (u64, u64) {
         Notice::Reject(status) => (4, u64::from(status)),
         Notice::Cause(cause) => (5, u64::from(cause)),
         Notice::Dispatch => (6, 0),
+        Notice::Cancel => (7, 0),
     }
 }
 

@@ -152,6 +152,8 @@ impl Stored for ClientSide {
             waits: places.u8(layout::FIRST_COUNT),
             wait: decode_timer(places, layout::FIRST_ARMED, layout::FIRST_TICKET)?,
             ack: decode_timer(places, layout::SECOND_ARMED, layout::SECOND_TICKET)?,
+            cancel: decode_timer(places, layout::THIRD_ARMED, layout::THIRD_TICKET)?,
+            cancel_number: places.u32(layout::CANCEL_NUMBER),
         };
         Some((own, places.u8(layout::SECOND_COUNT)))
     }
@@ -162,6 +164,9 @@ impl Stored for ClientSide {
         bytes[layout::SECOND_COUNT] = client.resends;
         encode_timer(own.wait, layout::FIRST_ARMED, layout::FIRST_TICKET, bytes);
         encode_timer(own.ack, layout::SECOND_ARMED, layout::SECOND_TICKET, bytes);
+        encode_timer(own.cancel, layout::THIRD_ARMED, layout::THIRD_TICKET, bytes);
+        let number = own.cancel_number.to_le_bytes();
+        put(bytes, layout::CANCEL_NUMBER, &number);
     }
 }
 
@@ -177,6 +182,7 @@ impl Stored for ServerSide {
             status,
             boot: places.u32(layout::BOOT),
             resend: decode_timer(places, layout::FIRST_ARMED, layout::FIRST_TICKET)?,
+            cancel_number: places.u32(layout::CANCEL_NUMBER),
         };
         Some((own, places.u8(layout::FIRST_COUNT)))
     }
@@ -186,6 +192,8 @@ impl Stored for ServerSide {
         bytes[layout::FIRST_COUNT] = server.resends;
         put(bytes, layout::BOOT, &own.boot.to_le_bytes());
         encode_timer(own.resend, layout::FIRST_ARMED, layout::FIRST_TICKET, bytes);
+        let number = own.cancel_number.to_le_bytes();
+        put(bytes, layout::CANCEL_NUMBER, &number);
         if server.state == State::HeldFault {
             put(bytes, layout::STATUS, &own.status.to_le_bytes());
         }

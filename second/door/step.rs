@@ -1,6 +1,6 @@
 //! The events of a side on a record that is lent as bytes.
 
-use super::invocation::{Invocation, Invoked, Lent, StartArguments};
+use super::invocation::{ClientInvocation, Invocation, Invoked, Lent, StartArguments};
 use super::layout;
 use super::places::{Places, RecordBytes};
 use super::record_bytes::{decode, encode, state_of, Stored};
@@ -9,7 +9,7 @@ use crate::machines::effect::Effect;
 use crate::machines::event::Event;
 use crate::machines::refusal::Refusal;
 use crate::records::call::Call;
-use crate::records::client::{Client, ClientSide, Start, TimerKind};
+use crate::records::client::{Client, ClientEvent, ClientSide, Start, TimerKind};
 use crate::records::incoming::SLOT_BUFFER_LENGTH;
 use crate::records::outgoing::MESSAGE_LIMIT;
 use crate::records::record::Record;
@@ -147,36 +147,56 @@ fn is_wrong_message<S: Door>(message: &[u8], bytes: &RecordBytes) -> bool {
     message.len() > MESSAGE_LIMIT || is_being_sent && message.len() != length
 }
 
+/// The start that the arguments are those of; none where one is wrong.
+fn start_of(arguments: &StartArguments) -> Option<Start> {
+    let idempotent = match arguments.idempotent {
+        0 => false,
+        1 => true,
+        _ => return None,
+    };
+    let call = Call {
+        idempotent,
+        object: arguments.object.try_into().ok()?,
+        interface: arguments.interface.try_into().ok()?,
+        version: arguments.version,
+        operation: arguments.operation,
+    };
+    let length = arguments.length;
+    Some(Start { call, length })
+}
+
 impl Door for ClientSide {
-    const TIMER_NUMBERS: &'static [(u8, TimerKind)] = &[(1, TimerKind::Wait), (2, TimerKind::Ack)];
+    const TIMER_NUMBERS: &'static [(u8, TimerKind)] = &[
+        (1, TimerKind::Wait),
+        (2, TimerKind::Ack),
+        (4, TimerKind::Cancel),
+    ];
 
     fn fresh(activity: Uuid, _: (), tickets: u64) -> Client {
         Client::fresh(activity, tickets)
     }
 
-    fn own_event(own: &StartArguments) -> Option<Start> {
-        let idempotent = match own.idempotent {
-            0 => false,
-            1 => true,
-            _ => return None,
-        };
-        let call = Call {
-            idempotent,
-            object: own.object.try_into().ok()?,
-            interface: own.interface.try_into().ok()?,
-            version: own.version,
-            operation: own.operation,
-        };
-        let length = own.length;
-        Some(Start { call, length })
+    fn own_event(own: &ClientInvocation) -> Option<ClientEvent> {
+        match own {
+            ClientInvocation::Start(arguments) => start_of(arguments).map(ClientEvent::Start),
+            ClientInvocation::Cancel => Some(ClientEvent::Cancel),
+        }
     }
 
-    fn own_invocation(start: &Start) -> StartArguments<'_> {
-        StartArguments::of(start)
+    fn own_invocation(event: &ClientEvent) -> ClientInvocation<'_> {
+        match event {
+            ClientEvent::Start(start) => ClientInvocation::Start(StartArguments::of(start)),
+            ClientEvent::Cancel => ClientInvocation::Cancel,
+        }
     }
 
-    fn own_is_lent_wrong(own: &StartArguments, _: usize) -> bool {
-        Self::own_event(own).is_none() || own.length as usize > MESSAGE_LIMIT
+    fn own_is_lent_wrong(own: &ClientInvocation, pdu_length: usize) -> bool {
+        match own {
+            ClientInvocation::Start(arguments) => {
+                start_of(arguments).is_none() || arguments.length as usize > MESSAGE_LIMIT
+            }
+            ClientInvocation::Cancel => pdu_length != PDU_LIMIT,
+        }
     }
 }
 

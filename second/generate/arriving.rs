@@ -1,6 +1,7 @@
 //! PDUs that arrive at either side, and what their bodies can be.
 
 use crate::codec::pdu::{flags1, pdu_type, ByteOrder, Header, Uuid, BODY_LIMIT, HEADER_LENGTH};
+use crate::generate::cancel::cancel_body;
 use crate::generate::datagram::{datagram, u16_bytes};
 use crate::generate::defect::{Defect, Draft, DEFECTS};
 use crate::generate::random::Random;
@@ -68,6 +69,10 @@ impl Arriving {
         let body = match pdu_type {
             pdu_type::FAULT | pdu_type::REJECT => status_body(random),
             pdu_type::FACK => fack_body(order, random),
+            pdu_type::CANCEL | pdu_type::CANCEL_ACK => {
+                let cancel_number = random.field_u32();
+                cancel_body(pdu_type, cancel_number, order, random)
+            }
             _ => short_body(random),
         };
         Arriving {
@@ -127,12 +132,23 @@ impl Arriving {
 
     /// The same PDU from a sender of the byte order given.
     pub fn in_order(mut self, order: ByteOrder) -> Arriving {
-        if self.order != order && self.header.pdu_type == pdu_type::FACK {
-            // The word count.
-            self.body.swap(14, 15);
+        if self.order != order {
+            self.turn_body();
         }
         self.order = order;
         self
+    }
+
+    /// What is judged in the body lies in the other byte order.
+    fn turn_body(&mut self) {
+        match self.header.pdu_type {
+            // The word count.
+            pdu_type::FACK => self.body.swap(14, 15),
+            pdu_type::CANCEL | pdu_type::CANCEL_ACK => {
+                self.body.chunks_mut(4).for_each(<[u8]>::reverse);
+            }
+            _ => {}
+        }
     }
 
     /// The same PDU with the fragment number and the fragment bits given.

@@ -40,10 +40,7 @@ impl Datagram {
     }
 
     fn u32(&mut self, number: u32) {
-        match self.order {
-            ByteOrder::Little => self.bytes(&number.to_le_bytes()),
-            ByteOrder::Big => self.bytes(&number.to_be_bytes()),
-        }
+        self.bytes(&u32_bytes(number, self.order));
     }
 
     fn uuid(&mut self, uuid: Uuid) {
@@ -51,6 +48,13 @@ impl Datagram {
             ByteOrder::Little => self.bytes(&uuid),
             ByteOrder::Big => self.bytes(&turned(uuid)),
         }
+    }
+}
+
+pub fn u32_bytes(number: u32, order: ByteOrder) -> [u8; 4] {
+    match order {
+        ByteOrder::Little => number.to_le_bytes(),
+        ByteOrder::Big => number.to_be_bytes(),
     }
 }
 

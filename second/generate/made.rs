@@ -44,6 +44,11 @@ impl<S: Made> Record<S> {
         }
     }
 
+    /// Lowers the ticket counter where it is at its last.
+    pub fn leave_a_ticket(&mut self) {
+        self.set_counter(self.tickets.counter.min(u64::MAX - 1));
+    }
+
     /// Disarms all timers.
     pub fn disarm(&mut self) {
         for timer in S::timers(&mut self.own) {
@@ -148,6 +153,12 @@ impl<S: Made> Author<S> {
             right.wrapping_add(1),
             right ^ 1 << 32,
         ]);
+        self.event(Event::Timer { kind, ticket });
+    }
+
+    /// The timer with the ticket of another one.
+    pub fn timer_of_another(&mut self, kind: S::TimerKind, other: S::TimerKind) {
+        let ticket = self.right_ticket(other);
         self.event(Event::Timer { kind, ticket });
     }
 

@@ -3,6 +3,7 @@
 pub mod arriving;
 pub mod author;
 pub mod bytes;
+pub mod cancel;
 pub mod client;
 pub mod codec;
 pub mod datagram;

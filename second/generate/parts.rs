@@ -61,6 +61,22 @@ pub fn call_number(random: &mut Random) -> u32 {
     random.field_u32()
 }
 
+/// The number of a cancel; above and below the half of all numbers too.
+pub fn cancel_number(random: &mut Random) -> u32 {
+    let any = random.field_u32();
+    random.pick(&[
+        0,
+        0,
+        1,
+        2,
+        0x7fff_ffff,
+        0x8000_0000,
+        u32::MAX - 1,
+        u32::MAX,
+        any,
+    ])
+}
+
 pub fn retry_count(random: &mut Random) -> u8 {
     random.pick(&[0, 0, 1, 2, 3, 4, 5, 5])
 }
@@ -217,7 +233,7 @@ fn break_last(incoming: &mut Incoming, random: &mut Random) {
     incoming.last = Some(random.pick(&[0, held as u8 - 1]));
 }
 
-pub fn ticket_above(tickets: &mut Tickets, random: &mut Random) -> Timer {
-    tickets.counter = tickets.counter.min(u64::MAX - 1);
+/// A ticket above the counter, which must not be at its last.
+pub fn ticket_above(tickets: Tickets, random: &mut Random) -> Timer {
     Some(random.pick(&[tickets.counter + 1, u64::MAX]))
 }

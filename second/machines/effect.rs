@@ -21,6 +21,8 @@ pub enum Notice {
     Cause(u8),
     /// The server has all of the request.
     Dispatch,
+    /// The client wants the call that runs to be cancelled.
+    Cancel,
 }
 
 impl Effect {

@@ -13,7 +13,7 @@ pub enum Refusal {
     Authentication = 7,
     BodyLength = 8,
     OtherActivity = 9,
-    /// A type that the other side takes, or neither.
+    /// A type that only the other side takes.
     TypeNotForThisSide = 10,
     /// A request with the maybe or the broadcast bit.
     MaybeOrBroadcast = 11,

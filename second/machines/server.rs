@@ -1,5 +1,6 @@
 //! The server call machine: its rows.
 
+use crate::codec::cancel;
 use crate::codec::pdu::{flags1, pdu_type, put_pdu, Header, Pdu, PDU_LIMIT};
 use crate::machines::effect::{Effect, Notice};
 use crate::machines::machine::Machine;
@@ -20,7 +21,7 @@ impl Machine for ServerSide {
     fn takes(pdu_type: u8) -> bool {
         matches!(
             pdu_type,
-            pdu_type::REQUEST | pdu_type::PING | pdu_type::ACK | pdu_type::FACK
+            pdu_type::REQUEST | pdu_type::PING | pdu_type::ACK | pdu_type::CANCEL | pdu_type::FACK
         )
     }
 
@@ -90,6 +91,10 @@ impl Machine for ServerSide {
             Row::Ack => {
                 server.go_to(State::IdleSpent);
                 Ok(Effect::nothing())
+            }
+            Row::Cancel => {
+                let number = cancel::number(pdu.body, pdu.order).ok_or(Refusal::MalformedBody)?;
+                Ok(server.take_cancel(number, &pdu.header, lent_pdu))
             }
             Row::Spent => Err(Refusal::OldCall),
             Row::Repeated => Err(Refusal::AlreadyHeld),
@@ -175,6 +180,7 @@ impl Server {
         self.outgoing = Outgoing::none();
         self.incoming = Incoming::empty();
         self.resends = 0;
+        self.own.cancel_number = 0;
         self.go_to(State::Collect);
     }
 
@@ -195,6 +201,21 @@ impl Server {
     fn answer(&self, pdu_type: u8, answered: &Header, lent_pdu: &mut [u8]) -> Effect {
         let header = self.header_of_answer(pdu_type, answered);
         Effect::of_pdu(put_pdu(&header, &[], lent_pdu))
+    }
+
+    /// A call that runs accepts cancels, and notices those above the last one seen.
+    fn take_cancel(&mut self, number: u32, cancel: &Header, lent_pdu: &mut [u8]) -> Effect {
+        let is_running = self.state == State::Running;
+        let is_noticed = is_running && number > self.own.cancel_number;
+        if is_noticed {
+            self.own.cancel_number = number;
+        }
+        let header = self.header_of_answer(pdu_type::CANCEL_ACK, cancel);
+        let body = cancel::acknowledging_body(number, is_running);
+        Effect {
+            pdu_length: Some(put_pdu(&header, &body, lent_pdu)),
+            notice: is_noticed.then_some(Notice::Cancel),
+        }
     }
 
     fn fault(&mut self, status: u32, lent_pdu: &mut [u8]) -> Effect {

@@ -21,6 +21,7 @@ pub enum Row {
     Nocall,
     Fack,
     Ack,
+    Cancel,
     /// The call is spent: 13.
     Spent,
     /// The PDU is a repeated one: 16.
@@ -55,6 +56,7 @@ impl Server {
             pdu_type::PING => Some(self.equal_ping_row()),
             pdu_type::FACK if has_answer => Some(Row::Fack),
             pdu_type::ACK if has_answer && !self.call.idempotent => Some(Row::Ack),
+            pdu_type::CANCEL if !is_newer && self.state.answers_cancel() => Some(Row::Cancel),
             _ => None,
         }
     }

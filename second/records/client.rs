@@ -58,6 +58,7 @@ impl State {
         match kind {
             TimerKind::Wait => matches!(self, State::Dispatched | State::ReceiveFrags),
             TimerKind::Ack => self == State::AckPending,
+            TimerKind::Cancel => self.is_active(),
         }
     }
 }
@@ -66,18 +67,31 @@ impl State {
 pub enum TimerKind {
     Wait,
     Ack,
+    Cancel,
 }
+
+/// All timers of a client.
+pub const TIMERS: [TimerKind; 3] = [TimerKind::Wait, TimerKind::Ack, TimerKind::Cancel];
 
 impl TimerKind {
     pub fn name(self) -> &'static str {
         match self {
             TimerKind::Wait => "WAIT",
             TimerKind::Ack => "ACK",
+            TimerKind::Cancel => "CANCEL",
         }
     }
 }
 
-/// The event that only a client has: it starts a call with a message of so many bytes.
+/// The events that only a client has.
+#[derive(Clone, Debug, PartialEq, Eq)]
+pub enum ClientEvent {
+    Start(Start),
+    /// The local cancel.
+    Cancel,
+}
+
+/// A call is started with a message of so many bytes.
 #[derive(Clone, Debug, PartialEq, Eq)]
 pub struct Start {
     pub call: Call,
@@ -91,6 +105,9 @@ pub struct ClientFields {
     pub waits: u8,
     pub wait: Timer,
     pub ack: Timer,
+    pub cancel: Timer,
+    /// That of the last local cancel since the start, else 0.
+    pub cancel_number: u32,
 }
 
 /// The side that starts calls.
@@ -107,6 +124,8 @@ impl Client {
             waits: 0,
             wait: None,
             ack: None,
+            cancel: None,
+            cancel_number: 0,
         };
         Client::fresh_of(activity, ticket_counter, own)
     }
@@ -116,7 +135,7 @@ impl Side for ClientSide {
     type State = State;
     type Own = ClientFields;
     type TimerKind = TimerKind;
-    type OwnEvent = Start;
+    type OwnEvent = ClientEvent;
 
     const WORDS: Words = Words {
         side: "client",
@@ -124,18 +143,20 @@ impl Side for ClientSide {
         beginning: "start",
         received: "response",
         raising: &["transmit", "timer"],
-        arming: &["transmit", "arrive", "timer"],
+        arming: &["transmit", "arrive", "timer", "cancel"],
     };
     const STATES: &'static [State] = &STATES;
     const FRESH: State = State::Queued;
     const SENDING: State = State::SendFrags;
-    const TIMERS: &'static [TimerKind] = &[TimerKind::Wait, TimerKind::Ack];
+    const TIMERS: &'static [TimerKind] = &TIMERS;
     const COUNT_RULES: &'static [Rule] = &[Rule::WaitCount, Rule::Resends];
     const TIMER_RULES: &'static [Rule] = &[
         Rule::WaitState,
         Rule::AckState,
+        Rule::CancelState,
         Rule::WaitTicket,
         Rule::AckTicket,
+        Rule::CancelTicket,
     ];
 
     fn state_name(state: State) -> &'static str {
@@ -150,6 +171,7 @@ impl Side for ClientSide {
         match kind {
             TimerKind::Wait => client.own.wait,
             TimerKind::Ack => client.own.ack,
+            TimerKind::Cancel => client.own.cancel,
         }
     }
 
@@ -166,8 +188,10 @@ impl Side for ClientSide {
             Rule::Resends => client.resends > RETRY_LIMIT,
             Rule::WaitState => client.is_armed_elsewhere(TimerKind::Wait),
             Rule::AckState => client.is_armed_elsewhere(TimerKind::Ack),
+            Rule::CancelState => client.is_armed_elsewhere(TimerKind::Cancel),
             Rule::WaitTicket => client.is_armed_above(TimerKind::Wait),
             Rule::AckTicket => client.is_armed_above(TimerKind::Ack),
+            Rule::CancelTicket => client.is_armed_above(TimerKind::Cancel),
             _ => false,
         }
     }
@@ -176,8 +200,10 @@ impl Side for ClientSide {
         match rule {
             Rule::WaitState => !state.names(TimerKind::Wait),
             Rule::AckState => !state.names(TimerKind::Ack),
+            Rule::CancelState => !state.names(TimerKind::Cancel),
             Rule::WaitTicket => state.names(TimerKind::Wait),
             Rule::AckTicket => state.names(TimerKind::Ack),
+            Rule::CancelTicket => state.names(TimerKind::Cancel),
             _ => true,
         }
     }

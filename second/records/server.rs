@@ -57,6 +57,11 @@ impl State {
         matches!(self, State::HeldData | State::HeldFault)
     }
 
+    /// The states in which a cancel of the call is answered.
+    pub fn answers_cancel(self) -> bool {
+        !self.is_idle()
+    }
+
     /// The states in which an answer has been given and may still be wanted.
     pub fn has_answer(self) -> bool {
         self == State::Replying || self.is_held()
@@ -81,6 +86,8 @@ pub struct ServerFields {
     pub status: u32,
     pub boot: u32,
     pub resend: Timer,
+    /// The cancel number last seen: that of the last cancel noticed since the begin, else 0.
+    pub cancel_number: u32,
 }
 
 /// The side that answers calls.
@@ -97,6 +104,7 @@ impl Server {
             status: 0,
             boot,
             resend: None,
+            cancel_number: 0,
         };
         Server::fresh_of(activity, ticket_counter, own)
     }

@@ -1,8 +1,11 @@
 //! A small check of this program against itself and against rows of the papers.
 
 use super::side::datagram_rows;
-use super::{begun_again, client, compared, demand, fack_details, facks, layout};
-use super::{middle, played, rows, server, server_calls, told};
+use super::{
+    begun_again, cancel_bodies, cancel_door, cancel_ends, cancels, client, compared, demand,
+};
+use super::{fack_details, facks, layout, middle, played, rows, server, server_calls};
+use super::{mistaken_cancels, server_cancels, told};
 use crate::bench::message::message;
 use crate::codec::fack::{body, Held};
 use crate::codec::pdu::{read, write, ByteOrder, Header, BODY_LIMIT, HIGHEST_TYPE, PDU_LIMIT};
@@ -33,9 +36,15 @@ pub fn self_test() -> Result<(), &'static str> {
     fack_details::self_test()?;
     middle::self_test()?;
     begun_again::self_test()?;
+    cancels::self_test()?;
+    cancel_ends::self_test()?;
+    server_cancels::self_test()?;
+    cancel_bodies::self_test()?;
+    cancel_door::self_test()?;
     rows::self_test()?;
     layout::self_test()?;
     compared::self_test()?;
+    mistaken_cancels::self_test()?;
     told::self_test()?;
     demand::self_test()?;
     played::self_test()

@@ -2,7 +2,7 @@
 
 use crate::machines::event::Event;
 use crate::records::call::Call;
-use crate::records::client::{Client, ClientSide, Start, TimerKind};
+use crate::records::client::{Client, ClientEvent, ClientSide, Start, TimerKind};
 use crate::self_test::side::{
     arrive_at, header_of, transmit_of, Outcome, Sender, ACTIVITY, INTERFACE, OBJECT, TICKETS,
 };
@@ -28,10 +28,21 @@ fn call(idempotent: bool) -> Call {
 pub fn started(idempotent: bool, length: u32) -> Stage {
     let mut stage = Stage::new();
     stage.client = Client::fresh(ACTIVITY, TICKETS);
-    let call = call(idempotent);
     // A start that is refused fails the checks of the state behind it.
-    let _ = stage.event::<ClientSide>(&Event::Own(Start { call, length }));
+    let _ = start(&mut stage, idempotent, length);
     stage
+}
+
+/// A call is started.
+pub fn start(stage: &mut Stage, idempotent: bool, length: u32) -> Outcome {
+    let call = call(idempotent);
+    let start = ClientEvent::Start(Start { call, length });
+    stage.event::<ClientSide>(&Event::Own(start))
+}
+
+/// The local cancel.
+pub fn cancel(stage: &mut Stage) -> Outcome {
+    stage.event::<ClientSide>(&Event::Own(ClientEvent::Cancel))
 }
 
 /// The same, with all of its message sent.

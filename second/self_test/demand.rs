@@ -3,6 +3,7 @@
 
 use super::all::check;
 use super::checked::Checked;
+use super::demand_of_cancels;
 use crate::bench::bench::{Bench, Outcome};
 use crate::door::record_bytes::encode;
 use crate::machines::effect::{Effect, Notice};
@@ -23,6 +24,9 @@ use crate::systems::stories::Telling::{
 
 /// What goes wrong behind a story.
 type Wrong = fn(&mut System, &mut Author) -> Result<(), Broken>;
+
+/// The story, what goes wrong, and how it is told.
+pub type Case = (&'static [Telling], Wrong, &'static str);
 
 const STARTED: [Telling; 1] = [Start(false, 1)];
 const SENT: [Telling; 2] = [Start(false, 1), ClientTransmit];
@@ -53,8 +57,8 @@ const RECEIVED: [Telling; 6] = [
     ToClient(0),
 ];
 
-/// Each case: the story, what goes wrong, and how it is told.
-const CASES: [(&[Telling], Wrong, &str); 16] = [
+/// The cases of what is owed without cancels.
+const CASES: [Case; 16] = [
     (&STARTED, starts_afresh, "a start has another number"),
     (
         &DISPATCHED,
@@ -91,7 +95,7 @@ const CASES: [(&[Telling], Wrong, &str); 16] = [
     (
         &SENT,
         gives_another_notice,
-        "the server gives another notice than a dispatch",
+        "the server gives another notice than a dispatch or a cancel",
     ),
     (&SENT, takes_a_late_timer, "a late timer is taken"),
     (&FACKED, changes_a_ticket, "a side has other tickets armed"),
@@ -113,27 +117,28 @@ const CASES: [(&[Telling], Wrong, &str); 16] = [
 pub fn self_test() -> Result<(), &'static str> {
     let library = Checked::default();
     let mut author = Author::new(Bench::new(Box::new(library)), 1, u64::MAX);
-    for (story, wrong, told) in CASES {
+    for (story, wrong, told) in CASES.iter().chain(&demand_of_cancels::CASES) {
         set_fresh([0, 0], &mut author);
         let mut system = System::new(&mut author.random);
-        for telling in story {
+        for telling in *story {
             let is_good = step(*telling, &mut system, &mut author).is_ok();
             check(is_good, "demand 3 before something goes wrong")?;
         }
-        check(wrong(&mut system, &mut author) == Err(told.into()), told)?;
+        let broken = Err(Broken::from(*told));
+        check(wrong(&mut system, &mut author) == broken, told)?;
     }
     Ok(())
 }
 
 /// The record on the bench becomes another, and what was put is gone.
-fn change<S: Joined>(author: &mut Author, change: fn(&mut Record<S>)) {
+pub fn change<S: Joined>(author: &mut Author, change: fn(&mut Record<S>)) {
     let mut record = author.bench.record::<S>().clone();
     change(&mut record);
     author.bench.set_bytes::<S>(&encode(&record));
 }
 
 /// A datagram that was sent to a side arrives with bits of one byte turned.
-fn arrive_changed<S: Joined>(
+pub fn arrive_changed<S: Joined>(
     place: usize,
     at: usize,
     bits: u8,
@@ -150,28 +155,40 @@ fn arrive_changed<S: Joined>(
 }
 
 /// An event is said to have had the outcome; what stands on the bench is what it left.
-fn said<S: Joined>(
+pub fn said<S: Joined>(
     before: &Record<S>,
+    event: &Event<S>,
     outcome: &Outcome,
     system: &mut System,
     author: &Author,
 ) -> Result<(), Broken> {
     system.demand.check::<S>(&Step {
         before,
-        event: &Event::Transmit { message: &[] },
+        event,
         message: &[],
         outcome,
         bench: &author.bench,
     })
 }
 
-/// The same of an event that left the record as it was.
+/// The same of an event that is done and left the record as it was.
+pub fn said_of<S: Joined>(
+    event: &Event<S>,
+    effect: Effect,
+    system: &mut System,
+    author: &Author,
+) -> Result<(), Broken> {
+    said::<S>(author.bench.record(), event, &Ok(effect), system, author)
+}
+
+/// The same of a transmit that had the outcome.
 fn said_of_the_record<S: Joined>(
     outcome: &Outcome,
     system: &mut System,
     author: &Author,
 ) -> Result<(), Broken> {
-    said::<S>(author.bench.record(), outcome, system, author)
+    let event = Event::Transmit { message: &[] };
+    said::<S>(author.bench.record(), &event, outcome, system, author)
 }
 
 fn starts_afresh(system: &mut System, author: &mut Author) -> Result<(), Broken> {
@@ -234,5 +251,6 @@ fn sends_at_a_refusal(system: &mut System, author: &mut Author) -> Result<(), Br
 
 fn changes_at_a_refusal(system: &mut System, author: &mut Author) -> Result<(), Broken> {
     let before = Client::fresh([0; 16], 0);
-    said::<ClientSide>(&before, &Err(Refusal::NoRow), system, author)
+    let event = Event::Transmit { message: &[] };
+    said::<ClientSide>(&before, &event, &Err(Refusal::NoRow), system, author)
 }

@@ -60,6 +60,8 @@ fn client() -> Client {
     client.own.waits = 2;
     client.own.wait = Some(0x2f2e_2d2c_2b2a_2928);
     client.own.ack = Some(0x3736_3534_3332_3130);
+    client.own.cancel = Some(0x3f3e_3d3c_3b3a_3938);
+    client.own.cancel_number = 0x4746_4544;
     client
 }
 
@@ -69,6 +71,7 @@ fn server() -> Server {
     server.state = ServerState::HeldFault;
     server.own.status = 0x3332_3130;
     server.own.resend = Some(0x2f2e_2d2c_2b2a_2928);
+    server.own.cancel_number = 0x4746_4544;
     server
 }
 
@@ -94,17 +97,17 @@ fn shared_bytes() -> RecordBytes {
 fn client_bytes() -> RecordBytes {
     let mut bytes = shared_bytes();
     bytes[..4].copy_from_slice(&[6, 1, 2, 3]);
-    for (place, byte) in (40..56).zip(&mut bytes[40..56]) {
-        *byte = place;
+    for place in (40..64).chain(68..72) {
+        bytes[place] = place as u8;
     }
-    bytes[64..66].fill(1);
+    bytes[64..67].fill(1);
     bytes
 }
 
 fn server_bytes() -> RecordBytes {
     let mut bytes = shared_bytes();
     bytes[..4].copy_from_slice(&[7, 1, 3, 0]);
-    for place in (28..32).chain(40..52) {
+    for place in (28..32).chain(40..52).chain(68..72) {
         bytes[place] = place as u8;
     }
     bytes[64] = 1;

@@ -55,7 +55,17 @@ pub fn header_of(pdu_type: u8, number: u32, flags1: u8, fragment_number: u16) ->
 
 /// A PDU arrives at a side from a sender of the big-endian order.
 pub fn arrive_at<S: OnStage>(stage: &mut Stage, header: &Header, body: &[u8]) -> Outcome {
-    let datagram = &datagram(header, ByteOrder::Big, body);
+    arrive_in::<S>(stage, ByteOrder::Big, header, body)
+}
+
+/// The same from a sender of the byte order given.
+pub fn arrive_in<S: OnStage>(
+    stage: &mut Stage,
+    order: ByteOrder,
+    header: &Header,
+    body: &[u8],
+) -> Outcome {
+    let datagram = &datagram(header, order, body);
     stage.event::<S>(&Event::Arrive { datagram })
 }
 

@@ -7,7 +7,7 @@ use crate::systems::run::Author;
 use crate::systems::stories::tell;
 
 /// What the stories reach, as it is counted.
-const REACHED: [&str; 18] = [
+const REACHED: [&str; 28] = [
     "system client-arrive-answer-17",
     "system client fault in RECEIVE_FRAGS: to FAULT",
     "system client nocall in DISPATCHED: the resends are 5",
@@ -26,6 +26,16 @@ const REACHED: [&str; 18] = [
     "system calls completed after a resend from the middle",
     "system calls completed after a replay from the middle",
     "system calls dispatched, acknowledged in part, given up by cause 2",
+    "system client cancel_ack in SEND_FRAGS: CANCEL disarmed",
+    "system client CANCEL in DISPATCHED: to FAULT",
+    "system server cancel in HELD_FAULT: equal, sends cancel_ack 0",
+    "system calls cancelled, then completed",
+    "system calls cancelled, then faulted",
+    "system calls cancelled, then given up by cause 2",
+    "system calls cancelled, then given up by cause 3",
+    "system cancels noticed: one above the last",
+    "system cancels noticed: an old one in another run",
+    "system cancels noticed: a later one in another run",
 ];
 
 pub fn self_test() -> Result<(), &'static str> {

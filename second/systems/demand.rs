@@ -1,32 +1,37 @@
 //! Demand 3, a single claim over a list of events, checked event by event with books of its own.
 //!
-//! The books know what was started, dispatched and replied, the bytes that both slot buffers must
-//! hold, and the tickets that are armed. They take from the machines only what these give out: the
-//! answer, the PDU, the notice, the record and what is handed up.
+//! The books know what was started, cancelled, dispatched and replied, the bytes that both slot
+//! buffers must hold, and the tickets that are armed. They take from the machines only what these
+//! give out: the answer, the PDU, the notice, the record and what is handed up.
 
 use crate::bench::bench::Bench;
 use crate::bench::memory::PDU_FILL;
 use crate::bench::post::Benched;
+use crate::codec::pdu::pdu_type;
 use crate::machines::effect::{Effect, Notice};
 use crate::machines::event::Event;
-use crate::records::client::{Client, ClientSide, State as ClientState};
+use crate::records::client::{Client, ClientEvent, ClientSide, State as ClientState, TimerKind};
 use crate::records::incoming::SLOT_BUFFER_LENGTH;
-use crate::records::server::{Answer, Server, ServerSide, State as ServerState};
-use crate::systems::demand_side::{check, number_of, Broken, Demanded, SideBook, Step};
+use crate::records::server::{Answer, Resend, Server, ServerSide, State as ServerState};
+use crate::systems::demand_side::{check, is_of_type, number_of, Broken, Demanded, SideBook, Step};
 
 /// A call that was started.
-struct Book {
+pub(super) struct Book {
     idempotent: bool,
     message: Vec<u8>,
     dispatches: u32,
     replies: Vec<Vec<u8>>,
+    /// How often the client has cancelled it.
+    pub(super) cancels: usize,
 }
 
 /// The books of one run.
 pub struct Demand {
     /// By call number.
-    calls: Vec<Book>,
-    last_dispatched: Option<usize>,
+    pub(super) calls: Vec<Book>,
+    pub(super) last_dispatched: Option<usize>,
+    /// The number of the last cancel that the server noticed since then, 0 where there is none.
+    pub(super) last_noticed: usize,
     /// What the client handed up after its last event.
     handed_up: Vec<u8>,
     client: SideBook<ClientSide>,
@@ -39,6 +44,7 @@ impl Demand {
         Demand {
             calls: Vec::new(),
             last_dispatched: None,
+            last_noticed: 0,
             handed_up: Vec::new(),
             client: SideBook::new(),
             server: SideBook::new(),
@@ -75,6 +81,7 @@ impl Demand {
             message: message.to_vec(),
             dispatches: 0,
             replies: Vec::new(),
+            cancels: 0,
         });
         self.handed_up.clear();
         Ok(())
@@ -121,6 +128,7 @@ impl Demand {
             .ok_or("a dispatch of a call that was not started")?;
         call.dispatches += 1;
         self.last_dispatched = Some(number);
+        self.last_noticed = 0;
         check(
             call.idempotent || call.dispatches == 1,
             "a call that is not idempotent is dispatched twice",
@@ -145,14 +153,37 @@ impl Demanded for ClientSide {
         matches!(state, ClientState::Complete | ClientState::Fault)
     }
 
+    /// The local cancel arms CANCEL, and no other event does.
+    fn is_armed_in(event: &Event<ClientSide>, kind: TimerKind) -> bool {
+        let is_cancel = matches!(event, Event::Own(ClientEvent::Cancel));
+        is_cancel == (kind == TimerKind::Cancel)
+    }
+
+    /// Within a call only a cancel_ack disarms CANCEL.
+    fn is_disarmed_in(event: &Event<ClientSide>, kind: TimerKind) -> bool {
+        match event {
+            Event::Arrive { datagram } => {
+                kind == TimerKind::Cancel && is_of_type(pdu_type::CANCEL_ACK, datagram)
+            }
+            _ => false,
+        }
+    }
+
     fn check_own(
         books: &mut Demand,
         step: &Step<ClientSide>,
         effect: &Effect,
     ) -> Result<(), Broken> {
-        if let Event::Own(start) = step.event {
-            let number = step.bench.record::<ClientSide>().number;
-            books.started(number, start.call.idempotent, step.message)?;
+        let after = step.bench.record::<ClientSide>();
+        match step.event {
+            Event::Own(ClientEvent::Start(start)) => {
+                books.started(after.number, start.call.idempotent, step.message)?;
+            }
+            Event::Own(ClientEvent::Cancel) => books.cancelled(step.before, after)?,
+            Event::Arrive { datagram } if is_of_type(pdu_type::CANCEL_ACK, datagram) => {
+                books.cancel_acknowledged(datagram, step.before)?;
+            }
+            _ => {}
         }
         books.client_hands_up(effect.notice, step.bench)
     }
@@ -165,13 +196,21 @@ impl Demanded for ServerSide {
 
     /// Of the rows that take a request only those that put lead to COLLECT or dispatch.
     fn is_put(datagram: &[u8], after: &Server, effect: &Effect) -> bool {
-        let is_request = datagram[1] == 0;
+        let is_request = is_of_type(pdu_type::REQUEST, datagram);
         let leads_on = after.state == ServerState::Collect || effect.notice.is_some();
         is_request && leads_on
     }
 
     fn is_over(state: ServerState) -> bool {
         state.is_idle()
+    }
+
+    fn is_armed_in(_: &Event<ServerSide>, _: Resend) -> bool {
+        true
+    }
+
+    fn is_disarmed_in(_: &Event<ServerSide>, _: Resend) -> bool {
+        false
     }
 
     fn check_own(
@@ -186,8 +225,13 @@ impl Demanded for ServerSide {
             (Event::Arrive { datagram }, Some(Notice::Dispatch)) => {
                 books.dispatched(number_of(datagram), step.bench)
             }
+            (Event::Arrive { datagram }, Some(Notice::Cancel))
+                if is_of_type(pdu_type::CANCEL, datagram) =>
+            {
+                books.cancel_noticed(datagram, step)
+            }
             (_, None) => Ok(()),
-            _ => Err("the server gives another notice than a dispatch".into()),
+            _ => Err("the server gives another notice than a dispatch or a cancel".into()),
         }
     }
 }

@@ -43,6 +43,12 @@ pub trait Demanded: Benched {
     /// Whether the call is over in the state.
     fn is_over(state: Self::State) -> bool;
 
+    /// Whether the timer is the one that is armed in an event that arms one.
+    fn is_armed_in(event: &Event<Self>, kind: Self::TimerKind) -> bool;
+
+    /// Whether an event that is done disarms the timer, whatever the state behind it.
+    fn is_disarmed_in(event: &Event<Self>, kind: Self::TimerKind) -> bool;
+
     /// What only this side owes in a step that gave the effect.
     fn check_own(books: &mut Demand, step: &Step<Self>, effect: &Effect) -> Result<(), Broken>;
 }
@@ -61,9 +67,23 @@ fn u16_of(datagram: &[u8], at: usize) -> usize {
     usize::from(u16::from_le_bytes([datagram[at], datagram[at + 1]]))
 }
 
+/// Whether a datagram that can be read has the type.
+pub fn is_of_type(pdu_type: u8, datagram: &[u8]) -> bool {
+    datagram[1] == pdu_type
+}
+
+fn u32_of(datagram: &[u8], at: usize) -> usize {
+    u16_of(datagram, at) | u16_of(datagram, at + 2) << 16
+}
+
 /// The call number of a datagram.
 pub fn number_of(datagram: &[u8]) -> usize {
-    u16_of(datagram, 64) | u16_of(datagram, 66) << 16
+    u32_of(datagram, 64)
+}
+
+/// The number of a cancel.
+pub fn cancel_number_of(datagram: &[u8]) -> usize {
+    u32_of(datagram, 84)
 }
 
 /// Puts the fragment of a datagram into the slots.
@@ -82,19 +102,20 @@ impl<S: Demanded> SideBook<S> {
         }
     }
 
-    /// Arming raises the counter, and the timer has the ticket that this gives; a state that does
-    /// not name the timer disarms it.
-    fn follow_timers(&mut self, before: &Record<S>, after: &Record<S>) -> Result<(), Broken> {
-        let is_armed_afresh = before.tickets != after.tickets;
+    /// Arming raises the counter, and the timer that the event arms has the ticket that this gives;
+    /// a state that does not name a timer disarms it.
+    fn follow_timers(&mut self, step: &Step<S>) -> Result<(), Broken> {
+        let after = step.bench.record::<S>();
+        let is_armed_afresh = step.before.tickets != after.tickets;
         let is_over = S::is_over(after.state);
         for (kind, timer) in &mut self.armed {
             check(
                 !is_over || after.timer_of(*kind).is_none(),
                 "a call is over with a timer armed",
             )?;
-            if !S::names(after.state, *kind) {
+            if !S::names(after.state, *kind) || S::is_disarmed_in(step.event, *kind) {
                 *timer = None;
-            } else if is_armed_afresh {
+            } else if is_armed_afresh && S::is_armed_in(step.event, *kind) {
                 *timer = Some(after.tickets.counter);
             }
             let is_same = after.timer_of(*kind) == *timer;
@@ -112,7 +133,7 @@ impl<S: Demanded> SideBook<S> {
             }
             _ => {}
         }
-        self.follow_timers(step.before, after)?;
+        self.follow_timers(step)?;
         check(after.is_sound(), "a record breaks its rules")
     }
 

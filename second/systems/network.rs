@@ -46,6 +46,8 @@ pub struct Weather {
     pub waits: usize,
     /// The same of the RESEND timer.
     pub resends: usize,
+    /// The same of the CANCEL timer.
+    pub cancels: usize,
 }
 
 /// In two of them one side hears little, and the other one much of what is over; in the last one
@@ -56,42 +58,49 @@ const WEATHERS: [Weather; 7] = [
         to_server: CLEAR,
         waits: 1,
         resends: 1,
+        cancels: 1,
     },
     Weather {
         to_client: ROUGH,
         to_server: ROUGH,
         waits: 8,
         resends: 8,
+        cancels: 4,
     },
     Weather {
         to_client: STORM,
         to_server: STORM,
         waits: 60,
         resends: 60,
+        cancels: 3,
     },
     Weather {
         to_client: ECHO,
         to_server: ECHO,
         waits: 6,
         resends: 8,
+        cancels: 2,
     },
     Weather {
         to_client: STORM,
         to_server: ECHO,
         waits: 2,
         resends: 80,
+        cancels: 2,
     },
     Weather {
         to_client: ECHO,
         to_server: STORM,
         waits: 16,
         resends: 4,
+        cancels: 8,
     },
     Weather {
         to_client: MUDDLE,
         to_server: MUDDLE,
         waits: 20,
         resends: 4,
+        cancels: 4,
     },
 ];
 

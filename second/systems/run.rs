@@ -5,7 +5,7 @@ use crate::bench::bench::Bench;
 use crate::generate::author;
 use crate::generate::parts::any_call;
 use crate::generate::random::Random;
-use crate::records::client::{ClientSide, State, TimerKind};
+use crate::records::client::{ClientSide, State, TimerKind, TIMERS};
 use crate::records::outgoing::MESSAGE_LIMIT;
 use crate::records::server::{self, Resend, ServerSide};
 use crate::systems::demand_side::Broken;
@@ -93,10 +93,12 @@ fn ticket_counter(random: &mut Random) -> u64 {
 #[derive(Clone, Copy)]
 enum Happening {
     Start,
+    Cancel,
     Transmit,
     Arrive,
     Wait,
     Ack,
+    CancelTimer,
     LateTimer,
     HandUp,
     Server(ServerHappening),
@@ -121,8 +123,9 @@ fn weight(fits: bool, weight: usize) -> usize {
     }
 }
 
-fn client_weights(author: &Author, system: &System) -> [(Happening, usize); 7] {
-    let state = author.bench.record::<ClientSide>().state;
+fn client_weights(author: &Author, system: &System, habits: Habits) -> [(Happening, usize); 9] {
+    let client = author.bench.record::<ClientSide>();
+    let state = client.state;
     let air = system.weather.to_client;
     let start = match state {
         State::AckPending => 8,
@@ -131,19 +134,28 @@ fn client_weights(author: &Author, system: &System) -> [(Happening, usize); 7] {
     let transmit = weight(state == State::SendFrags, 90);
     let arrive = weight(system.client.line.is_busy(), 60) + air.repeats / 3;
     let wait = weight(state.names(TimerKind::Wait), system.weather.waits);
+    let cancel = weight(state.is_active(), habits.cancels);
+    let cancel_timer = weight(client.own.cancel.is_some(), system.weather.cancels);
     [
         (Happening::Start, start),
+        (Happening::Cancel, cancel),
         (Happening::Transmit, transmit),
         (Happening::Arrive, arrive),
         (Happening::Wait, wait),
         (Happening::Ack, weight(state.names(TimerKind::Ack), 12)),
+        (Happening::CancelTimer, cancel_timer),
         (Happening::LateTimer, 2),
         (Happening::HandUp, 2),
     ]
 }
 
 fn server_weights(author: &Author, system: &System, habits: Habits) -> [(Happening, usize); 7] {
-    let state = author.bench.record::<ServerSide>().state;
+    let server = author.bench.record::<ServerSide>();
+    let state = server.state;
+    let faults = match server.own.cancel_number {
+        0 => habits.faults,
+        _ => habits.faults_of_cancelled,
+    };
     let air = system.weather.to_server;
     let is_running = state == server::State::Running;
     let is_replying = state == server::State::Replying;
@@ -155,14 +167,14 @@ fn server_weights(author: &Author, system: &System, habits: Habits) -> [(Happeni
         (ServerHappening::Resend, resend),
         (ServerHappening::LateTimer, 2),
         (ServerHappening::Reply, weight(is_running, 40)),
-        (ServerHappening::Fault, weight(is_running, habits.faults)),
+        (ServerHappening::Fault, weight(is_running, faults)),
         (ServerHappening::HandUp, 2),
     ];
     weights.map(|(happening, weight)| (Happening::Server(happening), weight))
 }
 
 fn any_happening(author: &mut Author, system: &System, habits: Habits) -> Happening {
-    let mut weights = client_weights(author, system).to_vec();
+    let mut weights = client_weights(author, system, habits).to_vec();
     weights.extend(server_weights(author, system, habits));
     let (happenings, weights): (Vec<_>, Vec<_>) = weights.into_iter().unzip();
     author.random.share(&happenings, &weights)
@@ -176,6 +188,7 @@ fn any_event(author: &mut Author, system: &mut System, habits: Habits) -> Result
             let length = message_length(habits, &mut author.random);
             system.start(call, length, author)
         }
+        Happening::Cancel => system.cancel(author),
         Happening::Transmit => {
             let wrong = wrong_length(&mut author.random);
             system.transmit::<ClientSide>(wrong, author)
@@ -183,8 +196,9 @@ fn any_event(author: &mut Author, system: &mut System, habits: Habits) -> Result
         Happening::Arrive => system.arrive::<ClientSide>(author),
         Happening::Wait => system.timer::<ClientSide>(TimerKind::Wait, author),
         Happening::Ack => system.timer::<ClientSide>(TimerKind::Ack, author),
+        Happening::CancelTimer => system.timer::<ClientSide>(TimerKind::Cancel, author),
         Happening::LateTimer => {
-            let kind = author.random.pick(&[TimerKind::Wait, TimerKind::Ack]);
+            let kind = author.random.pick(&TIMERS);
             system.late_timer::<ClientSide>(kind, author)
         }
         Happening::HandUp => {

@@ -8,7 +8,7 @@ use crate::generate::random::Random;
 use crate::machines::effect::Notice;
 use crate::machines::event::Event;
 use crate::records::call::Call;
-use crate::records::client::{ClientSide, Start};
+use crate::records::client::{ClientEvent, ClientSide, Start};
 use crate::records::outgoing::MESSAGE_LIMIT;
 use crate::records::server::{Answer, ServerSide};
 use crate::systems::demand::Demand;
@@ -197,8 +197,13 @@ impl System {
     /// A start with a message of so many bytes.
     pub fn start(&mut self, call: Call, length: u32, author: &mut Author) -> Result<(), Broken> {
         let message = any_message(length, &mut author.random);
-        let start = Start { call, length };
+        let start = ClientEvent::Start(Start { call, length });
         self.event::<ClientSide>(Event::Own(start), Some(message), author)
+    }
+
+    /// The local cancel.
+    pub fn cancel(&mut self, author: &mut Author) -> Result<(), Broken> {
+        self.event::<ClientSide>(Event::Own(ClientEvent::Cancel), None, author)
     }
 
     /// A reply of so many bytes.

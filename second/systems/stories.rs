@@ -6,6 +6,7 @@ use crate::records::server::{Resend, ServerSide};
 use crate::systems::demand_side::Broken;
 use crate::systems::run::{set_fresh, Author};
 use crate::systems::step::{Joined, System};
+use crate::systems::stories_of_cancels as cancels;
 use crate::systems::stories_of_facks as facks;
 
 /// A step of a story. A datagram is named by its place among those sent to a side.
@@ -16,8 +17,12 @@ pub enum Telling {
     ClientTransmit,
     ToServer(usize),
     ToClient(usize),
+    /// The local cancel.
+    Cancel,
     Wait,
     Ack,
+    /// The timer of the cancel.
+    CancelTimer,
     Reply(u32),
     Fault,
     ServerTransmit,
@@ -61,8 +66,9 @@ const FAULT_BEHIND_A_REPLY: [Telling; 10] = [
 ];
 
 /// The server never hears the request, only pings. The last nocall comes twice, and the client gives
-/// up. (A sixth WAIT would end the call too, since a nocall leaves the count of these.)
-const NO_CALL: [Telling; 24] = [
+/// up, although it has cancelled the call. (A sixth WAIT would end the call too, since a nocall leaves
+/// the count of these.)
+const NO_CALL: [Telling; 25] = [
     Start(false, 1),
     ClientTransmit,
     Wait,
@@ -85,6 +91,7 @@ const NO_CALL: [Telling; 24] = [
     ToServer(9),
     ToClient(4),
     ClientTransmit,
+    Telling::Cancel,
     ToClient(4),
     Start(false, 1),
 ];
@@ -106,7 +113,7 @@ const LAST_TICKET: [Telling; 5] = [
     Telling::Resend,
 ];
 
-const STORIES: [Story; 9] = [
+const STORIES: [Story; 14] = [
     ([0, 0], &TWO_REPLIES),
     ([0, 0], &FAULT_BEHIND_A_REPLY),
     ([0, 0], &NO_CALL),
@@ -116,6 +123,11 @@ const STORIES: [Story; 9] = [
     ([0, 0], &facks::RESEND_OF_ALL),
     ([0, 0], &facks::REPLAY_FROM_THE_MIDDLE),
     ([0, 0], &facks::BEGUN_AGAIN),
+    ([0, 0], &cancels::ACKNOWLEDGED),
+    ([0, 0], &cancels::NOT_HEARD),
+    ([0, 0], &cancels::NOTICED_AGAIN),
+    ([0, 0], &cancels::HEEDED),
+    ([u64::MAX - 1, 0], &cancels::LAST_TICKET),
 ];
 
 /// Tells all stories, each to two fresh sides.
@@ -145,6 +157,8 @@ pub fn step(telling: Telling, system: &mut System, author: &mut Author) -> Resul
         ToClient(place) => deliver::<ClientSide>(place, system, author),
         Wait => system.timer::<ClientSide>(TimerKind::Wait, author),
         Telling::Ack => system.timer::<ClientSide>(TimerKind::Ack, author),
+        Telling::Cancel => system.cancel(author),
+        Telling::CancelTimer => system.timer::<ClientSide>(TimerKind::Cancel, author),
         Reply(length) => system.reply(length, author),
         Fault => system.fault(author),
         ServerTransmit => system.transmit::<ServerSide>(None, author),

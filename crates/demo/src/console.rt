@@ -26,8 +26,8 @@ pub(crate) enum ClientEvent {
     Ack,
 }
 
-// The record, a timer for each that the record has, the PDU buffer as a wire, and how often a reply was
-// complete.
+// The record, a timer for each that the record arms here (CANCEL is not: this console cancels no call),
+// the PDU buffer as a wire, and how often a reply was complete.
 pub(crate) struct Console {
     pub client: Client,
     pub wait: Alarm,
@@ -79,8 +79,9 @@ fn completed_after(completed: u32, notice: Notice) -> u32 {
         Notice::Fault(_) => completed,
         Notice::Reject(_) => completed,
         Notice::Cause(_) => completed,
-        // Only a server tells this.
+        // Only a server tells these.
         Notice::Dispatch => completed,
+        Notice::Cancel => completed,
     }
 }
 

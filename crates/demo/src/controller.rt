@@ -58,6 +58,8 @@ fn dispatched_after(dispatched: u32, notice: Notice) -> u32 {
         Notice::Nothing => dispatched,
         // The whole request can be taken, and is to be executed: here and nowhere else.
         Notice::Dispatch => std::num::wrapping_add_u32(dispatched, 1),
+        // The console wants the call to end: a stub that can stop replies, or faults, as soon as it has.
+        Notice::Cancel => dispatched,
         // Only a client tells these.
         Notice::Count(_) => dispatched,
         Notice::Last => dispatched,

@@ -104,6 +104,7 @@ fn print_notice(notice: Notice) {
         Notice::Fault(_) => print(b"fault    "),
         Notice::Reject(_) => print(b"reject   "),
         Notice::Cause(_) => print(b"failed   "),
+        Notice::Cancel => print(b"cancel   "),
     }
 }
 

@@ -18,7 +18,7 @@ use Rattle.calls.specs.declared.Notice.{Notice}
 use Rattle.calls.specs.declared.Sent.{Sent}
 use Rattle.record_bytes.specs.Fits.{Octets, Uuid, FitsCall}
 use Rattle.record_bytes.proofs.Keeping.{choice-by}
-use Rattle.client_record.specs.declared.TimerKind.the-variants.{Wait, Ack}
+use Rattle.client_record.specs.declared.TimerKind.the-variants.{Wait, Ack, Cancel}
 use Rattle.client_record.specs.Rules.{sound as clientSound}
 use Rattle.client_bytes.specs.Layout.{readable as clientReadable, clientIn, clientBytes}
 use Rattle.client_bytes.specs.Canonical.{Canonical as ClientCanonical}
@@ -28,15 +28,15 @@ use Rattle.server_bytes.specs.Layout.{readable as serverReadable, serverIn, ser
 use Rattle.server_bytes.specs.Canonical.{Canonical as ServerCanonical}
 use Rattle.server_bytes.proofs.RoundTrip.{server-fits}
 use Rattle.history.specs.World.{Side}
-use Rattle.history.specs.Events.{ClientEvent, ServerEvent, Start, ClientTransmit as TransmitOfClient, ClientArrive as ArriveOfClient, ClientTimer as TimerOfClient, ServerArrive as ArriveOfServer, ServerTransmit as TransmitOfServer, ServerTimer as TimerOfServer, Reply, Fault}
+use Rattle.history.specs.Events.{ClientEvent, ServerEvent, Start, ClientTransmit as TransmitOfClient, ClientArrive as ArriveOfClient, ClientTimer as TimerOfClient, ClientCancel as CancelOfClient, ServerArrive as ArriveOfServer, ServerTransmit as TransmitOfServer, ServerTimer as TimerOfServer, Reply, Fault}
 use Rattle.history.specs.Steps.{isDone, clientTurn, serverTurn}
 use Rattle.morphelai.specs.Result.{resultOf}
 use Rattle.morphelai.specs.Export.{Export, sized, refusing, keptBytes}
-use Rattle.morphelai.specs.ClientDoor.{clientResult, clientKept, clientStart, startSized, callOf, clientTransmit, clientArrive, clientTiming, clientTimer}
+use Rattle.morphelai.specs.ClientDoor.{clientResult, clientKept, clientStart, startSized, callOf, clientTransmit, clientArrive, clientTiming, clientTimer, clientCancel}
 use Rattle.morphelai.specs.ServerDoor.{serverResult, serverKept, serverArrive, serverTransmit, serverTiming, serverTimer, serverReply, serverFault}
 use Rattle.host_history.specs.Arguments.{ClientFits, ServerFits}
 use Rattle.host_history.specs.Results.{answerIn}
-use Rattle.host_history.specs.Hosts.{HostWorld, HostCall, exported, sideOf, ClientCall, ServerCall, ClientStart, ClientTransmit, ClientArrive, ClientTimer, ServerArrive, ServerTransmit, ServerTimer, ServerReply, ServerFault, clientExport, serverExport}
+use Rattle.host_history.specs.Hosts.{HostWorld, HostCall, exported, sideOf, ClientCall, ServerCall, ClientStart, ClientTransmit, ClientArrive, ClientTimer, ClientCancel, ServerArrive, ServerTransmit, ServerTimer, ServerReply, ServerFault, clientExport, serverExport}
 use Rattle.host_history.specs.Meaning.{ClientCallFits, ServerCallFits}
 use Rattle.host_history.specs.Refusal.{readableAt}
 use Rattle.host_history.proofs.ClientKeeps.{client-turn-fits}
@@ -95,7 +95,7 @@ module _ (side : Side (List ℕ)) (size : length (side .machine) ≡ 272) (octet
 
   pub client-answered : (call : ClientCall) → ClientCallFits call
       → answerIn (clientExport side call .result) ≡ Done → ClientCanonical (clientExport side call .bytes)
-  unfolding clientStart clientTransmit clientArrive clientTimer clientTiming clientResult clientKept
+  unfolding clientStart clientTransmit clientArrive clientTimer clientTiming clientCancel clientResult clientKept
   client-answered (ClientStart idempotent object interface version operation n message) small =
       or-refuses ClientCanonical (side .machine) [] [] (startSized (side .machine) idempotent object interface) _
       (λ (e : startSized (side .machine) idempotent object interface ≡ true).
@@ -122,8 +122,17 @@ module _ (side : Side (List ℕ)) (size : length (side .machine) ≡ 272) (octet
       (λ (ack : eqb kind 2 ≡ true).
       given-leaves ClientCanonical _ _ _ _ (side .machine)
       (client-next (TimerOfClient Ack ticket out) (small .1, small .2)))
-      (λ (none : eqb kind 2 ≡ false) (done : _).
-      absurd (kind-undone (side .machine) [] out (clientSound (clientIn (side .machine))) done))))
+      (λ (another : eqb kind 2 ≡ false).
+      choice-by (Leaves ClientCanonical) (eqb kind 4) _ _
+      (λ (cancel : eqb kind 4 ≡ true).
+      given-leaves ClientCanonical _ _ _ _ (side .machine)
+      (client-next (TimerOfClient Cancel ticket out) (small .1, small .2)))
+      (λ (none : eqb kind 4 ≡ false) (done : _).
+      absurd (kind-undone (side .machine) [] out (clientSound (clientIn (side .machine))) done)))))
+  client-answered (ClientCancel out) small =
+      or-refuses ClientCanonical (side .machine) [] out (sized (side .machine)) _
+      (λ (e : sized (side .machine) ≡ true).
+      given-leaves ClientCanonical _ _ _ _ (side .machine) (client-next (CancelOfClient out) small))
 
 module _ (side : Side (List ℕ)) (size : length (side .machine) ≡ 272) (octets : Octets (side .machine))
     (allowed : serverReadable (side .machine) ≡ true) where

@@ -9,7 +9,7 @@ use lib.Dec.{eqb}
 use lib.ListN.{length}
 use borrow.Author.Tests.{eqb-true}
 use Rattle.calls.specs.declared.Notice.{Notice}
-use Rattle.calls.specs.declared.Notice.the-variants.{Nothing as Untold, Last, Count, Fault, Reject, Cause, Dispatch}
+use Rattle.calls.specs.declared.Notice.the-variants.{Nothing as Untold, Last, Count, Fault, Reject, Cause, Dispatch, Cancel}
 use Rattle.record_bytes.specs.Layout.{callIn, fieldsIn}
 use Rattle.record_bytes.proofs.PartLaws.{uuid-part}
 use Rattle.record_bytes.proofs.Keeping.{choice-by, choice-keeps}
@@ -51,6 +51,7 @@ module _ (before : List Dispatched) (d : Dispatched) where
   no-dispatch (Reject status) other = refl
   no-dispatch (Cause cause) other = refl
   no-dispatch Dispatch other = absurd (other refl)
+  no-dispatch Cancel other = refl
 
 module _ (before : List Completed) (c : Completed) where
   last-adds : (n : Notice) → n ≡ Last → completionsAfter before n c ≡ andThen before c
@@ -66,6 +67,7 @@ module _ (before : List Completed) (c : Completed) where
   no-last (Reject status) other = refl
   no-last (Cause cause) other = refl
   no-last Dispatch other = refl
+  no-last Cancel other = refl
 
 -- What stands in the server's bytes is the record's call and number.
 pub entry-read : (h : HostWorld) → Keeps h → (of : Subject) → serverIn (h .server .machine) .number ≡ of .number
@@ -122,7 +124,7 @@ reply-byte n =
     none : false ≡ true → (n ≡ 4) ⊎ (n ≡ 5)
     none never = absurd (false≢true never)
 
-runs-there : (server : Side (List ℕ)) → runs (serverIn (server .machine) .state) ≡ true → InRunning server
+pub runs-there : (server : Side (List ℕ)) → runs (serverIn (server .machine) .state) ≡ true → InRunning server
 unfolding serverIn serverOf fieldsIn
 runs-there server = running-byte _ _
 
@@ -178,7 +180,7 @@ module _ (h : HostWorld) (keeps : Keeps h) where
       (serverSeen (h .server) call .machine .number) (serverSeen (h .server) call .machine .state)
   dispatch-told call small told = subst (ServerTells _ _ _) told (server-told call small)
 
-  client-told : (call : ClientCall) → ClientCallFits call
+  pub client-told : (call : ClientCall) → ClientCallFits call
       → ClientTells (clientSeen (h .client) call .machine .state) (clientSeen (h .client) call .notice)
   client-told call small =
       client-call-tells h call (meantToClient call) (client-meets (h .client) (keeps .client) call small)

@@ -18,22 +18,22 @@ use Rattle.record_bytes.specs.Parts.{uuidIn}
 use Rattle.record_bytes.proofs.PartLaws.{uuid-part}
 use Rattle.client_record.specs.declared.Client.{Client}
 use Rattle.client_record.specs.declared.TimerKind.{TimerKind}
-use Rattle.client_record.specs.declared.TimerKind.the-variants.{Wait, Ack}
+use Rattle.client_record.specs.declared.TimerKind.the-variants.{Wait, Ack, Cancel}
 use Rattle.client_record.specs.Rules.{sound}
 use Rattle.client.specs.Machine.{starting, timing}
 use Rattle.client_bytes.specs.Layout.{clientIn, clientBytes}
 use Rattle.client_bytes.specs.Fits.{FitsClient}
 use Rattle.client_bytes.specs.Canonical.{Canonical}
 use Rattle.client_bytes.proofs.RoundTrip.{client-back, client-canonical, client-fits}
-use Rattle.history.specs.World.{Started, Side}
-use Rattle.history.specs.Events.{ClientEvent, Event, Start, ClientTransmit as TransmitOf, ClientArrive as ArriveOf, ClientTimer as TimerOf, OfClient, OfServer}
-use Rattle.history.specs.Steps.{Turn, clientTurn, startsAfter}
+use Rattle.history.specs.World.{Started, Cancelled, Side}
+use Rattle.history.specs.Events.{ClientEvent, Event, Start, ClientTransmit as TransmitOf, ClientArrive as ArriveOf, ClientTimer as TimerOf, ClientCancel as CancelOf, OfClient, OfServer}
+use Rattle.history.specs.Steps.{Turn, clientTurn, startsAfter, cancelsAfter}
 use Rattle.history.proofs.Refused.{client-refused}
 use Rattle.morphelai.specs.Result.{resultOf}
 use Rattle.morphelai.specs.Export.{Export, sized, refusing, keptBytes}
-use Rattle.morphelai.specs.ClientDoor.{clientResult, clientKept, clientGiven, clientStepped, clientStart, startSized, callOf, clientTransmit, clientArrive, clientTiming, clientTimer}
+use Rattle.morphelai.specs.ClientDoor.{clientResult, clientKept, clientGiven, clientStepped, clientStart, startSized, callOf, clientTransmit, clientArrive, clientTiming, clientTimer, clientCancel}
 use Rattle.host_history.specs.Arguments.{ClientFits}
-use Rattle.host_history.specs.Hosts.{sideOf, ClientCall, ClientStart, ClientTransmit, ClientArrive, ClientTimer, callGiven, clientExport, clientSlots, startsSeen}
+use Rattle.host_history.specs.Hosts.{sideOf, ClientCall, ClientStart, ClientTransmit, ClientArrive, ClientTimer, ClientCancel, callGiven, clientExport, clientSlots, startsSeen, cancelsSeen}
 use Rattle.host_history.specs.Meaning.{startable, meantToClient, ClientCallFits}
 use Rattle.host_history.specs.Refusal.{Undone}
 use Rattle.host_history.proofs.ClientKeeps.{client-turn-fits}
@@ -74,6 +74,9 @@ module _ (side : Side (List ℕ)) (canonical : Canonical (side .machine)) where
 pub record ClientFollows (side : Side (List ℕ)) (call : ClientCall) (x : Export) (e : ClientEvent) : Type 0 where
   pub shows : Shows clientIn Canonical x (clientSlots side call x) (clientTurn (sideOf clientIn side) e)
   pub starts : (before : List Started) (t : Turn Client) → startsSeen before call t ≡ startsAfter before e t
+  pub cancels :
+      (before : List Cancelled) (t : Turn Client) (ordinal : ℕ)
+      → cancelsSeen before call t ordinal ≡ cancelsAfter before e t ordinal
 
 -- The export of a call is that of the events that it is: refused where it is none, else the event's own.
 abbrev pub ClientMeets : Side (List ℕ) → ClientCall → Export → List Event → Type 0
@@ -150,6 +153,7 @@ module _ (side : Side (List ℕ)) (canonical : Canonical (side .machine)) where
         (record {
           shows = given-shown side canonical startEvent [] (call-fits s, small .5);
           starts = λ before t. refl;
+          cancels = λ before t ordinal. refl;
         })
 
     same-test : startSized (side .machine) idempotent object interface ≡ startable idempotent object interface
@@ -176,20 +180,29 @@ module _ (side : Side (List ℕ)) (canonical : Canonical (side .machine)) where
       record {
         shows = given-shown side canonical (TimerOf named ticket out) [] (small, octets);
         starts = λ before t. refl;
+        cancels = λ before t ordinal. refl;
       }
 
   -- Every call of the client meets what it is meant for.
   pub client-meets : (call : ClientCall) → ClientCallFits call
       → ClientMeets side call (clientExport side call) (meantToClient call)
-  unfolding clientTransmit clientArrive clientTimer clientTiming clientResult clientKept
+  unfolding clientTransmit clientArrive clientTimer clientTiming clientCancel clientResult clientKept
   client-meets (ClientStart idempotent object interface version operation n message) small =
       start-meets idempotent object interface version operation n message small
   client-meets (ClientTransmit message out) small =
       judged (ClientTransmit message out) _ _ (OfClient (TransmitOf message out) ∷ [])
-      (record { shows = given-shown side canonical (TransmitOf message out) [] small; starts = λ before t. refl })
+      (record {
+        shows = given-shown side canonical (TransmitOf message out) [] small;
+        starts = λ before t. refl;
+        cancels = λ before t ordinal. refl;
+      })
   client-meets (ClientArrive p lent out) small =
       judged (ClientArrive p lent out) _ _ (OfClient (ArriveOf p lent out) ∷ [])
-      (record { shows = given-shown side canonical (ArriveOf p lent out) _ small; starts = λ before t. refl })
+      (record {
+        shows = given-shown side canonical (ArriveOf p lent out) _ small;
+        starts = λ before t. refl;
+        cancels = λ before t ordinal. refl;
+      })
   client-meets (ClientTimer kind ticket out) small =
       judged (ClientTimer kind ticket out) _ _ (meantToClient (ClientTimer kind ticket out))
       (choice-pair (ClientMeets side (ClientTimer kind ticket out)) (eqb kind 1) _ _ _ _
@@ -197,4 +210,14 @@ module _ (side : Side (List ℕ)) (canonical : Canonical (side .machine)) where
       (λ (e : eqb kind 1 ≡ false).
       choice-pair (ClientMeets side (ClientTimer kind ticket out)) (eqb kind 2) _ _ _ _
       (λ (e : eqb kind 2 ≡ true). timer-follows kind Ack ticket out (small .1) (small .2))
-      (λ (e : eqb kind 2 ≡ false). kind-undone (side .machine) [] out (sound (clientIn (side .machine))))))
+      (λ (e : eqb kind 2 ≡ false).
+      choice-pair (ClientMeets side (ClientTimer kind ticket out)) (eqb kind 4) _ _ _ _
+      (λ (e : eqb kind 4 ≡ true). timer-follows kind Cancel ticket out (small .1) (small .2))
+      (λ (e : eqb kind 4 ≡ false). kind-undone (side .machine) [] out (sound (clientIn (side .machine)))))))
+  client-meets (ClientCancel out) small =
+      judged (ClientCancel out) _ _ (OfClient (CancelOf out) ∷ [])
+      (record {
+        shows = given-shown side canonical (CancelOf out) [] small;
+        starts = λ before t. refl;
+        cancels = λ before t ordinal. refl;
+      })

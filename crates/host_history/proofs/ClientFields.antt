@@ -7,13 +7,13 @@ use Rattle.incoming.specs.declared.Incoming.{Incoming}
 use Rattle.outgoing.specs.declared.Outgoing.{Outgoing}
 use Rattle.timers.specs.declared.Timer.{Timer}
 use Rattle.timers.specs.declared.Timer.the-variants.{Off}
-use Rattle.timers.specs.Tickets.{nextTicket, armedAfresh}
+use Rattle.timers.specs.Tickets.{nextTicket, armedAfresh, armedIfOff, ticketsIfOff}
 use Rattle.client_record.specs.declared.State.{State}
-use Rattle.client_record.specs.declared.State.the-variants.{AckPending}
+use Rattle.client_record.specs.declared.State.the-variants.{SendFrags, AckPending}
 use Rattle.client_record.specs.declared.Client.{Client}
-use Rattle.client_record.specs.Record.{fresh, timed, waiting, ackPending, unarmed, withOutgoing, withWaits, withIncoming, withResends}
+use Rattle.client_record.specs.Record.{fresh, timed, waiting, sending, ackPending, unarmed, cancelArmed, cancelDisarmed, withOutgoing, withWaits, withIncoming, withResends, withCancels}
 use Rattle.record_bytes.specs.Fits.{Uuid, FitsOutgoing, FitsIncoming, FitsTimer}
-use Rattle.record_bytes.proofs.Keeping.{no-message-fits, cleared-fits, next-ticket-fits, armed-fits, blank-call-fits}
+use Rattle.record_bytes.proofs.Keeping.{no-message-fits, cleared-fits, next-ticket-fits, armed-fits, armed-if-off-fits, tickets-if-off-fits, blank-call-fits}
 use Rattle.client_bytes.specs.Fits.{FitsClient}
 
 -- A fresh record fits.
@@ -28,16 +28,19 @@ fresh-client-fits activity tickets uuid small = record {
   incoming = cleared-fits;
   waits = omega arith;
   resends = omega arith;
+  cancels = omega arith;
   tickets = small;
   wait = tt;
   ack = tt;
+  cancel = tt;
 }
 
 -- What a row sets of a record that fits: the timers,
 module _ (c : Client) (fits : FitsClient c) where
-  timed-fits : (state : State) (tickets : ℕ) (wait ack : Timer)
-      → tickets < 18446744073709551616 → FitsTimer wait → FitsTimer ack → FitsClient (timed c state tickets wait ack)
-  timed-fits state tickets wait ack small first second = record {
+  timed-fits : (state : State) (tickets : ℕ) (wait ack cancel : Timer)
+      → tickets < 18446744073709551616 → FitsTimer wait → FitsTimer ack → FitsTimer cancel
+      → FitsClient (timed c state tickets wait ack cancel)
+  timed-fits state tickets wait ack cancel small first second third = record {
     activity = fits .activity;
     number = fits .number;
     call = fits .call;
@@ -45,26 +48,44 @@ module _ (c : Client) (fits : FitsClient c) where
     incoming = fits .incoming;
     waits = fits .waits;
     resends = fits .resends;
+    cancels = fits .cancels;
     tickets = small;
     wait = first;
     ack = second;
+    cancel = third;
   }
 
   pub waiting-fits : (state : State) → FitsClient (waiting c state)
   unfolding waiting
   waiting-fits state =
-      timed-fits state (nextTicket (c .tickets)) (armedAfresh (c .tickets)) Off
-      (next-ticket-fits (c .tickets) (fits .tickets)) (armed-fits (c .tickets) (fits .tickets)) tt
+      timed-fits state (nextTicket (c .tickets)) (armedAfresh (c .tickets)) Off (c .cancel)
+      (next-ticket-fits (c .tickets) (fits .tickets)) (armed-fits (c .tickets) (fits .tickets)) tt (fits .cancel)
+
+  pub sending-fits : FitsClient (sending c)
+  unfolding sending
+  sending-fits = timed-fits SendFrags (c .tickets) Off Off (c .cancel) (fits .tickets) tt tt (fits .cancel)
 
   pub ack-pending-fits : FitsClient (ackPending c)
   unfolding ackPending
   ack-pending-fits =
-      timed-fits AckPending (nextTicket (c .tickets)) Off (armedAfresh (c .tickets))
-      (next-ticket-fits (c .tickets) (fits .tickets)) tt (armed-fits (c .tickets) (fits .tickets))
+      timed-fits AckPending (nextTicket (c .tickets)) Off (armedAfresh (c .tickets)) Off
+      (next-ticket-fits (c .tickets) (fits .tickets)) tt (armed-fits (c .tickets) (fits .tickets)) tt
 
   pub unarmed-fits : (state : State) → FitsClient (unarmed c state)
   unfolding unarmed
-  unarmed-fits state = timed-fits state (c .tickets) Off Off (fits .tickets) tt tt
+  unarmed-fits state = timed-fits state (c .tickets) Off Off Off (fits .tickets) tt tt tt
+
+  pub cancel-armed-fits : FitsClient (cancelArmed c)
+  unfolding cancelArmed
+  cancel-armed-fits =
+      timed-fits (c .state) (ticketsIfOff (c .cancel) (c .tickets)) (c .wait) (c .ack)
+      (armedIfOff (c .cancel) (c .tickets)) (tickets-if-off-fits (c .cancel) (c .tickets) (fits .tickets))
+      (fits .wait) (fits .ack) (armed-if-off-fits (c .cancel) (c .tickets) (fits .cancel) (fits .tickets))
+
+  pub cancel-disarmed-fits : FitsClient (cancelDisarmed c)
+  unfolding cancelDisarmed
+  cancel-disarmed-fits =
+      timed-fits (c .state) (c .tickets) (c .wait) (c .ack) Off (fits .tickets) (fits .wait) (fits .ack) tt
 
   -- the message sent,
   pub outgoing-fits : (o : Outgoing) → FitsOutgoing o → FitsClient (withOutgoing c o)
@@ -77,9 +98,11 @@ module _ (c : Client) (fits : FitsClient c) where
     incoming = fits .incoming;
     waits = fits .waits;
     resends = fits .resends;
+    cancels = fits .cancels;
     tickets = fits .tickets;
     wait = fits .wait;
     ack = fits .ack;
+    cancel = fits .cancel;
   }
 
   -- what is held,
@@ -93,9 +116,11 @@ module _ (c : Client) (fits : FitsClient c) where
     incoming = small;
     waits = omega arith;
     resends = fits .resends;
+    cancels = fits .cancels;
     tickets = fits .tickets;
     wait = fits .wait;
     ack = fits .ack;
+    cancel = fits .cancel;
   }
 
   -- and the counts.
@@ -109,9 +134,11 @@ module _ (c : Client) (fits : FitsClient c) where
     incoming = fits .incoming;
     waits = small;
     resends = fits .resends;
+    cancels = fits .cancels;
     tickets = fits .tickets;
     wait = fits .wait;
     ack = fits .ack;
+    cancel = fits .cancel;
   }
 
   pub resends-fits : (resends : ℕ) → resends < 256 → FitsClient (withResends c resends)
@@ -124,7 +151,26 @@ module _ (c : Client) (fits : FitsClient c) where
     incoming = fits .incoming;
     waits = fits .waits;
     resends = small;
+    cancels = fits .cancels;
     tickets = fits .tickets;
     wait = fits .wait;
     ack = fits .ack;
+    cancel = fits .cancel;
+  }
+
+  pub cancels-fits : (cancels : ℕ) → cancels < 4294967296 → FitsClient (withCancels c cancels)
+  unfolding withCancels
+  cancels-fits cancels small = record {
+    activity = fits .activity;
+    number = fits .number;
+    call = fits .call;
+    outgoing = fits .outgoing;
+    incoming = fits .incoming;
+    waits = fits .waits;
+    resends = fits .resends;
+    cancels = small;
+    tickets = fits .tickets;
+    wait = fits .wait;
+    ack = fits .ack;
+    cancel = fits .cancel;
   }

@@ -22,31 +22,31 @@ use Rattle.reader.specs.Reading.{reading}
 use Rattle.grounds.specs.Entry.{lentGround}
 use Rattle.grounds.specs.Fragment.{isLast, bodyLength}
 use Rattle.grounds.specs.Fack.{acknowledgedBy}
-use Rattle.client_record.specs.declared.State.the-variants.{SendFrags, Dispatched, ReceiveFrags, Complete, Fault as FaultState}
+use Rattle.client_record.specs.declared.State.the-variants.{Dispatched, ReceiveFrags, Complete, Fault as FaultState}
 use Rattle.client_record.specs.declared.TimerKind.{TimerKind}
-use Rattle.client_record.specs.declared.TimerKind.the-variants.{Wait, Ack}
+use Rattle.client_record.specs.declared.TimerKind.the-variants.{Wait, Ack, Cancel}
 use Rattle.client_record.specs.declared.Client.{Client}
 use Rattle.client_record.specs.States.{isQueued}
-use Rattle.client_record.specs.Record.{withOutgoing, withWaits}
+use Rattle.client_record.specs.Record.{cancelArmed, withOutgoing, withWaits}
 use Rattle.client_table.specs.declared.Event.{Event}
-use Rattle.client_table.specs.declared.Event.the-variants.{Response, Fault, Reject, Working, Nocall, Fack, Foreign}
+use Rattle.client_table.specs.declared.Event.the-variants.{Response, Fault, Reject, Working, Nocall, Fack, CancelAck, Foreign}
 use Rattle.client_table.specs.Events.{eventOf, byEvent}
-use Rattle.client_table.specs.Local.{startGround, transmitGround, timerGround}
+use Rattle.client_table.specs.Local.{startGround, transmitGround, timerGround, cancelGround}
 use Rattle.client_table.specs.Arrival.{arrivalGround}
 use Rattle.client_steps.specs.declared.Plan.{Plan}
 use Rattle.client_steps.specs.Plan.{refused, accepted, failed}
-use Rattle.client_steps.specs.Rows.{nextNumber, started, startPlan, transmitted, transmitPlan, pinged, waitPlan, ackPlan, timerRow, timerPlan}
-use Rattle.client_arrivals.specs.Rows.{acknowledged, fackPlan, putRecord, putPlan, responsePlan, workingPlan, resent, nocallPlan}
+use Rattle.client_steps.specs.Rows.{oneMore, nextNumber, started, startPlan, transmitted, transmitPlan, pinged, waitPlan, ackPlan, cancelTimerPlan, timerRow, timerPlan, cancelled, cancelPlan}
+use Rattle.client_arrivals.specs.Rows.{acknowledged, fackPlan, putRecord, putPlan, responsePlan, workingPlan, resent, nocallPlan, cancelAckPlan}
 use Rattle.client_arrivals.specs.Table.{arrivalRow, arrivalPlan}
-use Rattle.client.specs.Machine.{outcomeOf, starting, sending, transmitting, timing, planOf, acted, arriving}
+use Rattle.client.specs.Machine.{outcomeOf, starting, sending, transmitting, timing, cancelling, planOf, acted, arriving}
 use Rattle.client.proofs.Judging.{CanArrive, response-can, arrival-passes}
 use Rattle.history.specs.World.{Side}
-use Rattle.history.specs.Events.{ClientEvent, Start, ClientTransmit, ClientArrive, ClientTimer}
+use Rattle.history.specs.Events.{ClientEvent, Start, ClientTransmit, ClientArrive, ClientTimer, ClientCancel}
 use Rattle.history.specs.Steps.{bytesLent, clientTurn}
 use Rattle.record_bytes.specs.Fits.{FitsCall}
 use Rattle.record_bytes.proofs.Keeping.{choice-by, choice-keeps, after-send-fits, after-ping-fits, acknowledged-fits, rewound-fits, started-fits, cleared-fits, stored-fits}
 use Rattle.client_bytes.specs.Fits.{FitsClient}
-use Rattle.host_history.proofs.ClientFields.{waiting-fits, ack-pending-fits, unarmed-fits, outgoing-fits, incoming-fits, waits-fits, resends-fits}
+use Rattle.host_history.proofs.ClientFields.{waiting-fits, sending-fits, ack-pending-fits, unarmed-fits, cancel-armed-fits, cancel-disarmed-fits, outgoing-fits, incoming-fits, waits-fits, resends-fits, cancels-fits}
 use Rattle.host_history.specs.Arguments.{ClientFits}
 
 -- The rows of start,
@@ -54,7 +54,7 @@ module _ (c : Client) (fits : FitsClient c) where
   number-fits : nextNumber (isQueued (c .state)) (c .number) < 4294967296
   unfolding nextNumber
   number-fits =
-      choice-keeps (λ (n : ℕ). n < 4294967296) (isQueued (c .state)) 0 ((c .number + 1) % 4294967296) (omega arith)
+      choice-keeps (λ (n : ℕ). n < 4294967296) (isQueued (c .state)) 0 (oneMore (c .number)) (omega arith)
       (omega arith)
 
   start-fits : (call : Call) (n : ℕ) → FitsCall call → n < 4294967296 → FitsClient (started c call n)
@@ -67,9 +67,11 @@ module _ (c : Client) (fits : FitsClient c) where
     incoming = cleared-fits;
     waits = omega arith;
     resends = omega arith;
+    cancels = omega arith;
     tickets = fits .tickets;
     wait = tt;
     ack = tt;
+    cancel = tt;
   }
 
   start-plan-fits : (g : Ground) (call : Call) (n : ℕ) → FitsCall call → n < 4294967296
@@ -109,14 +111,22 @@ module _ (c : Client) (fits : FitsClient c) where
       (λ (e : ltb (c .waits) retryLimit ≡ false). failed-fits (Cause 1))
 
   timer-row-fits : (kind : TimerKind) → FitsClient (timerRow kind c .client)
-  unfolding timerRow ackPlan accepted
+  unfolding timerRow ackPlan cancelTimerPlan accepted
   timer-row-fits Wait = wait-fits
   timer-row-fits Ack = unarmed-fits c fits Complete
+  timer-row-fits Cancel = failed-fits (Cause 3)
 
   timer-plan-fits : (g : Ground) (kind : TimerKind) → FitsClient (timerPlan g kind c .client)
   unfolding timerPlan refused
   timer-plan-fits (Refuse a) kind = fits
   timer-plan-fits Pass kind = timer-row-fits kind
+
+  -- local cancel,
+  cancel-plan-fits : (g : Ground) → FitsClient (cancelPlan g c .client)
+  unfolding cancelPlan refused accepted cancelled
+  cancel-plan-fits (Refuse a) = fits
+  cancel-plan-fits Pass =
+      cancels-fits (cancelArmed c) (cancel-armed-fits c fits) (oneMore (c .cancels)) (omega arith)
 
   -- and arriving PDUs: a response,
   put-record-fits : (all idempotent : Bool) → FitsClient (putRecord all idempotent c)
@@ -137,8 +147,7 @@ module _ (c : Client) (fits : FitsClient c) where
   unfolding resent
   resent-fits below =
       resends-fits _
-      (unarmed-fits _ (outgoing-fits c fits (rewound (c .outgoing)) (rewound-fits (c .outgoing) (fits .outgoing)))
-      SendFrags)
+      (sending-fits _ (outgoing-fits c fits (rewound (c .outgoing)) (rewound-fits (c .outgoing) (fits .outgoing))))
       (c .resends + 1) (omega (arith, ltb-true (c .resends) retryLimit below))
 
   nocall-fits : FitsClient (nocallPlan c .client)
@@ -150,7 +159,7 @@ module _ (c : Client) (fits : FitsClient c) where
   -- every one whose grounds passed,
   row-fits : (event : Event) (h : Header) (n status : ℕ) → CanArrive event c h n → n < 65536
       → FitsClient (arrivalRow event c h n status .client)
-  unfolding arrivalRow workingPlan fackPlan acknowledged accepted refused byEvent
+  unfolding arrivalRow workingPlan fackPlan acknowledged cancelAckPlan accepted refused byEvent
   row-fits Response h n status j short =
       response-fits (h .flags1) (h .serial) (h .fragment) n (response-can c h n j .number) short
   row-fits Fault h n status j short = failed-fits (FaultNotice status)
@@ -160,6 +169,7 @@ module _ (c : Client) (fits : FitsClient c) where
   row-fits Fack h n status j short =
       outgoing-fits c fits (acknowledgedTo (c .outgoing) (acknowledgedBy (h .fragment)))
       (acknowledged-fits (c .outgoing) (fits .outgoing) (acknowledgedBy (h .fragment)))
+  row-fits CancelAck h n status j short = cancel-disarmed-fits c fits
   row-fits Foreign h n status j short = fits
 
   -- and one that was refused.
@@ -182,7 +192,7 @@ module _ (c : Client) (fits : FitsClient c) where
 -- Every event of the client keeps the widths of its record.
 pub client-turn-fits : (side : Side Client) (e : ClientEvent) → FitsClient (side .machine) → ClientFits e
     → FitsClient (clientTurn side e .machine)
-unfolding starting transmitting timing sending outcomeOf
+unfolding starting transmitting timing cancelling sending outcomeOf
 client-turn-fits side (Start call n message) fits given =
     start-plan-fits (side .machine) fits (startGround (side .machine) n) call n (given .0) (given .1)
 client-turn-fits side (ClientTransmit message out) fits given =
@@ -191,3 +201,5 @@ client-turn-fits side (ClientArrive p lent out) fits given =
     arrive-fits (side .machine) fits (p .bytes) (bytesLent lent (side .slots)) out
 client-turn-fits side (ClientTimer kind ticket out) fits given =
     timer-plan-fits (side .machine) fits (timerGround (side .machine) kind ticket (length out)) kind
+client-turn-fits side (ClientCancel out) fits given =
+    cancel-plan-fits (side .machine) fits (cancelGround (side .machine) (length out))

@@ -1,4 +1,4 @@
--- What the header that is read of any bytes carries fits its widths.
+-- What the header that is read of any bytes carries fits its widths, and so does a cancel's number.
 use Prim.Native.Nat.{ℕ, _+_, _<_}
 use mathlib.Core.Bool.{Bool, true, false}
 use mathlib.Core.List.{List, _++_}
@@ -6,14 +6,17 @@ use mathlib.Core.Path.{_≡_, refl}
 use native.Mathlib.Omega.{arith}
 use lib.ListN.{length}
 use Rattle.words.specs.Number.{turned, part}
+use Rattle.words.specs.Sizes.{headerSize}
 use Rattle.answers.specs.declared.Ground.{Ground}
 use Rattle.answers.specs.declared.Ground.the-variants.{Pass, Refuse}
 use Rattle.pdu.specs.declared.Header.{Header}
-use Rattle.pdu.specs.Header.{uuidAt, headerOf, blank}
+use Rattle.bodies.specs.declared.CancelReading.{CancelReading}
+use Rattle.bodies.specs.Cancel.{cancelWhere, cancelReading}
+use Rattle.pdu.specs.Header.{uuidAt, headerOf, bodyOf, blank}
 use Rattle.reader.specs.Reading.{orderIs, groundBy, readBy, reading}
 use Rattle.record_bytes.specs.Fits.{Octets, Uuid}
-use Rattle.record_bytes.proofs.ByteLaws.{octets-turned, octets-joined, octets-part, number-below}
-use Rattle.record_bytes.proofs.Keeping.{blank-uuid}
+use Rattle.record_bytes.proofs.ByteLaws.{octets-turned, octets-joined, octets-drop, octets-part, number-below}
+use Rattle.record_bytes.proofs.Keeping.{choice-keeps, blank-uuid}
 
 -- What a header tells of its call fits a record.
 pub record FitsHeader (h : Header) : Type 0 where
@@ -76,3 +79,11 @@ unfolding reading
 reading-fits s octets =
     read-fits (groundBy s (orderIs 16 s) (orderIs 0 s)) (orderIs 16 s) (headerOf (orderIs 16 s) s)
     (header-fits s octets (orderIs 16 s))
+
+-- The number of a cancel, whether it is well formed or not.
+pub cancel-number-fits : (s : List ℕ) (little : Bool) → Octets s
+    → cancelReading little (bodyOf s) .number < 4294967296
+unfolding cancelReading cancelWhere bodyOf
+cancel-number-fits s little octets =
+    choice-keeps (λ (r : CancelReading). r .number < 4294967296) _ _ _
+    (number-below 4 little (bodyOf s) 4 (octets-drop headerSize s octets)) (omega arith)

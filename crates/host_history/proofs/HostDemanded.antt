@@ -12,22 +12,23 @@ use Rattle.client_bytes.specs.Layout.{stateOf, clientOf, clientIn}
 use Rattle.history.specs.World.{World}
 use Rattle.history.specs.Events.{Event}
 use Rattle.history.specs.Steps.{run}
-use Rattle.history.specs.Claim.{AtMostOnce, WholeMessages, WholeWhereRunning, RunsUndisturbed, RepliesToDispatches, replyHandedUp, OneReply, WholeReplies, hasReply, WholeWhereAnswered, OnlyGrows, timerIn, LateTimers, GoneTickets, ActsOnce, ArmedAfresh, Quiet, Numbered}
+use Rattle.history.specs.Claim.{AtMostOnce, WholeMessages, WholeWhereRunning, RunsUndisturbed, RepliesToDispatches, replyHandedUp, OneReply, WholeReplies, hasReply, WholeWhereAnswered, OnlyGrows, timerIn, LateTimers, GoneTickets, ActsOnce, ArmedAfresh, Quiet, StaysArmed, CancelsCounted, HeardAskedFor, HeardOnce, Hears, Numbered}
 use Rattle.host_history.specs.Hosts.{HostWorld, worldOf, HostCall, hostStep, hostRun}
 use Rattle.host_history.specs.Meaning.{meant, eventsOf, AllFit, FairHost, Keeps, FreshHost}
 use Rattle.host_history.specs.HostClaim.{HostClaim}
 use Rattle.host_history.specs.HandedUp.{clientParts}
 use Rattle.host_history.specs.HostReads.{HasReply, HostTimer, ArmedWith}
-use Rattle.host_history.specs.HostDemand.{DispatchedOnce, DispatchesWhole, Numbers, RepliesDispatched, OneReplyRead, CompletionsWhole, AnsweredWhole, ReplyGrows, TicketsGone, HostDemand}
+use Rattle.host_history.specs.HostDemand.{DispatchedOnce, DispatchesWhole, Numbers, RepliesDispatched, OneReplyRead, CompletionsWhole, AnsweredWhole, ReplyGrows, TicketsGone, CancelsAsked, CancelsOnce, HostDemand}
 use Rattle.host_history.proofs.SameRun.{same-run, keeps-run}
 use Rattle.host_history.proofs.FreshHosts.{fresh-keeps}
 use Rattle.host_history.proofs.HostTheorem.{host-theorem, at-host}
 use Rattle.host_history.proofs.Handing.{client-parts}
-use Rattle.host_history.proofs.BooksGiven.{starts-given, replies-given}
+use Rattle.host_history.proofs.BooksGiven.{starts-given, cancels-given, replies-given}
 use Rattle.host_history.proofs.BooksRead.{dispatches-read, completions-read}
 use Rattle.host_history.proofs.TimersRead.{named, armed-told, armed-read, late-nothing, strange-nothing, acts-read, quiet-read}
 use Rattle.host_history.proofs.WaitRead.{afresh-read}
 use Rattle.host_history.proofs.RunsRead.{running-read, running-alone}
+use Rattle.host_history.proofs.CancelsRead.{cancels-read, stays-read, counted-read, hears-read}
 
 -- The events of calls one behind the other, and the first of calls that fit.
 events-append : (before after : List HostCall) → eventsOf (before ++ after) ≡ eventsOf before ++ eventsOf after
@@ -139,7 +140,7 @@ numbers-read h known = record { starts = known .starts; dispatches = known .disp
 pub host-demanded : (h : HostWorld) → Keeps h → (calls : List HostCall) → AllFit calls → HostClaim h calls
     → HostDemand h calls
 unfolding AtMostOnce DispatchedOnce WholeMessages DispatchesWhole RepliesToDispatches RepliesDispatched
-    WholeReplies CompletionsWhole
+    WholeReplies CompletionsWhole HeardAskedFor CancelsAsked HeardOnce CancelsOnce
 host-demanded h keeps calls small holds =
     let now = hostRun h calls in
     let kept = holds .kept in
@@ -148,9 +149,11 @@ host-demanded h keeps calls small holds =
     record {
       once = at-host h calls holds AtMostOnce (claim .once);
       starts = starts-given now;
+      cancels = cancels-given now;
       replies = replies-given now;
       dispatches = dispatches-read now kept;
       completions = completions-read now kept;
+      told = cancels-read now kept;
       whole = whole;
       numbers = numbers-read now (at-host h calls holds Numbered (claim .numbered));
       running = running-read now kept (at-host h calls holds WholeWhereRunning (claim .running)) whole;
@@ -166,6 +169,11 @@ host-demanded h keeps calls small holds =
       acts = acts-read now kept (at-host h calls holds ActsOnce (claim .acts));
       afresh = afresh-read now kept (at-host h calls holds ArmedAfresh (claim .afresh));
       quiet = quiet-read now kept (at-host h calls holds Quiet (claim .quiet));
+      stays = stays-read now kept (at-host h calls holds StaysArmed (claim .stays));
+      counted = counted-read now kept (at-host h calls holds CancelsCounted (claim .counted));
+      asked = at-host h calls holds HeardAskedFor (claim .asked);
+      heard = at-host h calls holds HeardOnce (claim .heard);
+      hears = hears-read now kept (at-host h calls holds Hears (claim .hears));
     }
 
 -- so of every host that begins fresh, whose arguments are what C's types allow, and that keeps document 01's premises

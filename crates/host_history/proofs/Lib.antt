@@ -29,6 +29,8 @@ pub mod Notices
 pub mod BooksGiven
 pub mod BooksRead
 pub mod TimersRead
+pub mod Datagrams
 pub mod WaitRead
 pub mod RunsRead
+pub mod CancelsRead
 pub mod HostDemanded

@@ -1,5 +1,5 @@
 -- Which notices a side gives: the server alone tells "dispatch", by a request that has the number that its record then
--- has, and is in RUNNING then; the client alone tells "last", and has its reply then.
+-- has, and is in RUNNING then; it alone tells "cancel"; the client alone tells "last", and has its reply then.
 use Prim.Native.Nat.{ℕ}
 use mathlib.Core.Bool.{Bool, true, false}
 use mathlib.Core.Path.{_≡_, refl, sym, subst}
@@ -9,24 +9,24 @@ use Rattle.answers.specs.declared.Ground.{Ground}
 use Rattle.answers.specs.declared.Ground.the-variants.{Pass, Refuse}
 use Rattle.calls.specs.declared.Call.{Call}
 use Rattle.calls.specs.declared.Notice.{Notice}
-use Rattle.calls.specs.declared.Notice.the-variants.{Nothing as Untold, Last, Count, Fault as FaultNotice, Reject as RejectNotice, Cause, Dispatch}
+use Rattle.calls.specs.declared.Notice.the-variants.{Nothing as Untold, Last, Count, Fault as FaultNotice, Reject as RejectNotice, Cause, Dispatch, Cancel as CancelNotice}
 use Rattle.flags.specs.Flags.{idempotent, hasFlag}
 use Rattle.pdu.specs.declared.Header.{Header}
 use Rattle.record_bytes.proofs.Keeping.{choice-keeps}
 use Rattle.client_record.specs.declared.Client.{Client}
 use Rattle.client_record.specs.declared.State.{State as ClientState}
 use Rattle.client_record.specs.declared.TimerKind.{TimerKind}
-use Rattle.client_record.specs.declared.TimerKind.the-variants.{Wait, Ack}
+use Rattle.client_record.specs.declared.TimerKind.the-variants.{Wait, Ack, Cancel}
 use Rattle.client_record.specs.Record.{ackPending, unarmed as clientUnarmed, withIncoming as clientWithIncoming, withWaits}
 use Rattle.client_table.specs.declared.Event.{Event}
-use Rattle.client_table.specs.declared.Event.the-variants.{Response, Fault as FaultRow, Reject, Working as WorkingRow, Nocall as NocallRow, Fack, Foreign}
+use Rattle.client_table.specs.declared.Event.the-variants.{Response, Fault as FaultRow, Reject, Working as WorkingRow, Nocall as NocallRow, Fack, CancelAck, Foreign}
 use Rattle.client_table.specs.Events.{eventOf as clientEventOf}
 use Rattle.client_steps.specs.declared.Plan.{Plan as ClientPlan}
 use Rattle.client_steps.specs.Plan.{refused as clientRefused, accepted as clientAccepted, failed}
-use Rattle.client_steps.specs.Rows.{startPlan, transmitPlan as clientTransmitPlan, waitPlan, ackPlan as clientAckPlan, timerRow as clientTimerRow, timerPlan as clientTimerPlan}
-use Rattle.client_arrivals.specs.Rows.{putRecord as clientPutRecord, putNotice as clientPutNotice, putPlan as clientPutPlan, responsePlan, workingPlan as clientWorking, nocallPlan as clientNocall, fackPlan as clientFackPlan}
+use Rattle.client_steps.specs.Rows.{startPlan, transmitPlan as clientTransmitPlan, waitPlan, ackPlan as clientAckPlan, cancelTimerPlan, timerRow as clientTimerRow, timerPlan as clientTimerPlan, cancelPlan}
+use Rattle.client_arrivals.specs.Rows.{putRecord as clientPutRecord, putNotice as clientPutNotice, putPlan as clientPutPlan, responsePlan, workingPlan as clientWorking, nocallPlan as clientNocall, fackPlan as clientFackPlan, cancelAckPlan}
 use Rattle.client_arrivals.specs.Table.{arrivalRow as clientRow, arrivalPlan as clientArrivalPlan}
-use Rattle.client.specs.Machine.{outcomeOf as clientOutcome, starting, sending as clientSending, transmitting as clientTransmitting, timing as clientTiming, planOf as clientPlanOf, acted as clientActed, arriving as clientArriving}
+use Rattle.client.specs.Machine.{outcomeOf as clientOutcome, starting, sending as clientSending, transmitting as clientTransmitting, timing as clientTiming, cancelling, planOf as clientPlanOf, acted as clientActed, arriving as clientArriving}
 use Rattle.server_record.specs.declared.Reply.{Reply as HeldReply}
 use Rattle.server_record.specs.declared.Reply.the-variants.{Data, Fault as FaultReply}
 use Rattle.server_record.specs.declared.State.{State}
@@ -35,22 +35,22 @@ use Rattle.server_record.specs.declared.Server.{Server}
 use Rattle.server_record.specs.Record.{unarmed, withIncoming}
 use Rattle.server_record.specs.States.{isFresh}
 use Rattle.server_rows.specs.declared.Row.{Row}
-use Rattle.server_rows.specs.declared.Row.the-variants.{Old, Missing, Repeat, Begin, Put, Working, Nocall, Replay, Acknowledge, Finish}
+use Rattle.server_rows.specs.declared.Row.the-variants.{Old, Missing, Repeat, Begin, Put, Working, Nocall, Replay, Acknowledge, Finish, AcceptCancel, DeclineCancel}
 use Rattle.server_rows.specs.Events.{eventOf}
 use Rattle.server_rows.specs.Rows.{orderFor, rowFor}
 use Rattle.server_rows.proofs.TableLaws.{equal-told, put-told}
 use Rattle.server_steps.specs.declared.Plan.{Plan}
 use Rattle.server_steps.specs.Plan.{refused, accepted}
 use Rattle.server_steps.specs.Rows.{replyPlan, transmitPlan, faultPlan, replayHeld, replayPlan, resendHeld, resendRow, timerRow, timerPlan}
-use Rattle.server_arrivals.specs.Rows.{begun, putState, putNotice, putPlan, requestPlan, beginPlan, workingPlan, nocallPlan, fackPlan, ackPlan}
+use Rattle.server_arrivals.specs.Rows.{begun, putState, putNotice, putPlan, requestPlan, beginPlan, workingPlan, nocallPlan, fackPlan, ackPlan, declinePlan, heardPlan, acceptPlan}
 use Rattle.server_arrivals.specs.Table.{arrivalRow, arrivalPlan}
 use Rattle.server.specs.Machine.{outcomeOf, replying, sending, transmitting, timing, faulting, planOf, acted, arriving}
 use Rattle.history.specs.World.{Side, World}
-use Rattle.history.specs.Events.{ClientEvent, ServerEvent, Start, ClientTransmit, ClientArrive, ClientTimer, ServerArrive, ServerTransmit, ServerTimer, Reply, Fault}
+use Rattle.history.specs.Events.{ClientEvent, ServerEvent, Start, ClientTransmit, ClientArrive, ClientTimer, ClientCancel, ServerArrive, ServerTransmit, ServerTimer, Reply, Fault}
 use Rattle.history.specs.Steps.{clientTurn, serverTurn, subjectOf}
 use Rattle.history.specs.Claim.{runs, hasReply}
 
--- The client never tells "dispatch", and "last" only where it has its reply.
+-- The client never tells "dispatch" or "cancel", and "last" only where it has its reply.
 abbrev pub ClientTells : ClientState → Notice → Type 0
 ClientTells state Untold = Unit {0}
 ClientTells state Last = hasReply state ≡ true
@@ -59,6 +59,7 @@ ClientTells state (FaultNotice status) = Unit {0}
 ClientTells state (RejectNotice status) = Unit {0}
 ClientTells state (Cause cause) = Unit {0}
 ClientTells state Dispatch = ⊥
+ClientTells state CancelNotice = ⊥
 
 abbrev ClientPlanTells : ClientPlan → Type 0
 ClientPlanTells plan = ClientTells (plan .client .state) (plan .notice)
@@ -75,10 +76,16 @@ module _ (c : Client) where
   transmit-tells (Refuse a) = tt
 
   timer-tells : (g : Ground) (kind : TimerKind) → ClientPlanTells (clientTimerPlan g kind c)
-  unfolding clientTimerPlan clientTimerRow waitPlan clientAckPlan clientRefused clientAccepted failed
+  unfolding clientTimerPlan clientTimerRow waitPlan clientAckPlan cancelTimerPlan clientRefused clientAccepted failed
   timer-tells (Refuse a) kind = tt
   timer-tells Pass Wait = choice-keeps ClientPlanTells _ _ _ tt tt
   timer-tells Pass Ack = tt
+  timer-tells Pass Cancel = tt
+
+  cancel-tells : (g : Ground) → ClientPlanTells (cancelPlan g c)
+  unfolding cancelPlan clientRefused clientAccepted
+  cancel-tells Pass = tt
+  cancel-tells (Refuse a) = tt
 
   put-tells : (all idempotent : Bool) (count : ℕ)
       → ClientTells (clientPutRecord all idempotent c .state) (clientPutNotice all count)
@@ -89,13 +96,14 @@ module _ (c : Client) where
 
   row-tells : (event : Event) (h : Header) (n status : ℕ) → ClientPlanTells (clientRow event c h n status)
   unfolding clientRow responsePlan clientPutPlan clientWithIncoming withWaits clientWorking clientNocall clientFackPlan
-      clientRefused clientAccepted failed
+      cancelAckPlan clientRefused clientAccepted failed
   row-tells Response h n status = put-tells _ (c .call .idempotent) _
   row-tells FaultRow h n status = tt
   row-tells Reject h n status = tt
   row-tells WorkingRow h n status = tt
   row-tells NocallRow h n status = choice-keeps ClientPlanTells _ _ _ tt tt
   row-tells Fack h n status = tt
+  row-tells CancelAck h n status = tt
   row-tells Foreign h n status = tt
 
   arrival-tells : (g : Ground) (h : Header) (n status : ℕ) → ClientPlanTells (clientArrivalPlan g c h n status)
@@ -105,13 +113,15 @@ module _ (c : Client) where
 
 pub client-tells : (c : Side Client) (e : ClientEvent)
     → ClientTells (clientTurn c e .machine .state) (clientTurn c e .notice)
-unfolding starting clientTransmitting clientTiming clientArriving clientActed clientPlanOf clientSending clientOutcome
+unfolding starting clientTransmitting clientTiming cancelling clientArriving clientActed clientPlanOf clientSending
+    clientOutcome
 client-tells c (Start call n message) = start-tells (c .machine) _ call n
 client-tells c (ClientTransmit message out) = transmit-tells (c .machine) _
 client-tells c (ClientArrive p lent out) = arrival-tells (c .machine) _ _ _ _
 client-tells c (ClientTimer kind ticket out) = timer-tells (c .machine) _ kind
+client-tells c (ClientCancel out) = cancel-tells (c .machine) _
 
--- The server tells nothing or, with a record of that number and in RUNNING, "dispatch".
+-- The server tells nothing, "cancel" or, with a record of that number and in RUNNING, "dispatch".
 pub record Dispatches (asked kept : ℕ) (state : State) : Type 0 where
   pub number : kept ≡ asked
   pub running : runs state ≡ true
@@ -124,6 +134,7 @@ ServerTells asked kept state (FaultNotice status) = ⊥
 ServerTells asked kept state (RejectNotice status) = ⊥
 ServerTells asked kept state (Cause cause) = ⊥
 ServerTells asked kept state Dispatch = Dispatches asked kept state
+ServerTells asked kept state CancelNotice = Unit {0}
 
 abbrev PlanTells : ℕ → Plan → Type 0
 PlanTells asked plan = ServerTells asked (plan .server .number) (plan .server .state) (plan .notice)
@@ -170,7 +181,11 @@ module _ (asked : ℕ) (s : Server) where
   replay-tells (Held Data) = tt
   replay-tells (Held (FaultReply status)) = tt
 
-module _ (s : Server) (h : Header) (n : ℕ) where
+  accept-tells : (cancel : ℕ) → PlanTells asked (acceptPlan s cancel)
+  unfolding acceptPlan heardPlan accepted
+  accept-tells cancel = choice-keeps (PlanTells asked) _ _ _ tt tt
+
+module _ (s : Server) (h : Header) (n cancel : ℕ) where
   put-number : rowFor s h ≡ Put → s .number ≡ h .number
   unfolding rowFor orderFor
   put-number e =
@@ -184,9 +199,9 @@ module _ (s : Server) (h : Header) (n : ℕ) where
   state-told true kept same = record { number = same; running = refl }
   state-told false kept same = tt
 
-  by-row : (row : Row) → rowFor s h ≡ row → PlanTells (h .number) (arrivalRow row s h n)
+  by-row : (row : Row) → rowFor s h ≡ row → PlanTells (h .number) (arrivalRow row s h n cancel)
   unfolding arrivalRow beginPlan requestPlan putPlan withIncoming unarmed begun workingPlan nocallPlan
-      fackPlan ackPlan refused accepted
+      fackPlan ackPlan declinePlan refused accepted
   by-row Old e = tt
   by-row Missing e = tt
   by-row Repeat e = tt
@@ -197,8 +212,10 @@ module _ (s : Server) (h : Header) (n : ℕ) where
   by-row Replay e = replay-tells (h .number) s (s .state)
   by-row Acknowledge e = tt
   by-row Finish e = tt
+  by-row AcceptCancel e = accept-tells (h .number) s cancel
+  by-row DeclineCancel e = tt
 
-  arrives-tells : (g : Ground) → PlanTells (h .number) (arrivalPlan g s h n)
+  arrives-tells : (g : Ground) → PlanTells (h .number) (arrivalPlan g s h n cancel)
   unfolding arrivalPlan refused
   arrives-tells (Refuse a) = tt
   arrives-tells Pass = by-row (rowFor s h) refl
@@ -207,7 +224,7 @@ pub server-tells : (w : World) (e : ServerEvent) (a : Answer)
     → ServerTells (subjectOf w e a .number) (serverTurn (w .server) e .machine .number)
     (serverTurn (w .server) e .machine .state) (serverTurn (w .server) e .notice)
 unfolding replying transmitting timing faulting arriving acted planOf sending outcomeOf
-server-tells w (ServerArrive p lent out) a = arrives-tells (w .server .machine) _ _ _
+server-tells w (ServerArrive p lent out) a = arrives-tells (w .server .machine) _ _ _ _
 server-tells w (ServerTransmit message out) a = sends-tells _ (w .server .machine) _
 server-tells w (ServerTimer ticket out) a = resends-tells _ (w .server .machine) _ (w .server .machine .state) refl
 server-tells w (Reply n message) a = reply-tells _ (w .server .machine) _ n

@@ -10,11 +10,11 @@ use Rattle.answers.specs.declared.Answer.the-variants.{Done}
 use Rattle.calls.specs.declared.Call.{Call}
 use Rattle.calls.specs.Events.{Step}
 use Rattle.record_bytes.proofs.Keeping.{choice-keeps}
-use Rattle.client_record.specs.declared.TimerKind.the-variants.{Wait, Ack}
+use Rattle.client_record.specs.declared.TimerKind.the-variants.{Wait, Ack, Cancel}
 use Rattle.client_record.specs.Rules.{sound as clientSound}
 use Rattle.client.specs.declared.Outcome.{Outcome as ClientOutcome}
-use Rattle.client.specs.Machine.{starting, transmitting as clientTransmitting, timing as clientTiming, arriving as clientArriving}
-use Rattle.client.proofs.Refusals.{StepUntouched as ClientUntouched, start-refused, transmit-refused as client-transmit-refused, timer-refused as client-timer-refused, arrive-refused as client-arrive-refused}
+use Rattle.client.specs.Machine.{starting, transmitting as clientTransmitting, timing as clientTiming, cancelling, arriving as clientArriving}
+use Rattle.client.proofs.Refusals.{StepUntouched as ClientUntouched, start-refused, transmit-refused as client-transmit-refused, timer-refused as client-timer-refused, cancel-refused, arrive-refused as client-arrive-refused}
 use Rattle.client_bytes.specs.Layout.{clientIn, clientBytes}
 use Rattle.server_record.specs.Rules.{sound as serverSound}
 use Rattle.server.specs.declared.Outcome.{Outcome as ServerOutcome}
@@ -24,9 +24,9 @@ use Rattle.server_bytes.specs.Layout.{serverIn, serverBytes}
 use Rattle.history.specs.World.{Side}
 use Rattle.history.specs.Steps.{bytesLent}
 use Rattle.morphelai.specs.Export.{Export, sized, refusing, otherKind}
-use Rattle.morphelai.specs.ClientDoor.{clientResult, clientKept, clientGiven, clientStepped, clientArrived, clientStart, startSized, callOf, clientTransmit, clientArrive, clientTiming as timedClient, clientTimer}
+use Rattle.morphelai.specs.ClientDoor.{clientResult, clientKept, clientGiven, clientStepped, clientArrived, clientStart, startSized, callOf, clientTransmit, clientArrive, clientTiming as timedClient, clientTimer, clientCancel}
 use Rattle.morphelai.specs.ServerDoor.{serverResult, serverKept, serverGiven, serverStepped, serverArrived, serverArrive, serverTransmit, serverTiming as timedServer, serverTimer, serverReply, serverFault}
-use Rattle.host_history.specs.Hosts.{HostWorld, ClientCall, ServerCall, HostCall, ClientStart, ClientTransmit, ClientArrive, ClientTimer, ServerArrive, ServerTransmit, ServerTimer, ServerReply, ServerFault, ToClient, ToServer, clientExport, serverExport, exported}
+use Rattle.host_history.specs.Hosts.{HostWorld, ClientCall, ServerCall, HostCall, ClientStart, ClientTransmit, ClientArrive, ClientTimer, ClientCancel, ServerArrive, ServerTransmit, ServerTimer, ServerReply, ServerFault, ToClient, ToServer, clientExport, serverExport, exported}
 use Rattle.host_history.specs.Refusal.{Undone, Refused, clientLends, serverLends, clientBuffer, serverBuffer, recordLent, slotsLent, bufferLent}
 use Rattle.host_history.proofs.Leaving.{refusing-refused, kind-refused, given-refused}
 
@@ -83,12 +83,15 @@ module _ (bytes : List ℕ) where
       (choice-keeps (Leaves bytes [] out) (eqb kind 2) _ _
       (client-step-leaves out (clientTiming (clientIn bytes) Ack ticket out)
       (client-timer-refused (clientIn bytes) Ack ticket out))
+      (choice-keeps (Leaves bytes [] out) (eqb kind 4) _ _
+      (client-step-leaves out (clientTiming (clientIn bytes) Cancel ticket out)
+      (client-timer-refused (clientIn bytes) Cancel ticket out))
       (λ (undone : Undone (otherKind (clientSound (clientIn bytes)) bytes [] out)).
-      kind-refused bytes [] out (clientSound (clientIn bytes))))
+      kind-refused bytes [] out (clientSound (clientIn bytes)))))
 
 client-leaves : (c : Side (List ℕ)) (call : ClientCall)
     → Leaves (c .machine) (clientLends c call) (clientBuffer call) (clientExport c call)
-unfolding clientStart clientTransmit clientArrive clientTimer
+unfolding clientStart clientTransmit clientArrive clientTimer clientCancel
 client-leaves c (ClientStart idempotent object interface version operation n message) =
     or-refuses (c .machine) [] [] (startSized (c .machine) idempotent object interface) _
     (client-start-leaves (c .machine) (callOf (eqb idempotent 1) object interface version operation) n)
@@ -101,6 +104,10 @@ client-leaves c (ClientArrive p lent out) =
     (client-arrive-leaves (c .machine) (p .bytes) (bytesLent lent (c .slots)) out)
 client-leaves c (ClientTimer kind ticket out) =
     or-refuses (c .machine) [] out (sized (c .machine)) _ (client-timer-leaves (c .machine) kind ticket out)
+client-leaves c (ClientCancel out) =
+    or-refuses (c .machine) [] out (sized (c .machine)) _
+    (client-step-leaves (c .machine) out (cancelling (clientIn (c .machine)) out)
+    (cancel-refused (clientIn (c .machine)) out))
 
 -- The server's.
 module _ (bytes : List ℕ) where

@@ -5,7 +5,7 @@ use Rattle.client_record.specs.declared.Client.{Client}
 use Rattle.server_record.specs.declared.Server.{Server}
 use Rattle.history.specs.World.{World}
 use Rattle.history.specs.Events.{Event, OfClient, OfServer}
-use Rattle.history.specs.Steps.{Turn, clientTurn, serverTurn, clientWorld, serverWorld, happens, answerTo, noticeOf, leftIn, step, run}
+use Rattle.history.specs.Steps.{lastStart, Turn, clientTurn, serverTurn, clientWorld, serverWorld, happens, answerTo, noticeOf, leftIn, step, run}
 use Rattle.history.proofs.Histories.{run-append}
 use Rattle.host_history.specs.Hosts.{HostWorld, worldOf, ClientCall, ServerCall, HostCall, ToClient, ToServer, clientExport, serverExport, exported, afterClient, afterServer, hostStep, hostRun}
 use Rattle.host_history.specs.Meaning.{meantToClient, meantToServer, meant, eventsOf, HostFits, AllFit, Keeps, Tells}
@@ -33,7 +33,9 @@ module _ (h : HostWorld) (keeps : Keeps h) (call : ClientCall) where
       record {
         world =
             ap (afterClient (worldOf h) call) (f .shows .same)
-            ∙ ap (clientWorld (worldOf h) turn) (f .starts (h .books .starts) turn);
+            ∙ (λ i.
+            clientWorld (worldOf h) turn (f .starts (h .books .starts) turn i)
+            (f .cancels (h .books .cancels) turn (lastStart (h .books .starts)) i));
         kept = record { client = f .shows .canonical; server = keeps .server };
         tells =
             record {

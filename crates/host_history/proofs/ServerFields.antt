@@ -11,7 +11,7 @@ use Rattle.server_record.specs.declared.Reply.{Reply}
 use Rattle.server_record.specs.declared.State.{State}
 use Rattle.server_record.specs.declared.State.the-variants.{Held}
 use Rattle.server_record.specs.declared.Server.{Server}
-use Rattle.server_record.specs.Record.{fresh, timed, holding, unarmed, withOutgoing, withResends, withIncoming}
+use Rattle.server_record.specs.Record.{fresh, timed, holding, unarmed, withOutgoing, withResends, withSeen, withIncoming}
 use Rattle.record_bytes.specs.Fits.{Uuid, FitsOutgoing, FitsIncoming, FitsTimer}
 use Rattle.record_bytes.proofs.Keeping.{no-message-fits, cleared-fits, next-ticket-fits, armed-fits, blank-call-fits}
 use Rattle.server_bytes.specs.Fits.{FitsReply, FitsState, FitsServer}
@@ -28,6 +28,7 @@ fresh-server-fits activity boot tickets uuid started small = record {
   outgoing = no-message-fits;
   incoming = cleared-fits;
   resends = omega arith;
+  seen = omega arith;
   tickets = small;
   resend = tt;
   state = tt;
@@ -45,6 +46,7 @@ module _ (s : Server) (fits : FitsServer s) where
     outgoing = fits .outgoing;
     incoming = fits .incoming;
     resends = fits .resends;
+    seen = fits .seen;
     tickets = small;
     resend = armed;
     state = known;
@@ -71,6 +73,7 @@ module _ (s : Server) (fits : FitsServer s) where
     outgoing = small;
     incoming = fits .incoming;
     resends = fits .resends;
+    seen = fits .seen;
     tickets = fits .tickets;
     resend = fits .resend;
     state = fits .state;
@@ -87,12 +90,13 @@ module _ (s : Server) (fits : FitsServer s) where
     outgoing = fits .outgoing;
     incoming = small;
     resends = fits .resends;
+    seen = fits .seen;
     tickets = fits .tickets;
     resend = fits .resend;
     state = fits .state;
   }
 
-  -- and the count.
+  -- the count,
   pub resends-fits : (resends : ℕ) → resends < 256 → FitsServer (withResends s resends)
   unfolding withResends
   resends-fits resends small = record {
@@ -103,6 +107,24 @@ module _ (s : Server) (fits : FitsServer s) where
     outgoing = fits .outgoing;
     incoming = fits .incoming;
     resends = small;
+    seen = fits .seen;
+    tickets = fits .tickets;
+    resend = fits .resend;
+    state = fits .state;
+  }
+
+  -- and the cancel number last seen.
+  pub seen-fits : (seen : ℕ) → seen < 4294967296 → FitsServer (withSeen s seen)
+  unfolding withSeen
+  seen-fits seen small = record {
+    activity = fits .activity;
+    boot = fits .boot;
+    number = fits .number;
+    call = fits .call;
+    outgoing = fits .outgoing;
+    incoming = fits .incoming;
+    resends = fits .resends;
+    seen = small;
     tickets = fits .tickets;
     resend = fits .resend;
     state = fits .state;

@@ -10,6 +10,7 @@ use borrow.Author.Tests.{ltb-true}
 use Rattle.words.specs.Sizes.{lastNumber, retryLimit}
 use Rattle.answers.specs.declared.Ground.{Ground}
 use Rattle.answers.specs.declared.Ground.the-variants.{Pass, Refuse}
+use Rattle.bodies.specs.Cancel.{cancelReading}
 use Rattle.incoming.specs.Slots.{complete, stored}
 use Rattle.outgoing.specs.Sending.{afterSend, acknowledgedTo, rewound, replied, sendsLast}
 use Rattle.pdu.specs.declared.Header.{Header}
@@ -27,14 +28,14 @@ use Rattle.server_record.specs.declared.Server.{Server}
 use Rattle.server_record.specs.Arming.{runsAgain}
 use Rattle.server_record.specs.Record.{withOutgoing, withResends}
 use Rattle.server_rows.specs.declared.Row.{Row}
-use Rattle.server_rows.specs.declared.Row.the-variants.{Old, Missing, Repeat, Begin, Put, Working, Nocall, Replay, Acknowledge, Finish}
+use Rattle.server_rows.specs.declared.Row.the-variants.{Old, Missing, Repeat, Begin, Put, Working, Nocall, Replay, Acknowledge, Finish, AcceptCancel, DeclineCancel}
 use Rattle.server_rows.specs.Rows.{rowFor}
 use Rattle.server_table.specs.Arrival.{arrivalGround}
 use Rattle.server_table.specs.Local.{transmitGround, timerGround, replyGround, faultGround}
 use Rattle.server_steps.specs.declared.Plan.{Plan}
 use Rattle.server_steps.specs.Plan.{refused, accepted}
 use Rattle.server_steps.specs.Rows.{answered, replyPlan, settled, transmitted, transmitPlan, faultPlan, rewinding, replayHeld, replayPlan, resendHeld, resendRow, timerRow, timerPlan}
-use Rattle.server_arrivals.specs.Rows.{callOf, begun, putState, putPlan, requestPlan, beginPlan, workingPlan, nocallPlan, fackPlan, ackPlan}
+use Rattle.server_arrivals.specs.Rows.{callOf, begun, putState, putPlan, requestPlan, beginPlan, workingPlan, nocallPlan, fackPlan, ackPlan, declinePlan, heardPlan, acceptPlan}
 use Rattle.server_arrivals.specs.Table.{arrivalRow, arrivalPlan}
 use Rattle.server.specs.Machine.{outcomeOf, replying, sending, transmitting, timing, faulting, planOf, acted, arriving}
 use Rattle.server.proofs.Judging.{CanArrive, begin-fits, put-fits, arrival-passes}
@@ -45,8 +46,8 @@ use Rattle.record_bytes.specs.Fits.{Octets}
 use Rattle.record_bytes.proofs.Keeping.{choice-by, choice-keeps, after-send-fits, acknowledged-fits, rewound-fits, replied-fits, no-message-fits, cleared-fits, stored-fits}
 use Rattle.server_bytes.specs.Fits.{FitsReply, FitsState, FitsServer}
 use Rattle.host_history.specs.Arguments.{ServerFits}
-use Rattle.host_history.proofs.Headers.{FitsHeader, reading-fits}
-use Rattle.host_history.proofs.ServerFields.{holding-fits, unarmed-fits, outgoing-fits, incoming-fits, resends-fits}
+use Rattle.host_history.proofs.Headers.{FitsHeader, reading-fits, cancel-number-fits}
+use Rattle.host_history.proofs.ServerFields.{holding-fits, unarmed-fits, outgoing-fits, incoming-fits, resends-fits, seen-fits}
 
 -- The rows of reply,
 module _ (s : Server) (fits : FitsServer s) where
@@ -163,15 +164,24 @@ module _ (s : Server) (fits : FitsServer s) where
     outgoing = no-message-fits;
     incoming = cleared-fits;
     resends = omega arith;
+    seen = omega arith;
     tickets = fits .tickets;
     resend = tt;
     state = tt;
   }
 
+  -- a cancel that is heard or not,
+  accept-fits : (cancel : ℕ) → cancel < 4294967296 → FitsServer (acceptPlan s cancel .server)
+  unfolding acceptPlan heardPlan accepted
+  accept-fits cancel small =
+      choice-keeps (λ (plan : Plan). FitsServer (plan .server)) (ltb (s .seen) cancel) _ _
+      (seen-fits s fits cancel small) fits
+
 -- every one whose grounds passed,
-module _ (s : Server) (fits : FitsServer s) (h : Header) (carried : FitsHeader h) (n : ℕ) (short : n < 65536) where
-  by-row : (row : Row) → rowFor s h ≡ row → CanArrive s h → FitsServer (arrivalRow row s h n .server)
-  unfolding arrivalRow beginPlan workingPlan nocallPlan fackPlan ackPlan accepted refused
+module _ (s : Server) (fits : FitsServer s) (h : Header) (carried : FitsHeader h) (n : ℕ) (short : n < 65536)
+    (cancel : ℕ) (small : cancel < 4294967296) where
+  by-row : (row : Row) → rowFor s h ≡ row → CanArrive s h → FitsServer (arrivalRow row s h n cancel .server)
+  unfolding arrivalRow beginPlan workingPlan nocallPlan fackPlan ackPlan declinePlan accepted refused
   by-row Old e j = fits
   by-row Missing e j = fits
   by-row Repeat e j = fits
@@ -186,9 +196,11 @@ module _ (s : Server) (fits : FitsServer s) (h : Header) (carried : FitsHeader h
       outgoing-fits s fits (acknowledgedTo (s .outgoing) (acknowledgedBy (h .fragment)))
       (acknowledged-fits (s .outgoing) (fits .outgoing) (acknowledgedBy (h .fragment)))
   by-row Finish e j = unarmed-fits s fits (IdleState Spent) tt
+  by-row AcceptCancel e j = accept-fits s fits cancel small
+  by-row DeclineCancel e j = fits
 
   -- and one that was refused.
-  arrival-plan-fits : (g : Ground) → (g ≡ Pass → CanArrive s h) → FitsServer (arrivalPlan g s h n .server)
+  arrival-plan-fits : (g : Ground) → (g ≡ Pass → CanArrive s h) → FitsServer (arrivalPlan g s h n cancel .server)
   unfolding arrivalPlan refused
   arrival-plan-fits (Refuse a) j = fits
   arrival-plan-fits Pass j = by-row (rowFor s h) refl (j refl)
@@ -198,7 +210,8 @@ arrive-fits : (s : Server) → FitsServer s → (datagram slots out : List ℕ) 
 unfolding arriving acted sending outcomeOf planOf
 arrive-fits s fits datagram slots out octets =
     arrival-plan-fits s fits (reading datagram .header) (reading-fits datagram octets) (bodyLength (bodyOf datagram))
-    (omega arith)
+    (omega arith) (cancelReading (reading datagram .little) (bodyOf datagram) .number)
+    (cancel-number-fits datagram (reading datagram .little) octets)
     (arrivalGround s (lentGround (length slots) (length out)) (reading datagram) (bodyOf datagram))
     (λ (pass : arrivalGround s (lentGround (length slots) (length out)) (reading datagram) (bodyOf datagram) ≡ Pass).
     arrival-passes s (lentGround (length slots) (length out)) (reading datagram) (bodyOf datagram) pass .1)

@@ -18,7 +18,7 @@ use Rattle.record_bytes.proofs.Reading.{mark-zero, armed-again}
 use Rattle.record_bytes.proofs.FieldsAgain.{known}
 use Rattle.client_record.specs.declared.State.{State as ClientState}
 use Rattle.client_record.specs.declared.State.the-variants.{Queued, SendFrags, Dispatched, ReceiveFrags, AckPending, Complete, Fault}
-use Rattle.client_record.specs.declared.TimerKind.the-variants.{Wait, Ack}
+use Rattle.client_record.specs.declared.TimerKind.the-variants.{Wait, Ack, Cancel}
 use Rattle.client_bytes.specs.Layout.{stateOf as clientState, readable as clientReadable, clientOf, clientIn}
 use Rattle.client_bytes.specs.Canonical.{Canonical as ClientCanonical}
 use Rattle.server_record.specs.declared.State.{State as ServerState}
@@ -26,13 +26,13 @@ use Rattle.server_bytes.specs.Layout.{stateOf as serverState, readable as serve
 use Rattle.server_bytes.specs.Canonical.{Canonical as ServerCanonical}
 use Rattle.history.specs.World.{World}
 use Rattle.history.specs.Steps.{answerTo, step, run}
-use Rattle.history.specs.Claim.{TimerOf, OnClient, OnServer, timerIn, timerEvent, LateTimers, ActsOnce, namesWait, namesAck, namesResend, Quiet}
+use Rattle.history.specs.Claim.{TimerOf, OnClient, OnServer, timerIn, timerEvent, LateTimers, ActsOnce, namesWait, namesAck, namesCancel, namesResend, Quiet}
 use Rattle.host_history.specs.Results.{answerIn}
 use Rattle.host_history.specs.Hosts.{HostWorld, worldOf, HostCall, ClientTimer, ServerTimer, ToClient, ToServer, exported, hostStep}
 use Rattle.host_history.specs.Meaning.{meant, HostFits, Keeps, TellsOf, Tells}
 use Rattle.host_history.specs.Refusal.{Undone}
-use Rattle.host_history.specs.HostReads.{stateByte, NamesWait, NamesAck, NamesResend, HostTimer, WaitTimer, AckTimer, ResendTimer, markByte, ticketBytes, ArmedWith, timerCall}
-use Rattle.host_history.specs.HostDemand.{DoesNothing, LateDoesNothing, StrangeDoesNothing, TicketsActOnce, QuietBytes}
+use Rattle.host_history.specs.HostReads.{stateByte, NamesWait, NamesAck, NamesCancel, NamesResend, HostTimer, WaitTimer, AckTimer, CancelTimer, ResendTimer, markByte, ticketBytes, ArmedWith, timerCall}
+use Rattle.host_history.specs.HostDemand.{DoesNothing, LateDoesNothing, StrangeDoesNothing, TicketsActOnce, NothingArmed, QuietBytes}
 use Rattle.host_history.proofs.Refusals.{refused-leaves}
 use Rattle.host_history.proofs.Unchanged.{refused-same}
 use Rattle.host_history.proofs.SameRun.{same-step, told}
@@ -53,6 +53,7 @@ armed-back mark bytes ticket e = by-mark (eqb mark 1) refl e
 abbrev pub named : HostTimer → TimerOf
 named WaitTimer = OnClient Wait
 named AckTimer = OnClient Ack
+named CancelTimer = OnClient Cancel
 named ResendTimer = OnServer
 
 pub armed-told : (h : HostWorld) (timer : HostTimer) (ticket : ℕ) → ArmedWith h timer ticket
@@ -60,6 +61,7 @@ pub armed-told : (h : HostWorld) (timer : HostTimer) (ticket : ℕ) → ArmedWit
 unfolding timerIn clientIn clientOf serverIn serverOf fieldsIn markByte ticketBytes
 armed-told h WaitTimer ticket a = armed-there _ _ ticket (a .mark) (a .same)
 armed-told h AckTimer ticket a = armed-there _ _ ticket (a .mark) (a .same)
+armed-told h CancelTimer ticket a = armed-there _ _ ticket (a .mark) (a .same)
 armed-told h ResendTimer ticket a = armed-there _ _ ticket (a .mark) (a .same)
 
 pub armed-read : (h : HostWorld) (timer : HostTimer) (ticket : ℕ) → timerIn (worldOf h) (named timer) ≡ Armed ticket
@@ -67,6 +69,7 @@ pub armed-read : (h : HostWorld) (timer : HostTimer) (ticket : ℕ) → timerIn 
 unfolding timerIn clientIn clientOf serverIn serverOf fieldsIn markByte ticketBytes
 armed-read h WaitTimer ticket e = let a = armed-back _ _ ticket e in record { mark = a .0; same = a .1 }
 armed-read h AckTimer ticket e = let a = armed-back _ _ ticket e in record { mark = a .0; same = a .1 }
+armed-read h CancelTimer ticket e = let a = armed-back _ _ ticket e in record { mark = a .0; same = a .1 }
 armed-read h ResendTimer ticket e = let a = armed-back _ _ ticket e in record { mark = a .0; same = a .1 }
 
 -- The call of a timer is its event.
@@ -75,6 +78,7 @@ timer-meant : (timer : HostTimer) (ticket : ℕ) (out : List ℕ)
 unfolding meant timerCall timerEvent choose
 timer-meant WaitTimer ticket out = refl
 timer-meant AckTimer ticket out = refl
+timer-meant CancelTimer ticket out = refl
 timer-meant ResendTimer ticket out = refl
 
 -- A call that is not answered 0 does nothing.
@@ -119,9 +123,11 @@ module _ (h : HostWorld) (keeps : Keeps h) where
   unfolding meant
   strange-nothing = record {
     client =
-        λ kind ticket out small not-1 not-2.
+        λ kind ticket out small not-1 not-2 not-4.
         no-event (ToClient (ClientTimer kind ticket out)) small
-        (choose-false (eqb kind 1) _ _ (ne-eqb kind 1 not-1) ∙ choose-false (eqb kind 2) _ _ (ne-eqb kind 2 not-2));
+        (choose-false (eqb kind 1) _ _ (ne-eqb kind 1 not-1)
+        ∙ choose-false (eqb kind 2) _ _ (ne-eqb kind 2 not-2)
+        ∙ choose-false (eqb kind 4) _ _ (ne-eqb kind 4 not-4));
     server =
         λ kind ticket out small not-3.
         no-event (ToServer (ServerTimer kind ticket out)) small
@@ -173,6 +179,19 @@ module _ (n : ℕ) where
       (λ k. choice-by Unacked (eqb n 4) AckPending _ (λ four. absurd (other (eqb-true n 4 four)))
       (λ l. choice-by Unacked (eqb n 5) Complete Fault (λ m. refl) (λ m. refl))))))
 
+  abbrev Uncancelled : ClientState → Type 0
+  Uncancelled s = namesCancel s ≡ false
+
+  cancel-unnamed : (NamesCancel n → ⊥) → namesCancel (clientState n) ≡ false
+  unfolding clientState
+  cancel-unnamed other =
+      choice-by Uncancelled (eqb n 0) Queued _ (λ e. refl)
+      (λ e. choice-by Uncancelled (eqb n 1) SendFrags _ (λ one. absurd (other (inl (eqb-true n 1 one))))
+      (λ f. choice-by Uncancelled (eqb n 2) Dispatched _ (λ two. absurd (other (inr (inl (eqb-true n 2 two)))))
+      (λ g. choice-by Uncancelled (eqb n 3) ReceiveFrags _ (λ three. absurd (other (inr (inr (eqb-true n 3 three)))))
+      (λ k. choice-by Uncancelled (eqb n 4) AckPending _ (λ l. refl)
+      (λ l. choice-by Uncancelled (eqb n 5) Complete Fault (λ m. refl) (λ m. refl))))))
+
   abbrev Unresent : ServerState → Type 0
   Unresent s = namesResend s ≡ false
 
@@ -194,6 +213,11 @@ module _ (n : ℕ) where
 
   finished-acks : 5 ≤ n → NamesAck n → ⊥
   finished-acks late four = omega (arith, late, four)
+
+  finished-cancels : 5 ≤ n → NamesCancel n → ⊥
+  finished-cancels late (inl one) = omega (arith, late, one)
+  finished-cancels late (inr (inl two)) = omega (arith, late, two)
+  finished-cancels late (inr (inr three)) = omega (arith, late, three)
 
   idle-resends : n ≤ 2 → NamesResend n → ⊥
   idle-resends low (inl six) = omega (arith, low, six)
@@ -225,26 +249,38 @@ module _ (h : HostWorld) (keeps : Keeps h) (quiet : Quiet (worldOf h)) where
   unfolding markByte clientIn clientOf fieldsIn
   ack-quiet other = mark-off _ _ (known (h .client .machine) client-known .second) (quiet .ack (ack-unnamed _ other))
 
+  cancel-quiet : (NamesCancel (stateByte (h .client)) → ⊥) → markByte h CancelTimer ≡ 0
+  unfolding markByte clientIn clientOf fieldsIn
+  cancel-quiet other =
+      mark-off _ _ (known (h .client .machine) client-known .third) (quiet .cancel (cancel-unnamed _ other))
+
   resend-quiet : (NamesResend (stateByte (h .server)) → ⊥) → markByte h ResendTimer ≡ 0
   unfolding markByte serverIn serverOf fieldsIn
   resend-quiet other =
       mark-off _ _ (known (h .server .machine) server-known .first) (quiet .resend (resend-unnamed _ _ other))
 
-  finished-quiet : 5 ≤ stateByte (h .client) → (markByte h WaitTimer ≡ 0) × (markByte h AckTimer ≡ 0)
-  finished-quiet late = (wait-quiet (finished-waits _ late), ack-quiet (finished-acks _ late))
+  finished-quiet : 5 ≤ stateByte (h .client) → NothingArmed h
+  finished-quiet late = (
+    wait-quiet (finished-waits _ late),
+    ack-quiet (finished-acks _ late),
+    cancel-quiet (finished-cancels _ late),
+  )
 
-  no-second : getD (h .server .machine) 65 0 ≡ 0
+  no-others : (getD (h .server .machine) 65 0 ≡ 0) × (getD (h .server .machine) 66 0 ≡ 0)
   unfolding serverReadable
-  no-second =
-      eqb-true _ _
-      (both-true _ _ (both-true _ _ (both-true _ _ (both-true _ _ (keeps .server .readable) .1) .0) .1) .0)
+  no-others =
+      let own = both-true _ _ (both-true _ _ (keeps .server .readable) .1) .0 in
+      let marks = both-true _ _ (both-true _ _ (both-true _ _ own .1) .0) in
+      (eqb-true _ _ (marks .0), eqb-true _ _ (marks .1))
 
   pub quiet-read : QuietBytes h
   quiet-read = record {
     wait = wait-quiet;
     ack = ack-quiet;
+    cancel = cancel-quiet;
     resend = resend-quiet;
-    second = no-second;
+    second = no-others .0;
+    third = no-others .1;
     complete = λ five. finished-quiet (omega (arith, five));
     fault = λ six. finished-quiet (omega (arith, six));
     idle = λ low. resend-quiet (idle-resends _ low);

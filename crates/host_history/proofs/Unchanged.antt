@@ -7,11 +7,11 @@ use Rattle.answers.specs.declared.Answer.{Answer}
 use Rattle.answers.specs.declared.Answer.the-variants.{Done}
 use Rattle.client_record.specs.declared.Client.{Client}
 use Rattle.server_record.specs.declared.Server.{Server}
-use Rattle.history.specs.World.{Started, Side, Books, World}
-use Rattle.history.specs.Steps.{isDone, sentAfter, lastStart, dispatchesAfter, completionsAfter, Turn, completionEntry, dispatchEntry}
+use Rattle.history.specs.World.{Started, Cancelled, Side, Books, World}
+use Rattle.history.specs.Steps.{isDone, sentAfter, lastStart, dispatchesAfter, completionsAfter, heardAfter, Turn, completionEntry, dispatchEntry, heardEntry}
 use Rattle.history.proofs.Refused.{same-own}
 use Rattle.morphelai.specs.Export.{Export}
-use Rattle.host_history.specs.Hosts.{HostWorld, worldOf, ClientCall, ServerCall, HostCall, ClientStart, ClientTransmit, ClientArrive, ClientTimer, ServerArrive, ServerTransmit, ServerTimer, ServerReply, ServerFault, ToClient, ToServer, clientExport, serverExport, exported, clientSlots, serverSlots, clientSeen, serverSeen, startsSeen, repliesSeen, subjectSeen, hostStep}
+use Rattle.host_history.specs.Hosts.{HostWorld, worldOf, ClientCall, ServerCall, HostCall, ClientStart, ClientTransmit, ClientArrive, ClientTimer, ClientCancel, ServerArrive, ServerTransmit, ServerTimer, ServerReply, ServerFault, ToClient, ToServer, clientExport, serverExport, exported, clientSlots, serverSlots, clientSeen, serverSeen, startsSeen, cancelsSeen, repliesSeen, subjectSeen, hostStep}
 use Rattle.host_history.specs.Refusal.{Undone, clientLends, serverLends}
 use Rattle.host_history.proofs.Leaving.{not-zero}
 use Rattle.host_history.proofs.Refusals.{refused-leaves}
@@ -23,6 +23,7 @@ client-slots-same c (ClientStart idempotent object interface version operation n
 client-slots-same c (ClientTransmit message out) x same = refl
 client-slots-same c (ClientArrive p lent out) x same = same-own lent (c .slots) (x .slots) same
 client-slots-same c (ClientTimer kind ticket out) x same = refl
+client-slots-same c (ClientCancel out) x same = refl
 
 server-slots-same : (s : Side (List ℕ)) (call : ServerCall) (x : Export) → x .slots ≡ serverLends s call
     → serverSlots s call x ≡ s .slots
@@ -40,6 +41,17 @@ starts-same before (ClientStart idempotent object interface version operation n 
 starts-same before (ClientTransmit message out) t other = refl
 starts-same before (ClientArrive p lent out) t other = refl
 starts-same before (ClientTimer kind ticket out) t other = refl
+starts-same before (ClientCancel out) t other = refl
+
+-- the cancels,
+cancels-same : (before : List Cancelled) (call : ClientCall) (t : Turn Client) (ordinal : ℕ) → (t .answer ≡ Done → ⊥)
+    → cancelsSeen before call t ordinal ≡ before
+cancels-same before (ClientStart idempotent object interface version operation n message) t ordinal other = refl
+cancels-same before (ClientTransmit message out) t ordinal other = refl
+cancels-same before (ClientArrive p lent out) t ordinal other = refl
+cancels-same before (ClientTimer kind ticket out) t ordinal other = refl
+cancels-same before (ClientCancel out) t ordinal other =
+    choose-false (isDone (t .answer)) _ before (not-zero (t .answer) other)
 
 -- the replies,
 replies-same : (b : Books) (call : ServerCall) (t : Turn Server) → (t .answer ≡ Done → ⊥)
@@ -85,13 +97,15 @@ client-unchanged h call undone =
             completions =
                 completionsAfter (h .books .completions) (r .untold i)
                 (completionEntry starts (t .machine) (t .slots));
+            cancels = cancels-same (h .books .cancels) call t (lastStart (h .books .starts)) undone i;
+            heard = h .books .heard;
             standing = h .books .standing;
           };
     }
 
 server-unchanged : (h : HostWorld) (call : ServerCall) → Undone (serverExport (h .server) call)
     → hostStep h (ToServer call) ≡ h
-unfolding hostStep sentAfter dispatchesAfter
+unfolding hostStep sentAfter dispatchesAfter heardAfter
 server-unchanged h call undone =
     let x = serverExport (h .server) call in
     let t = serverSeen (h .server) call in
@@ -112,6 +126,9 @@ server-unchanged h call undone =
                 dispatchesAfter (h .books .dispatches) (r .untold i) (dispatchEntry of (t .machine) (t .slots));
             replies = replies-same (h .books) call t undone i;
             completions = h .books .completions;
+            cancels = h .books .cancels;
+            heard =
+                heardAfter (h .books .heard) (r .untold i) (heardEntry (h .books .dispatches) of (t .machine));
             standing = standing-same (worldOf h) call (t .answer) undone i;
           };
     }

@@ -11,7 +11,7 @@ use Rattle.answers.specs.declared.Answer.{Answer}
 use Rattle.answers.specs.declared.Answer.the-variants.{Done, WrongLength, BrokenRecord, ShortDatagram, WrongVersion, UnknownType, UnknownRepresentation, Authenticated, WrongBodyLength, OtherActivity, WrongSide, MaybeOrBroadcast, WrongFragment, OldCall, MalformedBody, NoRow, Repeated, Contradiction, LateTimer, NumbersUsedUp, TicketsUsedUp}
 use Rattle.answers.specs.Number.{numberOf}
 use Rattle.calls.specs.declared.Notice.{Notice}
-use Rattle.calls.specs.declared.Notice.the-variants.{Nothing as Untold, Last, Count, Fault, Reject, Cause, Dispatch}
+use Rattle.calls.specs.declared.Notice.the-variants.{Nothing as Untold, Last, Count, Fault, Reject, Cause, Dispatch, Cancel}
 use Rattle.calls.specs.declared.Sent.{Sent}
 use Rattle.calls.specs.declared.Sent.the-variants.{Nothing, Pdu}
 use Rattle.morphelai.specs.Result.{noticeKind, noticeValue, sentLength, packed, resultOf}
@@ -67,6 +67,7 @@ kind-small (Fault status) = omega arith
 kind-small (Reject status) = omega arith
 kind-small (Cause cause) = omega arith
 kind-small Dispatch = omega arith
+kind-small Cancel = omega arith
 
 length-small : (s : Sent) → sentLength s < 65536
 length-small Nothing = omega arith
@@ -106,6 +107,7 @@ notice-back (Fault status) = refl
 notice-back (Reject status) = refl
 notice-back (Cause cause) = refl
 notice-back Dispatch = refl
+notice-back Cancel = refl
 
 -- What was sent is nothing, or a PDU of 1 to 1,472 bytes.
 abbrev pub FitsSent : Sent → Type 0

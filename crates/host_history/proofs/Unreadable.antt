@@ -18,6 +18,7 @@ use Rattle.answers.specs.declared.Answer.the-variants.{WrongLength, BrokenRecor
 use Rattle.answers.specs.declared.Ground.{Ground}
 use Rattle.answers.specs.declared.Ground.the-variants.{Refuse}
 use Rattle.bodies.specs.Status.{statusReading}
+use Rattle.bodies.specs.Cancel.{cancelReading}
 use Rattle.calls.specs.declared.Call.{Call}
 use Rattle.calls.specs.declared.Notice.{Notice}
 use Rattle.calls.specs.declared.Sent.{Sent}
@@ -33,15 +34,15 @@ use Rattle.record_bytes.proofs.Keeping.{choice-by, choice-keeps}
 use Rattle.client_record.specs.declared.Client.{Client}
 use Rattle.client_record.specs.declared.State.{State as ClientState}
 use Rattle.client_record.specs.declared.TimerKind.{TimerKind}
-use Rattle.client_record.specs.declared.TimerKind.the-variants.{Wait, Ack}
+use Rattle.client_record.specs.declared.TimerKind.the-variants.{Wait, Ack, Cancel}
 use Rattle.client_record.specs.Rules.{sound as clientSound}
 use Rattle.client_record.specs.States.{isSending}
-use Rattle.client_table.specs.Local.{startGround, transmitGround as clientToTransmit, timerGround as clientTimerGround}
+use Rattle.client_table.specs.Local.{startGround, transmitGround as clientToTransmit, timerGround as clientTimerGround, cancelGround}
 use Rattle.client_table.specs.Arrival.{arrivalGround as clientJudges}
 use Rattle.client_steps.specs.Plan.{refused as refusedClient}
-use Rattle.client_steps.specs.Rows.{startPlan, transmitPlan as clientTransmits, timerPlan as clientTimerPlan}
+use Rattle.client_steps.specs.Rows.{startPlan, transmitPlan as clientTransmits, timerPlan as clientTimerPlan, cancelPlan}
 use Rattle.client_arrivals.specs.Table.{arrivalPlan as clientTakes}
-use Rattle.client.specs.Machine.{outcomeOf as clientOutcome, starting, sending as clientSending, transmitting as clientTransmitting, timing as clientTiming, planOf as clientPlan, acted as clientActed, arriving as clientArriving, handedUpOf as clientHandedUp}
+use Rattle.client.specs.Machine.{outcomeOf as clientOutcome, starting, sending as clientSending, transmitting as clientTransmitting, timing as clientTiming, cancelling, planOf as clientPlan, acted as clientActed, arriving as clientArriving, handedUpOf as clientHandedUp}
 use Rattle.client_bytes.specs.Layout.{readable as clientReadable, stateOf as clientStateOf, clientOf, clientIn}
 use Rattle.client_bytes.proofs.RoundTrip.{unreadable-broken as client-broken}
 use Rattle.server_record.specs.declared.Server.{Server}
@@ -59,10 +60,10 @@ use Rattle.server_bytes.proofs.RoundTrip.{unreadable-broken as server-broken}
 use Rattle.history.specs.World.{Side}
 use Rattle.morphelai.specs.Result.{resultOf}
 use Rattle.morphelai.specs.Export.{Export, sized, refusing, otherTimer, otherKind}
-use Rattle.morphelai.specs.ClientDoor.{clientResult, startSized, clientStart, clientTransmit, clientArrive, clientTiming as timedClient, clientTimer, clientPart}
+use Rattle.morphelai.specs.ClientDoor.{clientResult, startSized, clientStart, clientTransmit, clientArrive, clientTiming as timedClient, clientTimer, clientCancel, clientPart}
 use Rattle.morphelai.specs.ServerDoor.{serverResult, serverArrive, serverTransmit, serverTiming as timedServer, serverTimer, serverReply, serverFault, serverPart}
 use Rattle.host_history.specs.Results.{answerIn}
-use Rattle.host_history.specs.Hosts.{HostWorld, ClientCall, ServerCall, HostCall, ClientStart, ClientTransmit, ClientArrive, ClientTimer, ServerArrive, ServerTransmit, ServerTimer, ServerReply, ServerFault, ToClient, ToServer, clientExport, serverExport, exported}
+use Rattle.host_history.specs.Hosts.{HostWorld, ClientCall, ServerCall, HostCall, ClientStart, ClientTransmit, ClientArrive, ClientTimer, ClientCancel, ServerArrive, ServerTransmit, ServerTimer, ServerReply, ServerFault, ToClient, ToServer, clientExport, serverExport, exported}
 use Rattle.host_history.specs.Meaning.{startable}
 use Rattle.host_history.specs.Refusal.{readableAt, messageSized, clientSized, serverSized, sizedAt}
 use Rattle.host_history.proofs.Unpacking.{result-answer}
@@ -219,6 +220,10 @@ module _ (c : Client) (broken : clientSound c ≡ false) where
   timer-so kind ticket out =
       ap (λ (g : Ground). clientTimerPlan g kind c .answer) (broken-ground _ (clientSound c) _ broken)
 
+  cancel-so : (out : List ℕ) → cancelling c out .outcome .answer ≡ twoElseOne (eqb (length out) pduSize)
+  unfolding cancelling clientSending clientOutcome cancelGround cancelPlan refusedClient
+  cancel-so out = ap (λ (g : Ground). cancelPlan g c .answer) (broken-ground _ (clientSound c) _ broken)
+
   arrive-so : (datagram slots out : List ℕ)
       → clientArriving c datagram slots out .outcome .answer
       ≡ twoElseOne (both (eqb (length slots) slotsSize) (eqb (length out) pduSize))
@@ -233,7 +238,8 @@ module _ (c : Client) (broken : clientSound c ≡ false) where
 
 client-so : (side : Side (List ℕ)) (call : ClientCall) → clientReadable (side .machine) ≡ false
     → ToldSo (both (sized (side .machine)) (clientSized side call)) (clientExport side call)
-unfolding clientStart startSized startable clientTransmit clientArrive clientTimer timedClient clientResult
+unfolding clientStart startSized startable clientTransmit clientArrive clientTimer timedClient clientCancel
+    clientResult
 client-so side (ClientStart idempotent object interface version operation n message) e =
     or-one _ (leb n messageSize) _ (side .machine) [] []
     (read-so _ _ _ _ (start-so _ (client-broken (side .machine) e) _ n))
@@ -252,7 +258,11 @@ client-so side (ClientTimer kind ticket out) e =
     or-one _ _ _ (side .machine) [] out
     (choice-keeps (ToldSo right) (eqb kind 1) _ _ (read-so _ _ _ _ (timer-so _ broken Wait ticket out))
     (choice-keeps (ToldSo right) (eqb kind 2) _ _ (read-so _ _ _ _ (timer-so _ broken Ack ticket out))
-    (kind-so _ (side .machine) [] out broken)))
+    (choice-keeps (ToldSo right) (eqb kind 4) _ _ (read-so _ _ _ _ (timer-so _ broken Cancel ticket out))
+    (kind-so _ (side .machine) [] out broken))))
+client-so side (ClientCancel out) e =
+    or-one _ _ _ (side .machine) [] out
+    (read-so _ _ _ _ (cancel-so _ (client-broken (side .machine) e) out))
 
 -- The server's.
 module _ (s : Server) (broken : serverSound s ≡ false) where
@@ -283,7 +293,9 @@ module _ (s : Server) (broken : serverSound s ≡ false) where
   taken-so datagram slots out =
       let r = reading datagram in
       let body = bodyOf datagram in
-      ap (λ (g : Ground). serverTakes g s (r .header) (bodyLength body) .answer)
+      ap
+      (λ (g : Ground).
+      serverTakes g s (r .header) (bodyLength body) (cancelReading (r .little) body .number) .answer)
       (first-so _ _ _ (broken-ground _ (serverSound s) _ broken))
 
 server-so : (side : Side (List ℕ)) (call : ServerCall) → serverReadable (side .machine) ≡ false

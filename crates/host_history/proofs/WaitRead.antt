@@ -5,15 +5,11 @@ use mathlib.Core.List.{List}
 use mathlib.Core.Logic.{inl, inr}
 use mathlib.Core.Path.{_≡_, sym, ap, subst, _∙_}
 use native.Mathlib.Omega.{arith}
-use lib.ListN.{length, getD, drop, length-drop}
+use lib.ListN.{drop, length-drop}
 use Rattle.words.specs.Number.{number}
 use Rattle.answers.specs.declared.Answer.the-variants.{Done}
 use Rattle.incoming.specs.declared.Incoming.{Incoming}
-use Rattle.pdu.specs.Header.{headerOf, bodyOf}
-use Rattle.reader.specs.declared.Reading.{Reading}
 use Rattle.reader.specs.Reading.{reading}
-use Rattle.writer.proofs.RoundTrip.{accepted-reading}
-use Rattle.grounds.specs.Entry.{lentGround}
 use Rattle.timers.specs.declared.Timer.the-variants.{Armed}
 use Rattle.record_bytes.specs.Parts.{lastField}
 use Rattle.record_bytes.specs.Held.{slotsBytes, slotsIn}
@@ -23,31 +19,19 @@ use Rattle.record_bytes.proofs.Reading.{last-again}
 use Rattle.record_bytes.proofs.SlotReading.{slots-again}
 use Rattle.record_bytes.proofs.FieldsAgain.{known}
 use Rattle.client_record.specs.declared.TimerKind.the-variants.{Wait}
-use Rattle.client.proofs.Accepting.{arrive-accepted}
-use Rattle.client.proofs.Judging.{arrival-passes}
 use Rattle.client_bytes.specs.Canonical.{Canonical}
 use Rattle.client_bytes.specs.Layout.{clientIn, clientOf}
 use Rattle.history.specs.World.{SentPdu, World}
 use Rattle.history.specs.Events.{Lent, ClientArrive as ArriveOf, OfClient}
-use Rattle.history.specs.Steps.{bytesLent, happens, answerTo, step, run}
+use Rattle.history.specs.Steps.{answerTo, step, run}
 use Rattle.history.specs.Claim.{OnClient, timerIn, Renews, ArmedAfresh}
 use Rattle.host_history.specs.Hosts.{HostWorld, worldOf, ClientArrive, ToClient, hostStep}
 use Rattle.host_history.specs.Meaning.{meant, Keeps}
-use Rattle.host_history.specs.HostReads.{WaitTimer}
+use Rattle.host_history.specs.HostReads.{WaitTimer, typeByte}
 use Rattle.host_history.specs.HostDemand.{HeldSame, RenewsWait, WaitAfresh}
 use Rattle.host_history.proofs.SameRun.{same-step, keeps-step, told}
 use Rattle.host_history.proofs.TimersRead.{shared-client, armed-told}
-
--- The type of a datagram that is answered 0 stands at byte 1.
-kind-there : (w : World) (p : SentPdu) (lent : Lent) (out : List ℕ)
-    → answerTo w (OfClient (ArriveOf p lent out)) ≡ Done → reading (p .bytes) .header .kind ≡ getD (p .bytes) 1 0
-unfolding answerTo happens headerOf
-kind-there w p lent out done =
-    let slots = bytesLent lent (w .client .slots) in
-    let passed =
-    arrival-passes (w .client .machine) (lentGround (length slots) (length out)) (reading (p .bytes))
-    (bodyOf (p .bytes)) (arrive-accepted (w .client .machine) (p .bytes) slots out done) in
-    ap (λ (r : Reading). r .header .kind) (accepted-reading (p .bytes) (passed .0 .done))
+use Rattle.host_history.proofs.Datagrams.{kind-there, client-took}
 
 -- Where the same is held, the bytes that tell it are the same.
 slots-there : (b : List ℕ) → Canonical b → slotsBytes (slotsIn (drop 144 b)) ≡ drop 144 b
@@ -74,14 +58,14 @@ afresh-read h keeps afresh p lent out small done renews ticket armed again =
     let e = OfClient (ArriveOf p lent out) in
     let answered : answerTo (worldOf h) e ≡ Done = sym (told h call keeps small .answer) ∙ done in
     let next : worldOf (hostStep h call) ≡ step (worldOf h) e = same-step h call keeps small in
-    let kind = kind-there (worldOf h) p lent out answered in
+    let kind = kind-there (p .bytes) (client-took (worldOf h) p lent out answered) in
     afresh p lent out answered (by-kind kind next renews) ticket (armed-told h WaitTimer ticket armed)
     (subst (λ (w : World). timerIn w (OnClient Wait) ≡ Armed ticket) next
     (armed-told (hostStep h call) WaitTimer ticket again))
   where
-    by-kind : reading (p .bytes) .header .kind ≡ getD (p .bytes) 1 0
+    by-kind : reading (p .bytes) .header .kind ≡ typeByte (p .bytes)
         → worldOf (hostStep h (ToClient (ClientArrive p lent out))) ≡ step (worldOf h) (OfClient (ArriveOf p lent out))
-        → RenewsWait (getD (p .bytes) 1 0) (h .client .machine)
+        → RenewsWait (typeByte (p .bytes)) (h .client .machine)
         (hostStep h (ToClient (ClientArrive p lent out)) .client .machine)
         → Renews (reading (p .bytes) .header .kind) (worldOf h .client .machine .incoming)
         (step (worldOf h) (OfClient (ArriveOf p lent out)) .client .machine .incoming)

@@ -14,8 +14,11 @@ use Rattle.answers.specs.declared.Ground.the-variants.{Pass, Refuse}
 use Rattle.answers.specs.Number.{numberOf, answerOf}
 use Rattle.bodies.specs.declared.Fack.{Fack as FackBody}
 use Rattle.bodies.specs.declared.StatusReading.{StatusReading}
+use Rattle.bodies.specs.declared.CancelReading.{CancelReading}
+use Rattle.bodies.specs.declared.CancelAckReading.{CancelAckReading}
 use Rattle.bodies.specs.Fack.{fackGround, fackBy, fackReading}
 use Rattle.bodies.specs.Status.{statusReading}
+use Rattle.bodies.specs.Cancel.{cancelWhere, cancelReading, cancelAckWhere, cancelAckReading}
 use Rattle.calls.specs.declared.Notice.{Notice}
 use Rattle.calls.specs.declared.Sent.{Sent}
 use Rattle.incoming.specs.declared.Incoming.{Incoming}
@@ -25,6 +28,7 @@ use Rattle.grounds.specs.Order.{first, refuseIf, groundOf}
 use Rattle.grounds.specs.Entry.{lentGround, entryGround}
 use Rattle.grounds.specs.Fragment.{putGround}
 use Rattle.grounds.specs.Fack.{fackBodyGround, statusBodyGround}
+use Rattle.grounds.specs.Cancel.{cancelBodyGround, cancelAckBodyGround}
 use Rattle.record_bytes.proofs.Keeping.{choice-keeps}
 use Rattle.morphelai.specs.Result.{resultOf}
 use Rattle.morphelai.specs.Export.{Export, refusing, otherTimer, otherKind}
@@ -86,6 +90,16 @@ fack-other little body =
     by-ground : (g : Ground) (f : FackBody) → Other g → isOne (fackBy g f .answer) ≡ false
     by-ground Pass f other = unfold fackBy in refl
     by-ground (Refuse a) f other = unfold fackBy in other
+
+pub cancel-other : (little : Bool) (body : List ℕ) → Other (cancelBodyGround little body)
+unfolding cancelBodyGround cancelReading cancelWhere
+cancel-other little body =
+    of-other _ (choice-keeps (λ (r : CancelReading). isOne (r .answer) ≡ false) _ _ _ refl refl)
+
+pub cancel-ack-other : (little : Bool) (body : List ℕ) → Other (cancelAckBodyGround little body)
+unfolding cancelAckBodyGround cancelAckReading cancelAckWhere
+cancel-ack-other little body =
+    of-other _ (choice-keeps (λ (r : CancelAckReading). isOne (r .answer) ≡ false) _ _ _ refl refl)
 
 pub put-other : (m : Incoming) (f : ℕ) (last : Bool) → Other (putGround m f last)
 unfolding putGround

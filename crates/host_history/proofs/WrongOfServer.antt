@@ -24,11 +24,11 @@ use Rattle.server_record.specs.declared.State.the-variants.{Idle as IdleState, 
 use Rattle.server_record.specs.declared.Server.{Server}
 use Rattle.server_record.specs.States.{isReplying}
 use Rattle.server_rows.specs.declared.Event.{Event as ServerEvent}
-use Rattle.server_rows.specs.declared.Event.the-variants.{Request, Ping, Ack as AckEvent, Fack as ServerFack, Foreign}
+use Rattle.server_rows.specs.declared.Event.the-variants.{Request, Ping, Ack as AckEvent, Cancel as CancelEvent, Fack as ServerFack, Foreign}
 use Rattle.server_rows.specs.declared.Order.{Order}
 use Rattle.server_rows.specs.declared.Order.the-variants.{Below, Equal, Newer}
 use Rattle.server_rows.specs.declared.Row.{Row}
-use Rattle.server_rows.specs.declared.Row.the-variants.{Old, Missing, Repeat, Begin, Put, Working, Nocall, Replay, Acknowledge, Finish}
+use Rattle.server_rows.specs.declared.Row.the-variants.{Old, Missing, Repeat, Begin, Put, Working, Nocall, Replay, Acknowledge, Finish, AcceptCancel, DeclineCancel}
 use Rattle.server_rows.specs.Rows.{rowFor}
 use Rattle.server_table.specs.Events.{byEvent as serverByEvent, sideGround as serverSideGround}
 use Rattle.server_table.specs.Local.{transmitGround as serverToTransmit, timerGround as serverTimerGround, replyGround, faultGround}
@@ -36,7 +36,7 @@ use Rattle.server_table.specs.Arrival.{requestGround, oldGround, rowGround as s
 use Rattle.server_steps.specs.declared.Plan.{Plan as ServerPlan}
 use Rattle.server_steps.specs.Plan.{refused as refusedServer, accepted as acceptedServer}
 use Rattle.server_steps.specs.Rows.{replyPlan, transmitPlan as serverTransmits, faultPlan, replayHeld, replayPlan, resendHeld, resendRow, timerRow as serverTimerRow, timerPlan as serverTimerPlan}
-use Rattle.server_arrivals.specs.Rows.{putPlan as serverPutPlan, requestPlan, beginPlan, workingPlan as serverWorking, nocallPlan as serverNocall, fackPlan as serverFackPlan, ackPlan}
+use Rattle.server_arrivals.specs.Rows.{putPlan as serverPutPlan, requestPlan, beginPlan, workingPlan as serverWorking, nocallPlan as serverNocall, fackPlan as serverFackPlan, ackPlan, declinePlan, heardPlan, acceptPlan}
 use Rattle.server_arrivals.specs.Table.{arrivalRow as serverRow, arrivalPlan as serverTakes}
 use Rattle.server.specs.Machine.{outcomeOf as serverOutcome, replying, sending as serverSending, transmitting as serverTransmitting, timing as serverTiming, faulting, planOf as serverPlan, acted as serverActed, arriving as serverArriving}
 use Rattle.history.specs.World.{Side}
@@ -45,7 +45,7 @@ use Rattle.morphelai.specs.ServerDoor.{serverResult, serverArrive, serverTransm
 use Rattle.host_history.specs.Hosts.{ServerCall, ServerArrive, ServerTransmit, ServerTimer, ServerReply, ServerFault, serverExport}
 use Rattle.host_history.specs.Refusal.{serverSized}
 use Rattle.host_history.proofs.Unreadable.{transmitSized, server-message}
-use Rattle.host_history.proofs.WrongGrounds.{isOne, one, Other, first-other, refuse-other, judged-first, long-first, fack-other, put-other, entry-one, OneSo, read-one, or-wrong, kind-one}
+use Rattle.host_history.proofs.WrongGrounds.{isOne, one, Other, first-other, refuse-other, judged-first, long-first, fack-other, cancel-other, put-other, entry-one, OneSo, read-one, or-wrong, kind-one}
 
 -- The server's.
 module _ (s : Server) where
@@ -122,39 +122,47 @@ module _ (s : Server) where
   replay-one (Held Data) = refl
   replay-one (Held (HeldFault status)) = refl
 
-  put-one : (row : Row) (h : Header) (n : ℕ) → PlanOther (serverRow row s h n)
-  unfolding serverRow beginPlan requestPlan serverPutPlan serverWorking serverNocall serverFackPlan ackPlan
+  accept-one : (cancel : ℕ) → PlanOther (acceptPlan s cancel)
+  unfolding acceptPlan heardPlan acceptedServer
+  accept-one cancel = choice-keeps PlanOther _ _ _ refl refl
+
+  put-one : (row : Row) (h : Header) (n cancel : ℕ) → PlanOther (serverRow row s h n cancel)
+  unfolding serverRow beginPlan requestPlan serverPutPlan serverWorking serverNocall serverFackPlan ackPlan declinePlan
       refusedServer acceptedServer
-  put-one Old h n = refl
-  put-one Missing h n = refl
-  put-one Repeat h n = refl
-  put-one Begin h n = refl
-  put-one Put h n = refl
-  put-one Working h n = refl
-  put-one Nocall h n = refl
-  put-one Replay h n = replay-one (s .state)
-  put-one Acknowledge h n = refl
-  put-one Finish h n = refl
+  put-one Old h n cancel = refl
+  put-one Missing h n cancel = refl
+  put-one Repeat h n cancel = refl
+  put-one Begin h n cancel = refl
+  put-one Put h n cancel = refl
+  put-one Working h n cancel = refl
+  put-one Nocall h n cancel = refl
+  put-one Replay h n cancel = replay-one (s .state)
+  put-one Acknowledge h n cancel = refl
+  put-one Finish h n cancel = refl
+  put-one AcceptCancel h n cancel = accept-one cancel
+  put-one DeclineCancel h n cancel = refl
 
-  server-takes-one : (g : Ground) (h : Header) (n : ℕ) → isOne (serverTakes g s h n .answer) ≡ one g
+  server-takes-one : (g : Ground) (h : Header) (n cancel : ℕ) → isOne (serverTakes g s h n cancel .answer) ≡ one g
   unfolding serverTakes refusedServer
-  server-takes-one (Refuse a) h n = refl
-  server-takes-one Pass h n = put-one (rowFor s h) h n
+  server-takes-one (Refuse a) h n cancel = refl
+  server-takes-one Pass h n cancel = put-one (rowFor s h) h n cancel
 
-  server-by-event : (event : ServerEvent) (request fack : Ground) → Other request → Other fack
-      → Other (serverByEvent event request fack)
+  server-by-event : (event : ServerEvent) (request cancel fack : Ground) → Other request → Other cancel → Other fack
+      → Other (serverByEvent event request cancel fack)
   unfolding serverByEvent
-  server-by-event Request request fack p q = p
-  server-by-event Ping request fack p q = refl
-  server-by-event AckEvent request fack p q = refl
-  server-by-event ServerFack request fack p q = q
-  server-by-event Foreign request fack p q = refl
+  server-by-event Request request cancel fack p q r = p
+  server-by-event Ping request cancel fack p q r = refl
+  server-by-event AckEvent request cancel fack p q r = refl
+  server-by-event CancelEvent request cancel fack p q r = q
+  server-by-event ServerFack request cancel fack p q r = r
+  server-by-event Foreign request cancel fack p q r = refl
 
   server-side-other : (event : ServerEvent) → Other (serverSideGround event)
   unfolding serverSideGround
   server-side-other Request = refl
   server-side-other Ping = refl
   server-side-other AckEvent = refl
+  server-side-other CancelEvent = refl
   server-side-other ServerFack = refl
   server-side-other Foreign = refl
 
@@ -170,6 +178,8 @@ module _ (s : Server) where
   old-other Replay = refl
   old-other Acknowledge = refl
   old-other Finish = refl
+  old-other AcceptCancel = refl
+  old-other DeclineCancel = refl
 
   table-row-other : (row : Row) → Other (serverRowGround row)
   unfolding serverRowGround
@@ -183,6 +193,8 @@ module _ (s : Server) where
   table-row-other Replay = refl
   table-row-other Acknowledge = refl
   table-row-other Finish = refl
+  table-row-other AcceptCancel = refl
+  table-row-other DeclineCancel = refl
 
   slot-other : (row : Row) (m : Incoming) (f : ℕ) (last : Bool) → Other (slotGround row m f last)
   unfolding slotGround contradictionGround
@@ -196,6 +208,8 @@ module _ (s : Server) where
   slot-other Replay m f last = refuse-other _ _ refl
   slot-other Acknowledge m f last = refl
   slot-other Finish m f last = refl
+  slot-other AcceptCancel m f last = refl
+  slot-other DeclineCancel m f last = refl
 
   call-other : (order : Order) (same : Bool) → Other (callGround order same)
   unfolding callGround
@@ -209,15 +223,15 @@ module _ (s : Server) where
   unfolding serverArriving serverActed serverSending serverOutcome serverPlan serverJudges serverPduGround
       serverTableGround requestGround fragmentGround fackCountGround
   taken-one datagram slots out =
-      server-takes-one _ _ _
+      server-takes-one _ _ _ _
       ∙ entry-one (length slots) (length out) _ datagram _ _ _
       (first-other _ _
       (first-other _ _ (server-side-other _)
       (first-other _ _
-      (server-by-event _ _ _ (first-other _ _ (refuse-other _ _ refl) (refuse-other _ _ refl)) refl)
-      (first-other _ _ (old-other _) (server-by-event _ _ _ refl (fack-other _ _)))))
+      (server-by-event _ _ _ _ (first-other _ _ (refuse-other _ _ refl) (refuse-other _ _ refl)) refl refl)
+      (first-other _ _ (old-other _) (server-by-event _ _ _ _ refl (cancel-other _ _) (fack-other _ _)))))
       (first-other _ _ (table-row-other _)
-      (server-by-event _ _ _ (first-other _ _ (slot-other _ _ _ _) (call-other _ _)) (refuse-other _ _ refl))))
+      (server-by-event _ _ _ _ (first-other _ _ (slot-other _ _ _ _) (call-other _ _)) refl (refuse-other _ _ refl))))
 
 pub server-one : (side : Side (List ℕ)) (call : ServerCall)
     → OneSo (both (sized (side .machine)) (serverSized side call)) (serverExport side call)

@@ -7,15 +7,16 @@ use lib.ListN.{length}
 use Rattle.words.specs.Number.{number as numberAt}
 use Rattle.answers.specs.declared.Answer.the-variants.{Done}
 use Rattle.calls.specs.declared.Call.{Call}
-use Rattle.calls.specs.declared.Notice.the-variants.{Last, Dispatch}
+use Rattle.calls.specs.declared.Notice.the-variants.{Last, Dispatch, Cancel}
 use Rattle.history.specs.Lists.{andThen}
-use Rattle.history.specs.World.{Started, Dispatched, Completed}
+use Rattle.history.specs.World.{Started, Dispatched, Completed, Cancelled, Heard, SentPdu}
+use Rattle.history.specs.Events.{Lent}
 use Rattle.history.specs.Steps.{lastStart, lastDispatched}
 use Rattle.host_history.specs.Results.{answerIn, noticeIn}
-use Rattle.host_history.specs.Hosts.{HostWorld, HostCall, ClientStart, ClientTransmit, ClientArrive, ClientTimer, ServerArrive, ServerTransmit, ServerTimer, ServerReply, ServerFault, ToClient, ToServer, callGiven, exported, hostStep}
+use Rattle.host_history.specs.Hosts.{HostWorld, HostCall, ClientStart, ClientTransmit, ClientArrive, ClientTimer, ClientCancel, ServerArrive, ServerTransmit, ServerTimer, ServerReply, ServerFault, ToClient, ToServer, callGiven, exported, hostStep}
 use Rattle.host_history.specs.Meaning.{HostFits}
 use Rattle.host_history.specs.HandedUp.{clientParts}
-use Rattle.host_history.specs.HostReads.{InRunning, HasReply, ReadsDispatch}
+use Rattle.host_history.specs.HostReads.{InRunning, HasReply, cancelNumber, typeByte, numberCarried, ReadsDispatch}
 
 -- A start that is answered 0 is one more: with the call data handed in, the message that it is for, and the number at
 -- 16 in the client's bytes after it. Its ordinal is how many came before.
@@ -32,6 +33,7 @@ isStart (ToClient (ClientStart idempotent object interface version operation n m
 isStart (ToClient (ClientTransmit message out)) = false
 isStart (ToClient (ClientArrive p lent out)) = false
 isStart (ToClient (ClientTimer kind ticket out)) = false
+isStart (ToClient (ClientCancel out)) = false
 isStart (ToServer call) = false
 
 -- No other call adds one.
@@ -44,6 +46,29 @@ pub record StartsGiven (h : HostWorld) : Type 0 where
   pub none :
       (call : HostCall) → (isStart call ≡ true → answerIn (exported h call .result) ≡ Done → ⊥)
       → hostStep h call .books .starts ≡ h .books .starts
+
+-- A cancel that is answered 0 is one more, of the last start, with the number at 68 in the client's bytes after it.
+pub record CancelGiven (before after : HostWorld) : Type 0 where
+  pub cancel : Cancelled
+  pub added : after .books .cancels ≡ andThen (before .books .cancels) cancel
+  pub ordinal : cancel .ordinal ≡ lastStart (before .books .starts)
+  pub number : cancelNumber (after .client) ≡ cancel .number
+
+abbrev pub isCancel : HostCall → Bool
+isCancel (ToClient (ClientStart idempotent object interface version operation n message)) = false
+isCancel (ToClient (ClientTransmit message out)) = false
+isCancel (ToClient (ClientArrive p lent out)) = false
+isCancel (ToClient (ClientTimer kind ticket out)) = false
+isCancel (ToClient (ClientCancel out)) = true
+isCancel (ToServer call) = false
+
+pub record CancelsGiven (h : HostWorld) : Type 0 where
+  pub taken :
+      (out : List ℕ) → answerIn (exported h (ToClient (ClientCancel out)) .result) ≡ Done
+      → CancelGiven h (hostStep h (ToClient (ClientCancel out)))
+  pub none :
+      (call : HostCall) → (isCancel call ≡ true → answerIn (exported h call .result) ≡ Done → ⊥)
+      → hostStep h call .books .cancels ≡ h .books .cancels
 
 -- A reply that is answered 0 is one more, with the message that it is for, given to the start last dispatched.
 abbrev pub isReply : HostCall → Bool
@@ -96,3 +121,28 @@ pub record CompletionsRead (h : HostWorld) : Type 0 where
   pub untold :
       (call : HostCall) → (noticeIn (exported h call .result) ≡ Last → ⊥)
       → hostStep h call .books .completions ≡ h .books .completions
+
+-- The same of "cancel", which only an arriving cancel tells, a PDU of type 8. What is told has the run, which is how
+-- many dispatches there are, the start that the PDU is of, and the number that it carries, which then stands at 68 in
+-- the server's bytes; the server is in RUNNING still.
+pub record CancelRead (before : HostWorld) (call : HostCall) (after : HostWorld) : Type 0 where
+  pub pdu : SentPdu
+  pub lent : Lent
+  pub out : List ℕ
+  pub arrives : call ≡ ToServer (ServerArrive pdu lent out)
+  pub cancel : typeByte (pdu .bytes) ≡ 8
+  pub heard : Heard
+  pub added : after .books .heard ≡ andThen (before .books .heard) heard
+  pub run : heard .run ≡ length (before .books .dispatches)
+  pub ordinal : heard .ordinal ≡ pdu .ordinal
+  pub number : heard .number ≡ numberCarried (pdu .bytes)
+  pub seen : cancelNumber (after .server) ≡ heard .number
+  pub still : InRunning (after .server)
+
+pub record CancelsRead (h : HostWorld) : Type 0 where
+  pub told :
+      (call : HostCall) → HostFits call → noticeIn (exported h call .result) ≡ Cancel
+      → CancelRead h call (hostStep h call)
+  pub untold :
+      (call : HostCall) → (noticeIn (exported h call .result) ≡ Cancel → ⊥)
+      → hostStep h call .books .heard ≡ h .books .heard

@@ -1,28 +1,29 @@
 -- Demand 3, of a host that calls exports only, in its own terms: the bytes that it keeps, what exports give back, and
 -- the parts that it reads.
-use Prim.Native.Nat.{ℕ, _≤_}
+use Prim.Native.Nat.{ℕ, _≤_, _<_}
 use mathlib.Core.Bool.{true, false}
 use mathlib.Core.List.{List, [], _++_}
 use mathlib.Core.Logic.{_⊎_}
 use mathlib.Core.Path.{_≡_}
-use lib.ListN.{getD, drop}
+use lib.ListN.{length, getD, take, drop}
 use Rattle.words.specs.Number.{number as numberAt}
 use Rattle.answers.specs.declared.Answer.the-variants.{Done}
-use Rattle.calls.specs.declared.Notice.the-variants.{Nothing as Untold}
+use Rattle.calls.specs.declared.Notice.{Notice}
+use Rattle.calls.specs.declared.Notice.the-variants.{Nothing as Untold, Cancel}
 use Rattle.calls.specs.declared.Sent.the-variants.{Nothing}
 use Rattle.fragments.specs.Joined.{Leads}
 use Rattle.history.specs.Lists.{In, andThen}
-use Rattle.history.specs.World.{callNumber, Started, Dispatched, Replied, Completed, SentPdu}
+use Rattle.history.specs.World.{callNumber, Started, Dispatched, Replied, Completed, Heard, SentPdu}
 use Rattle.history.specs.Events.{Lent}
 use Rattle.history.specs.Steps.{lastStart}
-use Rattle.history.specs.Claim.{times, DispatchOf, WholeMessage, WholeReply}
+use Rattle.history.specs.Claim.{times, DispatchOf, WholeMessage, WholeReply, timesCancelled, AskedFor, timesHeard}
 use Rattle.host_history.specs.Results.{answerIn, noticeIn, sentIn}
-use Rattle.host_history.specs.Hosts.{HostWorld, HostCall, ClientArrive, ClientTimer, ServerTimer, ToClient, ToServer, exported, hostStep, hostRun}
+use Rattle.host_history.specs.Hosts.{HostWorld, HostCall, ClientArrive, ClientTimer, ServerArrive, ServerTimer, ToClient, ToServer, exported, hostStep, hostRun}
 use Rattle.host_history.specs.Meaning.{HostFits}
 use Rattle.host_history.specs.Refusal.{bufferLent}
 use Rattle.host_history.specs.HandedUp.{clientParts}
-use Rattle.host_history.specs.HostReads.{stateByte, InRunning, HasReply, NamesWait, NamesAck, NamesResend, HostTimer, WaitTimer, AckTimer, ResendTimer, markByte, ArmedWith, timerCall, ReadsDispatch, endsRun}
-use Rattle.host_history.specs.HostBooks.{StartsGiven, RepliesGiven, DispatchesRead, CompletionsRead}
+use Rattle.host_history.specs.HostReads.{stateByte, InRunning, HasReply, NamesWait, NamesAck, NamesCancel, NamesResend, HostTimer, WaitTimer, AckTimer, CancelTimer, ResendTimer, markByte, ArmedWith, timerCall, cancelNumber, typeByte, numberCarried, ReadsDispatch, endsRun}
+use Rattle.host_history.specs.HostBooks.{StartsGiven, CancelsGiven, RepliesGiven, DispatchesRead, CompletionsRead, CancelsRead}
 
 -- A start that is not marked idempotent is dispatched at most once.
 unfoldable pub DispatchedOnce : HostWorld → Type 0
@@ -50,16 +51,24 @@ pub record RunReads (h : HostWorld) : Type 0 where
 unfoldable pub RunningWhole : HostWorld → Type 0
 RunningWhole h = InRunning (h .server) → RunReads h
 
--- and no further call but reply or fault changes the server's bytes, its slot buffer or the dispatches.
-pub record ServerSame (before after : HostWorld) : Type 0 where
-  pub bytes : after .server .machine ≡ before .server .machine
+-- and no further call but reply or fault changes the server's bytes, its slot buffer or the dispatches. Only where the
+-- host is told "cancel" is the cancel number at 68 another one and greater, and all other bytes are as they were.
+pub record OnlyRaised (before after : List ℕ) : Type 0 where
+  pub front : take 68 after ≡ take 68 before
+  pub raised : numberAt 4 true before 68 < numberAt 4 true after 68
+  pub back : drop 72 after ≡ drop 72 before
+
+pub record ServerSame (before after : HostWorld) (notice : Notice) : Type 0 where
+  pub bytes :
+      (after .server .machine ≡ before .server .machine)
+      ⊎ ((notice ≡ Cancel) × OnlyRaised (before .server .machine) (after .server .machine))
   pub slots : after .server .slots ≡ before .server .slots
   pub dispatches : after .books .dispatches ≡ before .books .dispatches
 
 unfoldable pub RunningAlone : HostWorld → Type 0
 RunningAlone h =
     (call : HostCall) → HostFits call → InRunning (h .server) → endsRun call ≡ false
-    → ServerSame h (hostStep h call)
+    → ServerSame h (hostStep h call) (noticeIn (exported h call .result))
 
 -- A reply is given to a start that was dispatched.
 unfoldable pub RepliesDispatched : HostWorld → Type 0
@@ -111,12 +120,12 @@ LateDoesNothing h =
     (timer : HostTimer) (ticket : ℕ) (out : List ℕ) → HostFits (timerCall timer ticket out)
     → (ArmedWith h timer ticket → ⊥) → DoesNothing h (timerCall timer ticket out)
 
--- so does a timer's call of a kind that the side does not have: the client has 1 and 2, the server 3;
+-- so does a timer's call of a kind that the side does not have: the client has 1, 2 and 4, the server 3;
 pub record StrangeDoesNothing (h : HostWorld) : Type 0 where
   pub client :
       (kind ticket : ℕ) (out : List ℕ)
       → let call = ToClient (ClientTimer kind ticket out) in
-      HostFits call → (kind ≡ 1 → ⊥) → (kind ≡ 2 → ⊥) → DoesNothing h call
+      HostFits call → (kind ≡ 1 → ⊥) → (kind ≡ 2 → ⊥) → (kind ≡ 4 → ⊥) → DoesNothing h call
   pub server :
       (kind ticket : ℕ) (out : List ℕ)
       → let call = ToServer (ServerTimer kind ticket out) in
@@ -150,38 +159,91 @@ WaitAfresh h =
     (p : SentPdu) (lent : Lent) (out : List ℕ)
     → let call = ToClient (ClientArrive p lent out) in
     HostFits call → answerIn (exported h call .result) ≡ Done
-    → RenewsWait (getD (p .bytes) 1 0) (h .client .machine) (hostStep h call .client .machine) → (ticket : ℕ)
+    → RenewsWait (typeByte (p .bytes)) (h .client .machine) (hostStep h call .client .machine) → (ticket : ℕ)
     → ArmedWith h WaitTimer ticket → ArmedWith (hostStep h call) WaitTimer ticket → ⊥
 
--- A timer is armed only in the states that name it, and the server has no second timer. So nothing is armed in a
--- finished call: COMPLETE, 5, FAULT, 6, and IDLE, 0 to 2.
+-- A timer is armed only in the states that name it, and the server has no second or third timer. So nothing is armed
+-- in a finished call: COMPLETE, 5, FAULT, 6, and IDLE, 0 to 2.
+abbrev pub NothingArmed : HostWorld → Type 0
+NothingArmed h = (markByte h WaitTimer ≡ 0) × (markByte h AckTimer ≡ 0) × (markByte h CancelTimer ≡ 0)
+
 pub record QuietBytes (h : HostWorld) : Type 0 where
   pub wait : (NamesWait (stateByte (h .client)) → ⊥) → markByte h WaitTimer ≡ 0
   pub ack : (NamesAck (stateByte (h .client)) → ⊥) → markByte h AckTimer ≡ 0
+  pub cancel : (NamesCancel (stateByte (h .client)) → ⊥) → markByte h CancelTimer ≡ 0
   pub resend : (NamesResend (stateByte (h .server)) → ⊥) → markByte h ResendTimer ≡ 0
   pub second : getD (h .server .machine) 65 0 ≡ 0
-  pub complete : stateByte (h .client) ≡ 5 → (markByte h WaitTimer ≡ 0) × (markByte h AckTimer ≡ 0)
-  pub fault : stateByte (h .client) ≡ 6 → (markByte h WaitTimer ≡ 0) × (markByte h AckTimer ≡ 0)
+  pub third : getD (h .server .machine) 66 0 ≡ 0
+  pub complete : stateByte (h .client) ≡ 5 → NothingArmed h
+  pub fault : stateByte (h .client) ≡ 6 → NothingArmed h
   pub idle : stateByte (h .server) ≤ 2 → markByte h ResendTimer ≡ 0
+
+-- CANCEL stays armed, with the ticket that it has, while the call is active, in states 1 to 3: nothing disarms it there
+-- but an arriving cancel_ack, type 10, that is answered 0 and carries the client's cancel number, and nothing arms it
+-- afresh.
+pub record AnswersCancel (h : HostWorld) (call : HostCall) : Type 0 where
+  pub pdu : SentPdu
+  pub lent : Lent
+  pub out : List ℕ
+  pub arrives : call ≡ ToClient (ClientArrive pdu lent out)
+  pub taken : answerIn (exported h call .result) ≡ Done
+  pub cancel-ack : typeByte (pdu .bytes) ≡ 10
+  pub number : numberCarried (pdu .bytes) ≡ cancelNumber (h .client)
+
+unfoldable pub CancelStays : HostWorld → Type 0
+CancelStays h =
+    (call : HostCall) → HostFits call → (ticket : ℕ) → ArmedWith h CancelTimer ticket
+    → NamesCancel (stateByte (hostStep h call .client))
+    → AnswersCancel h call ⊎ ArmedWith (hostStep h call) CancelTimer ticket
+
+-- The client's cancel number is how often its last start was cancelled, wherever it has a call: not in QUEUED, 0.
+unfoldable pub CancelNumberCounts : HostWorld → Type 0
+CancelNumberCounts h =
+    (stateByte (h .client) ≡ 0 → ⊥)
+    → cancelNumber (h .client) ≡ timesCancelled (lastStart (h .books .starts)) (h .books .cancels)
+
+-- A cancel that a host is told was asked for at the client, of that start and with that number, and the run that it is
+-- told of is of that start.
+unfoldable pub CancelsAsked : HostWorld → Type 0
+CancelsAsked h =
+    (heard : Heard) → In heard (h .books .heard) → AskedFor (h .books .cancels) (h .books .dispatches) heard
+
+-- In each run it is told a number at most once;
+unfoldable pub CancelsOnce : HostWorld → Type 0
+CancelsOnce h = (run number : ℕ) → timesHeard run number (h .books .heard) ≤ 1
+
+-- and a cancel, type 8, that arrives in RUNNING, is answered 0 and carries a number above 0 and above all that were
+-- told in this run is told.
+unfoldable pub CancelsTold : HostWorld → Type 0
+CancelsTold h =
+    (p : SentPdu) (lent : Lent) (out : List ℕ)
+    → let call = ToServer (ServerArrive p lent out) in
+    HostFits call → InRunning (h .server) → answerIn (exported h call .result) ≡ Done → typeByte (p .bytes) ≡ 8
+    → 0 < numberCarried (p .bytes)
+    → ((heard : Heard) → In heard (h .books .heard) → heard .run ≡ length (h .books .dispatches)
+    → heard .number < numberCarried (p .bytes))
+    → noticeIn (exported h call .result) ≡ Cancel
 
 -- All of it, of what a host keeps after a list of calls. It holds after every beginning of the list too
 -- (`always-demanded`), so of each of the calls.
 pub record HostDemand (h : HostWorld) (calls : List HostCall) : Type 0 where
   -- A call that is not idempotent is dispatched at most once.
   pub once : DispatchedOnce (hostRun h calls)
-  -- A start or a reply is on the books where the host gave it and it was answered 0; a dispatch, and a call told
-  -- complete, where the host is told so, and it is what the host then reads.
+  -- A start, a cancel or a reply is on the books where the host gave it and it was answered 0; a dispatch, a call told
+  -- complete and a cancel told, where the host is told so, and it is what the host then reads.
   pub starts : StartsGiven (hostRun h calls)
+  pub cancels : CancelsGiven (hostRun h calls)
   pub replies : RepliesGiven (hostRun h calls)
   pub dispatches : DispatchesRead (hostRun h calls)
   pub completions : CompletionsRead (hostRun h calls)
+  pub told : CancelsRead (hostRun h calls)
   -- A dispatch gets a whole message and its call data,
   pub whole : DispatchesWhole (hostRun h calls)
   -- under the number of its start,
   pub numbers : Numbers (hostRun h calls)
   -- and the host reads all of it still while the call runs.
   pub running : RunningWhole (hostRun h calls)
-  -- Nothing but its reply or fault touches a call that runs.
+  -- Nothing but its reply or fault touches a call that runs, and a cancel that is told only its cancel number.
   pub alone : RunningAlone (hostRun h calls)
   -- Replies are given to what was dispatched.
   pub replied : RepliesDispatched (hostRun h calls)
@@ -205,3 +267,13 @@ pub record HostDemand (h : HostWorld) (calls : List HostCall) : Type 0 where
   pub afresh : WaitAfresh (hostRun h calls)
   -- No timer is armed where no state names it, and so none in a finished call.
   pub quiet : QuietBytes (hostRun h calls)
+  -- CANCEL stays armed until the cancel is answered or the call ends.
+  pub stays : CancelStays (hostRun h calls)
+  -- The client's cancel number counts the cancels of its call.
+  pub counted : CancelNumberCounts (hostRun h calls)
+  -- The host is told cancels that were asked for,
+  pub asked : CancelsAsked (hostRun h calls)
+  -- each at most once in a run,
+  pub heard : CancelsOnce (hostRun h calls)
+  -- and every one that comes in time.
+  pub hears : CancelsTold (hostRun h calls)

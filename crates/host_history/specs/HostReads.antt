@@ -1,4 +1,5 @@
--- What a host reads in the bytes of a record: the state, the timers that are armed, and the call that is dispatched.
+-- What a host reads in the bytes of a record: the state, the timers that are armed, the cancel number, and the call
+-- that is dispatched; and in those of a datagram.
 use Prim.Native.Nat.{ℕ}
 use mathlib.Core.Bool.{Bool, true, false}
 use mathlib.Core.List.{List}
@@ -11,8 +12,8 @@ use Rattle.history.specs.World.{Dispatched, Side}
 use Rattle.host_history.specs.Hosts.{HostWorld, ClientTimer, HostCall, ServerArrive, ServerTransmit, ServerTimer, ServerReply, ServerFault, ToClient, ToServer}
 use Rattle.host_history.specs.HandedUp.{serverParts}
 
--- The state stands at 0. Of the client 2 is DISPATCHED, 3 RECEIVE_FRAGS, 4 ACK_PENDING, 5 COMPLETE, 6 FAULT; of the
--- server 0 to 2 are IDLE, 4 is RUNNING, 6 and 7 are HELD.
+-- The state stands at 0. Of the client 0 is QUEUED, 1 SEND_FRAGS, 2 DISPATCHED, 3 RECEIVE_FRAGS, 4 ACK_PENDING,
+-- 5 COMPLETE, 6 FAULT; of the server 0 to 2 are IDLE, 4 is RUNNING, 6 and 7 are HELD.
 abbrev pub stateByte : Side (List ℕ) → ℕ
 stateByte side = getD (side .machine) 0 0
 
@@ -23,31 +24,39 @@ InRunning server = stateByte server ≡ 4
 abbrev pub HasReply : Side (List ℕ) → Type 0
 HasReply client = (stateByte client ≡ 4) ⊎ (stateByte client ≡ 5)
 
--- The states that name a timer: WAIT in DISPATCHED and RECEIVE_FRAGS, ACK in ACK_PENDING, RESEND in HELD.
+-- The states that name a timer: WAIT in DISPATCHED and RECEIVE_FRAGS, ACK in ACK_PENDING, CANCEL in the three of an
+-- active call, SEND_FRAGS, DISPATCHED and RECEIVE_FRAGS, RESEND in HELD.
 abbrev pub NamesWait : ℕ → Type 0
 NamesWait state = (state ≡ 2) ⊎ (state ≡ 3)
 
 abbrev pub NamesAck : ℕ → Type 0
 NamesAck state = state ≡ 4
 
+abbrev pub NamesCancel : ℕ → Type 0
+NamesCancel state = (state ≡ 1) ⊎ ((state ≡ 2) ⊎ (state ≡ 3))
+
 abbrev pub NamesResend : ℕ → Type 0
 NamesResend state = (state ≡ 6) ⊎ (state ≡ 7)
 
--- The timers: the client's WAIT and ACK, the server's RESEND.
+-- The timers: the client's WAIT, ACK and CANCEL, the server's RESEND.
 pub data HostTimer : Type 0 where
   WaitTimer : HostTimer
   AckTimer : HostTimer
+  CancelTimer : HostTimer
   ResendTimer : HostTimer
 
--- Whether a timer is armed stands at 64, of ACK at 65; its ticket of eight bytes at 40, of ACK at 48.
+-- Whether a timer is armed stands at 64, of ACK at 65, of CANCEL at 66; its ticket of eight bytes at 40, of ACK at 48,
+-- of CANCEL at 56.
 unfoldable pub markByte : HostWorld → HostTimer → ℕ
 markByte h WaitTimer = getD (h .client .machine) 64 0
 markByte h AckTimer = getD (h .client .machine) 65 0
+markByte h CancelTimer = getD (h .client .machine) 66 0
 markByte h ResendTimer = getD (h .server .machine) 64 0
 
 unfoldable pub ticketBytes : HostWorld → HostTimer → ℕ
 ticketBytes h WaitTimer = numberAt 8 true (h .client .machine) 40
 ticketBytes h AckTimer = numberAt 8 true (h .client .machine) 48
+ticketBytes h CancelTimer = numberAt 8 true (h .client .machine) 56
 ticketBytes h ResendTimer = numberAt 8 true (h .server .machine) 40
 
 -- The bytes have that ticket armed.
@@ -55,11 +64,24 @@ pub record ArmedWith (h : HostWorld) (timer : HostTimer) (ticket : ℕ) : Type 0
   pub mark : markByte h timer ≡ 1
   pub same : ticketBytes h timer ≡ ticket
 
--- The call of a timer that ran out: kinds 1 and 2 of the client, 3 of the server.
+-- The call of a timer that ran out: kinds 1, 2 and 4 of the client, 3 of the server.
 unfoldable pub timerCall : HostTimer → ℕ → List ℕ → HostCall
 timerCall WaitTimer ticket out = ToClient (ClientTimer 1 ticket out)
 timerCall AckTimer ticket out = ToClient (ClientTimer 2 ticket out)
+timerCall CancelTimer ticket out = ToClient (ClientTimer 4 ticket out)
 timerCall ResendTimer ticket out = ToServer (ServerTimer 3 ticket out)
+
+-- The cancel number of four bytes stands at 68: of the client that of its last cancel, of the server the last seen.
+abbrev pub cancelNumber : Side (List ℕ) → ℕ
+cancelNumber side = numberAt 4 true (side .machine) 68
+
+-- Of a datagram its type stands at 1, and 16 at 4 where its sender is little-endian. A cancel and a cancel_ack have
+-- their cancel number of four bytes at 84, in the sender's order.
+abbrev pub typeByte : List ℕ → ℕ
+typeByte datagram = getD datagram 1 0
+
+abbrev pub numberCarried : List ℕ → ℕ
+numberCarried datagram = numberAt 4 (eqb (getD datagram 4 0) 16) datagram 84
 
 -- A dispatch is what a host reads of the server: the parts of the message, and the call data in the record's bytes.
 pub record ReadsDispatch (server : Side (List ℕ)) (d : Dispatched) : Type 0 where

@@ -10,11 +10,11 @@ use Rattle.server_record.specs.declared.Server.{Server}
 use Rattle.server_bytes.specs.Layout.{serverIn}
 use Rattle.answers.specs.declared.Answer.{Answer}
 use Rattle.calls.specs.declared.Call.{Call}
-use Rattle.history.specs.World.{Started, Replied, SentPdu, Side, Books, World}
+use Rattle.history.specs.World.{Started, Replied, Cancelled, SentPdu, Side, Books, World}
 use Rattle.history.specs.Events.{Lent}
-use Rattle.history.specs.Steps.{bytesLent, ownAfter, Turn, startedAfter, repliedAfter, lastDispatched, Subject, ofRecord, ofArrival, clientWorld, serverWorld}
+use Rattle.history.specs.Steps.{bytesLent, ownAfter, lastStart, Turn, startedAfter, cancelledAfter, repliedAfter, lastDispatched, Subject, ofRecord, ofArrival, clientWorld, serverWorld}
 use Rattle.morphelai.specs.Export.{Export}
-use Rattle.morphelai.specs.ClientDoor.{clientStart, clientTransmit, clientArrive, clientTimer}
+use Rattle.morphelai.specs.ClientDoor.{clientStart, clientTransmit, clientArrive, clientTimer, clientCancel}
 use Rattle.morphelai.specs.ServerDoor.{serverArrive, serverTransmit, serverTimer, serverReply, serverFault}
 use Rattle.host_history.specs.Results.{answerIn, noticeIn, sentIn}
 
@@ -35,12 +35,13 @@ worldOf h = record { client = sideOf clientIn (h .client); server = sideOf serve
 -- The calls of exported events, each with the very arguments that a host hands in beside the record: a start has
 -- idempotent, object, interface, version, operation and length, and beside them the message that it is for; a
 -- transmit the message lent and the PDU buffer; an arrival the datagram, with the start that it is of, the slot
--- buffer and the PDU buffer; a timer its kind, its ticket and the PDU buffer.
+-- buffer and the PDU buffer; a timer its kind, its ticket and the PDU buffer; a cancel the PDU buffer.
 pub data ClientCall : Type 0 where
   ClientStart : ℕ → List ℕ → List ℕ → ℕ → ℕ → ℕ → List ℕ → ClientCall
   ClientTransmit : List ℕ → List ℕ → ClientCall
   ClientArrive : SentPdu → Lent → List ℕ → ClientCall
   ClientTimer : ℕ → ℕ → List ℕ → ClientCall
+  ClientCancel : List ℕ → ClientCall
 
 -- A reply has a length and the message that it is for; a fault its status and the PDU buffer.
 pub data ServerCall : Type 0 where
@@ -61,6 +62,7 @@ clientExport c (ClientStart idempotent object interface version operation n mess
 clientExport c (ClientTransmit message out) = clientTransmit (c .machine) message out
 clientExport c (ClientArrive p lent out) = clientArrive (c .machine) (p .bytes) (bytesLent lent (c .slots)) out
 clientExport c (ClientTimer kind ticket out) = clientTimer (c .machine) kind ticket out
+clientExport c (ClientCancel out) = clientCancel (c .machine) out
 
 abbrev pub serverExport : Side (List ℕ) → ServerCall → Export
 serverExport s (ServerArrive p lent out) = serverArrive (s .machine) (p .bytes) (bytesLent lent (s .slots)) out
@@ -79,6 +81,7 @@ clientSlots c (ClientStart idempotent object interface version operation n messa
 clientSlots c (ClientTransmit message out) x = c .slots
 clientSlots c (ClientArrive p lent out) x = ownAfter lent (c .slots) (x .slots)
 clientSlots c (ClientTimer kind ticket out) x = c .slots
+clientSlots c (ClientCancel out) x = c .slots
 
 abbrev pub serverSlots : Side (List ℕ) → ServerCall → Export → List ℕ
 serverSlots s (ServerArrive p lent out) x = ownAfter lent (s .slots) (x .slots)
@@ -121,6 +124,15 @@ startsSeen before (ClientStart idempotent object interface version operation n m
 startsSeen before (ClientTransmit message out) t = before
 startsSeen before (ClientArrive p lent out) t = before
 startsSeen before (ClientTimer kind ticket out) t = before
+startsSeen before (ClientCancel out) t = before
+
+-- the cancels, of the start with that ordinal,
+abbrev pub cancelsSeen : List Cancelled → ClientCall → Turn Client → ℕ → List Cancelled
+cancelsSeen before (ClientStart idempotent object interface version operation n message) t ordinal = before
+cancelsSeen before (ClientTransmit message out) t ordinal = before
+cancelsSeen before (ClientArrive p lent out) t ordinal = before
+cancelsSeen before (ClientTimer kind ticket out) t ordinal = before
+cancelsSeen before (ClientCancel out) t ordinal = cancelledAfter before t ordinal
 
 -- the replies,
 abbrev pub repliesSeen : Books → ServerCall → Turn Server → List Replied
@@ -148,7 +160,9 @@ keeping client server w = record {
 
 -- What a host keeps after a call: the bytes that the export left, and what goes on record of the turn that it saw.
 abbrev pub afterClient : World → ClientCall → Turn Client → World
-afterClient w call t = clientWorld w t (startsSeen (w .books .starts) call t)
+afterClient w call t =
+    clientWorld w t (startsSeen (w .books .starts) call t)
+    (cancelsSeen (w .books .cancels) call t (lastStart (w .books .starts)))
 
 abbrev pub afterServer : World → ServerCall → Turn Server → World
 afterServer w call t = serverWorld w t (subjectSeen w call (t .answer)) (repliesSeen (w .books) call t)

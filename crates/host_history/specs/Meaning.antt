@@ -7,12 +7,12 @@ use lib.Dec.{eqb, leb}
 use lib.ListN.{length}
 use Rattle.words.specs.Choice.{choose, both}
 use Rattle.answers.specs.declared.Answer.the-variants.{Done}
-use Rattle.client_record.specs.declared.TimerKind.the-variants.{Wait, Ack}
+use Rattle.client_record.specs.declared.TimerKind.the-variants.{Wait, Ack, Cancel}
 use Rattle.record_bytes.specs.Fits.{Octets}
 use Rattle.client_bytes.specs.Canonical.{Canonical as ClientCanonical}
 use Rattle.server_bytes.specs.Canonical.{Canonical as ServerCanonical}
 use Rattle.history.specs.World.{World}
-use Rattle.history.specs.Events.{Event, Start, ClientTransmit as TransmitOfClient, ClientArrive as ArriveOfClient, ClientTimer as TimerOfClient, ServerArrive as ArriveOfServer, ServerTransmit as TransmitOfServer, ServerTimer as TimerOfServer, Reply, Fault, OfClient, OfServer}
+use Rattle.history.specs.Events.{Event, Start, ClientTransmit as TransmitOfClient, ClientArrive as ArriveOfClient, ClientTimer as TimerOfClient, ClientCancel as CancelOfClient, ServerArrive as ArriveOfServer, ServerTransmit as TransmitOfServer, ServerTimer as TimerOfServer, Reply, Fault, OfClient, OfServer}
 use Rattle.history.specs.Steps.{answerTo, noticeOf, leftIn}
 use Rattle.history.specs.Fairness.{Premise}
 use Rattle.history.specs.Freshness.{Unwritten}
@@ -21,7 +21,7 @@ use Rattle.morphelai.specs.ClientDoor.{clientFresh}
 use Rattle.morphelai.specs.ServerDoor.{serverFresh}
 use Rattle.host_history.specs.Arguments.{LentFits}
 use Rattle.host_history.specs.Results.{answerIn, noticeIn}
-use Rattle.host_history.specs.Hosts.{HostWorld, worldOf, ClientCall, ServerCall, HostCall, ClientStart, ClientTransmit, ClientArrive, ClientTimer, ServerArrive, ServerTransmit, ServerTimer, ServerReply, ServerFault, ToClient, ToServer, callGiven, exported, hostStep}
+use Rattle.host_history.specs.Hosts.{HostWorld, worldOf, ClientCall, ServerCall, HostCall, ClientStart, ClientTransmit, ClientArrive, ClientTimer, ClientCancel, ServerArrive, ServerTransmit, ServerTimer, ServerReply, ServerFault, ToClient, ToServer, callGiven, exported, hostStep}
 
 -- A start's arguments are those of an event where idempotent is 0 or 1 and its UUIDs have 16 bytes each.
 unfoldable pub startable : ℕ → List ℕ → List ℕ → Bool
@@ -39,7 +39,9 @@ meantToClient (ClientArrive p lent out) = OfClient (ArriveOfClient p lent out) �
 meantToClient (ClientTimer kind ticket out) =
     choose (eqb kind 1) (OfClient (TimerOfClient Wait ticket out) ∷ [])
     (choose (eqb kind 2) (OfClient (TimerOfClient Ack ticket out) ∷ [])
-    [])
+    (choose (eqb kind 4) (OfClient (TimerOfClient Cancel ticket out) ∷ [])
+    []))
+meantToClient (ClientCancel out) = OfClient (CancelOfClient out) ∷ []
 
 abbrev pub meantToServer : ServerCall → List Event
 meantToServer (ServerArrive p lent out) = OfServer (ArriveOfServer p lent out) ∷ []
@@ -66,6 +68,7 @@ ClientCallFits (ClientStart idempotent object interface version operation n mess
 ClientCallFits (ClientTransmit message out) = Octets message × Octets out
 ClientCallFits (ClientArrive p lent out) = Octets (p .bytes) × LentFits lent × Octets out
 ClientCallFits (ClientTimer kind ticket out) = (kind < 256) × (ticket < 18446744073709551616) × Octets out
+ClientCallFits (ClientCancel out) = Octets out
 
 abbrev pub ServerCallFits : ServerCall → Type 0
 ServerCallFits (ServerArrive p lent out) = Octets (p .bytes) × LentFits lent × Octets out

@@ -19,7 +19,7 @@ use Rattle.history.specs.World.{Side}
 use Rattle.history.specs.Steps.{bytesLent}
 use Rattle.morphelai.specs.Export.{Export, sized}
 use Rattle.host_history.specs.Results.{answerIn, noticeIn, sentIn}
-use Rattle.host_history.specs.Hosts.{HostWorld, ClientCall, ServerCall, HostCall, ClientStart, ClientTransmit, ClientArrive, ClientTimer, ServerArrive, ServerTransmit, ServerTimer, ServerReply, ServerFault, ToClient, ToServer}
+use Rattle.host_history.specs.Hosts.{HostWorld, ClientCall, ServerCall, HostCall, ClientStart, ClientTransmit, ClientArrive, ClientTimer, ClientCancel, ServerArrive, ServerTransmit, ServerTimer, ServerReply, ServerFault, ToClient, ToServer}
 use Rattle.host_history.specs.Meaning.{startable}
 
 -- The answer that a host reads is not 0.
@@ -42,6 +42,7 @@ clientLends c (ClientStart idempotent object interface version operation n messa
 clientLends c (ClientTransmit message out) = []
 clientLends c (ClientArrive p lent out) = bytesLent lent (c .slots)
 clientLends c (ClientTimer kind ticket out) = []
+clientLends c (ClientCancel out) = []
 
 abbrev pub serverLends : Side (List ℕ) → ServerCall → List ℕ
 serverLends s (ServerArrive p lent out) = bytesLent lent (s .slots)
@@ -56,6 +57,7 @@ clientBuffer (ClientStart idempotent object interface version operation n messag
 clientBuffer (ClientTransmit message out) = out
 clientBuffer (ClientArrive p lent out) = out
 clientBuffer (ClientTimer kind ticket out) = out
+clientBuffer (ClientCancel out) = out
 
 abbrev pub serverBuffer : ServerCall → List ℕ
 serverBuffer (ServerArrive p lent out) = out
@@ -98,6 +100,7 @@ clientSized c (ClientTransmit message out) = both (eqb (length out) pduSize) (me
 clientSized c (ClientArrive p lent out) =
     both (eqb (length (bytesLent lent (c .slots))) slotsSize) (eqb (length out) pduSize)
 clientSized c (ClientTimer kind ticket out) = eqb (length out) pduSize
+clientSized c (ClientCancel out) = eqb (length out) pduSize
 
 -- the server in state 5, REPLYING.
 abbrev pub serverSized : Side (List ℕ) → ServerCall → Bool

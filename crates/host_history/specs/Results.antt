@@ -6,7 +6,7 @@ use Rattle.words.specs.Choice.{choose}
 use Rattle.answers.specs.declared.Answer.{Answer}
 use Rattle.answers.specs.declared.Answer.the-variants.{Done, WrongLength, BrokenRecord, ShortDatagram, WrongVersion, UnknownType, UnknownRepresentation, Authenticated, WrongBodyLength, OtherActivity, WrongSide, MaybeOrBroadcast, WrongFragment, OldCall, MalformedBody, NoRow, Repeated, Contradiction, LateTimer, NumbersUsedUp, TicketsUsedUp}
 use Rattle.calls.specs.declared.Notice.{Notice}
-use Rattle.calls.specs.declared.Notice.the-variants.{Nothing as Untold, Last, Count, Fault, Reject, Cause, Dispatch}
+use Rattle.calls.specs.declared.Notice.the-variants.{Nothing as Untold, Last, Count, Fault, Reject, Cause, Dispatch, Cancel}
 use Rattle.calls.specs.declared.Sent.{Sent}
 use Rattle.calls.specs.declared.Sent.the-variants.{Nothing, Pdu}
 
@@ -36,7 +36,7 @@ answerAt number =
     (choose (eqb number 20) TicketsUsedUp
     BrokenRecord))))))))))))))))))))
 
--- The notice of that kind, with its value. A kind above 6 never comes (`notice-back`); it is read as nothing told.
+-- The notice of that kind, with its value. A kind above 7 never comes (`notice-back`); it is read as nothing told.
 unfoldable pub noticeAt : ℕ → ℕ → Notice
 noticeAt kind value =
     choose (eqb kind 0) Untold
@@ -46,7 +46,8 @@ noticeAt kind value =
     (choose (eqb kind 4) (Reject value)
     (choose (eqb kind 5) (Cause value)
     (choose (eqb kind 6) Dispatch
-    Untold))))))
+    (choose (eqb kind 7) Cancel
+    Untold)))))))
 
 -- A PDU of that length; none where it is 0.
 unfoldable pub sentAt : ℕ → Sent

@@ -52,12 +52,12 @@ reads = tt
 -- The client's start and timers.
 unfoldable pub clientEvents : Unit {0}
 unfolding shared
-    ClientStates.mayStart ClientStates.isQueued ClientStates.isWaiting ClientStates.isAckPending
+    ClientStates.mayStart ClientStates.isQueued ClientStates.isActive ClientStates.isWaiting ClientStates.isAckPending
     ClientRules.countsSound ClientRules.messageRule ClientRules.outgoingSound ClientRules.timersSound ClientRules.sound
     ClientRecord.fresh ClientRecord.withOutgoing
     ClientLocal.startGround ClientArming.namedTimer ClientArming.namedBy ClientArming.pings ClientLocal.timerGround
-    ClientPlan.refused ClientPlan.accepted
-    ClientRows.startPlan ClientRows.waitPlan ClientRows.ackPlan ClientRows.timerRow ClientRows.timerPlan
+    ClientPlan.refused ClientPlan.accepted ClientPlan.failed
+    ClientRows.startPlan ClientRows.waitPlan ClientRows.ackPlan ClientRows.cancelTimerPlan ClientRows.timerRow ClientRows.timerPlan
     ClientMachine.outcomeOf ClientMachine.starting ClientMachine.sending ClientMachine.timing
 clientEvents = tt
 

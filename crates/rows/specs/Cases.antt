@@ -9,11 +9,11 @@ use Rattle.facks.specs.Mask.{lastContiguous, maskOf}
 use Rattle.outgoing.specs.Message.{fragments}
 use Rattle.outgoing.specs.Sending.{nextSerial}
 use Rattle.calls.specs.Sent.{blankCall}
-use Rattle.client_record.specs.declared.TimerKind.the-variants.{Wait, Ack}
+use Rattle.client_record.specs.declared.TimerKind.the-variants.{Wait, Ack, Cancel}
 use Rattle.client.specs.Machine.{starting, timing as clientTiming}
 use Rattle.server.specs.Machine.{replying, timing as serverTiming}
 use Rattle.rows.specs.Datagrams.{zeros}
-use Rattle.rows.specs.Records.{holding, client, dispatched, ackPending, running, held}
+use Rattle.rows.specs.Records.{holding, client, dispatched, ackPending, cancelled, running, held}
 
 -- What is handed in.
 pub data Case : Type 0 where
@@ -31,6 +31,7 @@ pub data Case : Type 0 where
   -- The ticket that the timer is armed with, and the event's: the answer of the timer event.
   WaitTimer : ℕ → ℕ → Case
   AckTimer : ℕ → ℕ → Case
+  CancelTimer : ℕ → ℕ → Case
   ResendTimer : ℕ → ℕ → Case
 
 -- What is given back.
@@ -54,4 +55,5 @@ given (Start length) = Answer (numberOf (starting client blankCall length .answe
 given (Reply length) = Answer (numberOf (replying running length .answer))
 given (WaitTimer armed ticket) = Answer (numberOf (clientTiming (dispatched armed) Wait ticket (zeros pduSize) .outcome .answer))
 given (AckTimer armed ticket) = Answer (numberOf (clientTiming (ackPending armed) Ack ticket (zeros pduSize) .outcome .answer))
+given (CancelTimer armed ticket) = Answer (numberOf (clientTiming (cancelled armed) Cancel ticket (zeros pduSize) .outcome .answer))
 given (ResendTimer armed ticket) = Answer (numberOf (serverTiming (held armed) ticket (zeros pduSize) .outcome .answer))

@@ -9,7 +9,7 @@ use Rattle.outgoing.specs.declared.Outgoing.{Outgoing}
 use Rattle.outgoing.specs.Sending.{started, afterSend}
 use Rattle.timers.specs.declared.Timer.the-variants.{Off, Armed}
 use Rattle.client_record.specs.declared.Client.{Client}
-use Rattle.client_record.specs.declared.State.the-variants.{Dispatched, AckPending}
+use Rattle.client_record.specs.declared.State.the-variants.{SendFrags, Dispatched, AckPending}
 use Rattle.client_record.specs.Record.{fresh as freshClient, timed as timedClient, withOutgoing as clientWith}
 use Rattle.server_record.specs.declared.Server.{Server}
 use Rattle.server_record.specs.declared.Reply.the-variants.{Data}
@@ -35,11 +35,15 @@ server = freshServer (zeros 16) 0 0
 
 -- The client has sent its request: DISPATCHED, WAIT armed with the ticket.
 abbrev pub dispatched : ℕ → Client
-dispatched ticket = timedClient (clientWith client sent) Dispatched ticket (Armed ticket) Off
+dispatched ticket = timedClient (clientWith client sent) Dispatched ticket (Armed ticket) Off Off
 
 -- The client has the reply: ACK_PENDING, ACK armed with the ticket.
 abbrev pub ackPending : ℕ → Client
-ackPending ticket = timedClient (clientWith client sent) AckPending ticket Off (Armed ticket)
+ackPending ticket = timedClient (clientWith client sent) AckPending ticket Off (Armed ticket) Off
+
+-- The client has cancelled a call whose request it still sends: SEND_FRAGS, CANCEL armed with the ticket.
+abbrev pub cancelled : ℕ → Client
+cancelled ticket = timedClient (clientWith client (started 0)) SendFrags ticket Off Off (Armed ticket)
 
 -- The server runs a call: RUNNING.
 abbrev pub running : Server

@@ -3,7 +3,7 @@ use mathlib.Core.List.{List, [], _∷_, List·Memᴰ}
 use mathlib.Core.Path.{_≡_}
 use Rattle.words.specs.Sizes.{headerSize, bodySize, pduSize, messageSize}
 use Rattle.rows.specs.Datagrams.{zeros, datagram, version, kind, representation, serialHigh, serialLow, bodyLength}
-use Rattle.rows.specs.Cases.{Case, Read, SerialOf, SerialAfter, Held, Message, Start, Reply, WaitTimer, AckTimer, ResendTimer, Given, Answer, Serial, Fragments, Fack, given}
+use Rattle.rows.specs.Cases.{Case, Read, SerialOf, SerialAfter, Held, Message, Start, Reply, WaitTimer, AckTimer, CancelTimer, ResendTimer, Given, Answer, Serial, Fragments, Fack, given}
 
 -- A case, and the answer that it must have.
 pub record Row : Type 0 where
@@ -33,6 +33,7 @@ rows =
     ∷ Reply 44545 gives Answer 1
     ∷ WaitTimer 7 6 gives Answer 18
     ∷ AckTimer 7 6 gives Answer 18
+    ∷ CancelTimer 7 6 gives Answer 18
     ∷ ResendTimer 7 6 gives Answer 18
     -- Not marked: what lies next to a refusal is taken.
     ∷ Read (datagram headerSize (version 4 ∷ kind 10 ∷ [])) gives Answer 0
@@ -41,6 +42,7 @@ rows =
     ∷ Reply messageSize gives Answer 0
     ∷ WaitTimer 7 7 gives Answer 0
     ∷ AckTimer 7 7 gives Answer 0
+    ∷ CancelTimer 7 7 gives Answer 0
     ∷ ResendTimer 7 7 gives Answer 0
     ∷ []
 

@@ -1,4 +1,4 @@
--- Both runs are computed to their end.
+-- The runs are computed to their end.
 pub mod Opened
 pub mod Stories
 pub mod Fragments
@@ -7,4 +7,5 @@ pub mod ServerTurns
 pub mod Sides
 pub mod Lossy
 pub mod Twice
+pub mod Stopped
 pub mod RunsHold

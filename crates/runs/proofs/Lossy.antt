@@ -1,12 +1,13 @@
 -- The first run, event by event.
 use Prim.Native.Nat.{ℕ, _<_, _≤_}
-use mathlib.Core.List.{List, [], _∷_}
+use mathlib.Core.List.{List, [], _∷_, _++_}
 use mathlib.Core.Path.{_≡_, refl, _∙_}
 use native.Mathlib.Omega.{arith}
 use lib.ListN.{length, take}
 use Rattle.words.specs.Number.{number}
 use Rattle.words.specs.Sizes.{bodySize, pduSize, slotsSize}
 use Rattle.bodies.specs.Fack.{fackBytes, fackSent}
+use Rattle.calls.specs.declared.Notice.the-variants.{Count, Last, Dispatch as DispatchTold}
 use Rattle.calls.specs.Sent.{sentHeader}
 use Rattle.incoming.specs.declared.Last.the-variants.{Unknown, At}
 use Rattle.incoming.specs.declared.Incoming.{Incoming}
@@ -32,7 +33,7 @@ use Rattle.server_record.specs.declared.State.the-variants.{Idle, Collect, Runn
 use Rattle.server_record.specs.Rules.{sound as serverSound}
 use Rattle.server.specs.HandUp.{handsUp as serverHandsUp}
 use Rattle.history.specs.Fairness.{Typed}
-use Rattle.runs.specs.Runs.{before, activity, called, asked, askedAgain, answered, answeredAgain, closed, lossy, lossyClientPdus, lossyServerPdus}
+use Rattle.runs.specs.Runs.{before, activity, called, asked, askedAgain, answered, answeredAgain, closed, lossy, lossyNotices, lossyClientPdus, lossyServerPdus, untold}
 use Rattle.history.proofs.Holding.{cleared-empty, empty-holding, holding-whole}
 use Rattle.history.proofs.Network.{Uuids}
 use Rattle.runs.proofs.Opened.{opened}
@@ -285,10 +286,10 @@ module _ (message reply clientSlots serverSlots out : List ℕ) (asks : length m
   reply-whole = hands-joined (k15 .machine) u3 refl ∙ reply-joined
 
   -- The story, stage by stage.
-  plays-asked : Plays (world k0 s0 b0) (asked message reply out) (world k5 (s2 bodySize) b1)
+  plays-asked : Plays (world k0 s0 b0) (asked message reply out) (untold 9) (world k5 (s2 bodySize) b1)
   unfolding opened fackBytes number
   plays-asked =
-      then {next = world k1 s0 b1} (record { answered = refl; leaves = refl }) (record { typed = typed; whole = asks })
+      then {next = world k1 s0 b1} (record { answered = refl; tells = refl; leaves = refl }) (record { typed = typed; whole = asks })
       (then {next = world k2 s0 b1} (client-transmits _ out room message 2785 asks uuids) refl
       (then {next = world k3 s0 b1} (client-transmits _ out room message 2785 asks uuids) refl
       (then {next = world k4 s0 b1} (client-transmits _ out room message 2785 asks uuids) refl
@@ -303,7 +304,8 @@ module _ (message reply clientSlots serverSlots out : List ℕ) (asks : length m
       (then {next = world k5 (s2 bodySize) b1} (client-arrives _ out room (fack-came 7 0 65535 4 3 (omega arith)) clientRoom uuids) (came 0 refl)
       over))))))))
 
-  plays-asked-again : Plays (world k5 (s2 bodySize) b1) (askedAgain message reply out) (world k10 s5 (b2 message))
+  plays-asked-again : Plays (world k5 (s2 bodySize) b1) (askedAgain message reply out) (untold 6 ++ (DispatchTold ∷ untold 2))
+      (world k10 s5 (b2 message))
   unfolding opened
   plays-asked-again =
       then {next = world k6 (s2 bodySize) b1} (client-times _ out room Wait 6 uuids) tt
@@ -320,10 +322,11 @@ module _ (message reply clientSlots serverSlots out : List ℕ) (asks : length m
       (then {next = world k10 s5 (b2 message)} (client-arrives _ out room (empty-came 7 4 0 (omega arith)) clientRoom uuids) (came 4 refl)
       over))))))))
 
-  plays-answered : Plays (world k10 s5 (b2 message)) (answered message reply out) (world k13 s10 b3)
+  plays-answered : Plays (world k10 s5 (b2 message)) (answered message reply out) (untold 4 ++ (Count 0 ∷ Count 2 ∷ untold 2))
+      (world k13 s10 b3)
   unfolding opened fackBytes number
   plays-answered =
-      then {next = world k10 s6 b3} (record { answered = refl; leaves = refl }) replies
+      then {next = world k10 s6 b3} (record { answered = refl; tells = refl; leaves = refl }) replies
       (then {next = world k10 s7 b3} (server-transmits _ out room reply 2786 replies uuids) refl
       (then {next = world k10 s8 b3} (server-transmits _ out room reply 2786 replies uuids) refl
       (then {next = world k10 s9 b3} (server-transmits _ out room reply 2786 replies uuids) refl
@@ -337,7 +340,8 @@ module _ (message reply clientSlots serverSlots out : List ℕ) (asks : length m
       (then {next = world k13 s10 b3} (client-times _ out room Wait 11 uuids) tt
       over)))))))
 
-  plays-answered-again : Plays (world k13 s10 b3) (answeredAgain message reply out) (world (k14 2) s12 (b4 reply))
+  plays-answered-again : Plays (world k13 s10 b3) (answeredAgain message reply out) (untold 6 ++ (Last ∷ []))
+      (world (k14 2) s12 (b4 reply))
   unfolding opened fackBytes number
   plays-answered-again =
       then {next = world k13 s11 b3} (server-arrives _ out room (empty-came 0 1 7 (omega arith)) v3-long uuids) (came 8 refl)
@@ -345,14 +349,14 @@ module _ (message reply clientSlots serverSlots out : List ℕ) (asks : length m
       (refused {next = world k13 s12 b3} (server-times _ out room 101 uuids) refl
       (then {next = world k13 s12 b3} (server-arrives _ out room (fack-came 0 6 65535 2 2 (omega arith)) v3-long uuids) (came 6 refl)
       (refused {next = world k13 s12 b3} (client-arrives _ out room (fragment-came 7 2 reply 0 1 (omega arith)) u2-long uuids) refl
-      (refused {next = world k13 s12 b3} (record { answered = refl; leaves = refl }) refl
+      (refused {next = world k13 s12 b3} (record { answered = refl; tells = refl; leaves = refl }) refl
       (then {next = world (k14 2) s12 (b4 reply)}
       (told (λ (bytes : List ℕ). world (k14 2) s12 (b4 bytes)) reply-told
       (told (λ (n : ℕ). world (k14 n) s12 (b4 (clientHandsUp (k14 n .machine) u3))) (kept reply 2786 2 replies)
       (client-arrives _ out room (fragment-came 7 2 reply 2 4 (omega arith)) u2-long uuids))) (came 8 refl)
       over))))))
 
-  plays-closed : Plays (world (k14 2) s12 (b4 reply)) (closed message reply out) (world k15 s13 (b4 reply))
+  plays-closed : Plays (world (k14 2) s12 (b4 reply)) (closed message reply out) (untold 5) (world k15 s13 (b4 reply))
   unfolding opened fackBytes number
   plays-closed =
       then {next = world k15 s12 (b4 reply)} (client-times _ out room Ack 13 uuids) tt
@@ -362,7 +366,7 @@ module _ (message reply clientSlots serverSlots out : List ℕ) (asks : length m
       (refused {next = world k15 s13 (b4 reply)} (client-arrives _ out room (fragment-came 7 2 reply 1 2 (omega arith)) u3-long uuids) refl
       over))))
 
-  pub plays-lossy : Plays (before clientSlots serverSlots) (lossy message reply out) (world k15 s13 (b4 reply))
+  pub plays-lossy : Plays (before clientSlots serverSlots) (lossy message reply out) lossyNotices (world k15 s13 (b4 reply))
   plays-lossy =
       joined (asked message reply out) _ plays-asked
       (joined (askedAgain message reply out) _ plays-asked-again

@@ -2,6 +2,8 @@
 use Rattle.words.specs.Choice
 use Rattle.flags.specs.Flags
 use Rattle.bodies.specs.Fack as FackBody
+use Rattle.bodies.specs.Cancel as CancelBody
+use Rattle.bodies.specs.Status as StatusBody
 use Rattle.incoming.specs.Slots
 use Rattle.outgoing.specs.Message
 use Rattle.outgoing.specs.Sending
@@ -13,6 +15,7 @@ use Rattle.grounds.specs.Order
 use Rattle.grounds.specs.Entry
 use Rattle.grounds.specs.Fragment
 use Rattle.grounds.specs.Fack
+use Rattle.grounds.specs.Cancel
 use Rattle.grounds.specs.Timing
 use Rattle.calls.specs.Sent
 use Rattle.client_record.specs.States as ClientStates
@@ -48,9 +51,12 @@ use Rattle.history.specs.Steps
 
 -- What both sides judge by.
 unfoldable pub shared : Unit {0}
-unfolding Choice.choose Choice.both Choice.either
+unfolding Choice.choose Choice.both Choice.either Choice.markOf
     Flags.hasFlag Flags.withFlag
     FackBody.fackGround FackBody.fackBy FackBody.fackReading
+    CancelBody.cancelFormed CancelBody.cancelWhere CancelBody.cancelReading
+    CancelBody.cancelAckFormed CancelBody.cancelAckWhere CancelBody.cancelAckReading
+    StatusBody.statusReading
     Slots.slotSound Slots.sound Slots.contiguous Slots.complete Slots.cleared Slots.slotsWith Slots.lastWith Slots.stored
     Message.fragments Message.flagsOf
     Sending.nextSerial Sending.oneMore Sending.afterSend Sending.sendsLast Sending.afterPing Sending.acknowledgedTo Sending.firstToSend
@@ -58,12 +64,13 @@ unfolding Choice.choose Choice.both Choice.either
     Sending.hasNothing
     Judgement.held Judgement.heldAbove Judgement.aboveLast Judgement.otherLast Judgement.lastBelowHeld Judgement.contradicts
     Buffer.storing
-    Tickets.usedUp Tickets.nextTicket Tickets.armedAfresh Tickets.armedWith Tickets.off Tickets.sound Tickets.timerSound
+    Tickets.usedUp Tickets.nextTicket Tickets.armedAfresh Tickets.armedIfOff Tickets.ticketsIfOff Tickets.armedWith Tickets.off Tickets.sound Tickets.timerSound
     Mask.lastContiguous Mask.maskOf
     Order.first Order.refuseIf Order.groundOf
     Entry.lentGround Entry.sameMessage Entry.transmitLent Entry.entryGround
     Fragment.isLast Fragment.wantsFack Fragment.fragmentGround Fragment.putGround
-    Fack.acknowledgedBy Fack.fackCountGround Fack.fackBodyGround
+    Fack.acknowledgedBy Fack.fackCountGround Fack.fackBodyGround Fack.statusBodyGround
+    Cancel.cancelBodyGround Cancel.cancelAckBodyGround
     Timing.lateGround Timing.ticketGround
     Sent.sentHeader
 shared = tt
@@ -73,18 +80,22 @@ unfoldable pub clientTables : Unit {0}
 unfolding ClientStates.mayStart ClientStates.isQueued ClientStates.isSending ClientStates.isActive ClientStates.isDispatched
     ClientStates.isWaiting ClientStates.isAckPending
     ClientRules.countsSound ClientRules.messageRule ClientRules.outgoingSound ClientRules.timersSound ClientRules.sound
-    ClientRecord.fresh ClientRecord.waiting ClientRecord.ackPending ClientRecord.unarmed
-    ClientRecord.withOutgoing ClientRecord.withWaits ClientRecord.withIncoming ClientRecord.withResends
+    ClientRecord.fresh ClientRecord.waiting ClientRecord.sending ClientRecord.ackPending ClientRecord.unarmed ClientRecord.cancelArmed
+    ClientRecord.cancelDisarmed ClientRecord.withOutgoing ClientRecord.withWaits ClientRecord.withIncoming ClientRecord.withResends
+    ClientRecord.withCancels
     ClientEvents.serverEvent ClientEvents.eventOf ClientEvents.byEvent ClientEvents.sideGround ClientEvents.hasRow ClientEvents.arms
-    ClientArrival.numberGround ClientArrival.pduGround ClientArrival.completes ClientArrival.rowGround ClientArrival.tableGround
+    ClientArrival.numberGround ClientArrival.isCurrent ClientArrival.pduGround ClientArrival.completes ClientArrival.rowGround ClientArrival.tableGround
     ClientArrival.arrivalGround
     ClientLocal.startGround ClientLocal.transmitGround ClientArming.namedTimer ClientArming.namedBy ClientArming.pings ClientLocal.timerGround
-    ClientPlan.refused ClientPlan.accepted
+    ClientLocal.mayCancel ClientLocal.cancelGround
+    ClientPlan.refused ClientPlan.accepted ClientPlan.failed
     ClientRows.nextNumber ClientRows.started ClientRows.startPlan ClientRows.transmitted ClientRows.transmitPlan ClientRows.pinged
-    ClientRows.waitPlan ClientRows.ackPlan ClientRows.timerRow ClientRows.timerPlan
+    ClientRows.waitPlan ClientRows.ackPlan ClientRows.cancelTimerPlan ClientRows.timerRow ClientRows.timerPlan ClientRows.cancelled
+    ClientRows.cancelPlan
     ClientArrivalRows.acknowledged ClientArrivalRows.fackPlan ClientArrivalRows.putRecord
     ClientArrivalRows.putNotice ClientArrivalRows.fackFor ClientArrivalRows.putPlan
     ClientArrivalRows.responsePlan ClientArrivalRows.workingPlan ClientArrivalRows.resent ClientArrivalRows.nocallPlan
+    ClientArrivalRows.cancelAckPlan
     ClientArrivalTable.arrivalRow ClientArrivalTable.arrivalPlan
 clientTables = tt
 
@@ -93,21 +104,23 @@ unfoldable pub serverTables : Unit {0}
 unfolding ServerStates.neverCalled ServerStates.isFresh ServerStates.isRunning ServerStates.isReplying ServerStates.isHeld
     ServerRules.idleRule ServerRules.heldRule ServerRules.messageRule ServerRules.outgoingSound ServerRules.sound
     ServerRecord.fresh ServerRecord.holding ServerRecord.unarmed
-    ServerRecord.withOutgoing ServerRecord.withIncoming
+    ServerRecord.withOutgoing ServerRecord.withIncoming ServerRecord.withSeen
     ServerEvents.clientEvent ServerEvents.eventOf ServerEventGrounds.byEvent ServerEventGrounds.sideGround
     ServerTable.orderBy ServerTable.orderOf ServerTable.requestNewer ServerTable.requestAgain ServerTable.requestIdle ServerTable.requestEqual ServerTable.requestRow
     ServerTable.pingEqual ServerTable.pingRow ServerTable.whereReplied ServerTable.acknowledgementRow ServerTable.finishRow ServerTable.fackRow ServerTable.ackRow
-    ServerTable.rowOf
+    ServerTable.cancelEqual ServerTable.cancelRow ServerTable.rowOf
     ServerArrival.requestGround ServerArrival.oldGround ServerArrival.rowGround ServerArrival.agree ServerArrival.sameCall
     ServerArrival.callGround ServerArrival.contradictionGround ServerArrival.slotGround ServerArrival.pduGround ServerArrival.tableGround ServerRowFor.orderFor
     ServerRowFor.rowFor ServerArrival.arrivalGround
     ServerArming.runsAgain ServerArming.armsResend ServerLocal.transmitGround ServerLocal.timerGround ServerLocal.replyGround
+    ServerLocal.faultGround
     ServerPlan.refused ServerPlan.accepted
-    ServerRows.answered ServerRows.replyPlan ServerRows.settled ServerRows.transmitted ServerRows.transmitPlan ServerRows.rewinding
+    ServerRows.answered ServerRows.replyPlan ServerRows.settled ServerRows.transmitted ServerRows.transmitPlan ServerRows.faultPlan ServerRows.rewinding
     ServerRows.replayHeld ServerRows.replayPlan ServerRows.timerPlan
     ServerArrivalRows.callOf ServerArrivalRows.begun ServerArrivalRows.putState ServerArrivalRows.putNotice
     ServerArrivalRows.fackFor ServerArrivalRows.putPlan ServerArrivalRows.requestPlan ServerArrivalRows.beginPlan
     ServerArrivalRows.workingPlan ServerArrivalRows.nocallPlan ServerArrivalRows.fackPlan ServerArrivalRows.ackPlan
+    ServerArrivalRows.declinePlan ServerArrivalRows.heardPlan ServerArrivalRows.acceptPlan
     ServerArrivalTable.arrivalRow ServerArrivalTable.arrivalPlan
 serverTables = tt
 
@@ -118,5 +131,5 @@ unfolding shared clientTables serverTables
     ClientMachine.outcomeOf ClientMachine.sending ClientMachine.starting ClientMachine.planOf ClientMachine.acted ClientMachine.arriving
     ServerSending.replyHeader ServerSending.echoed ServerSending.echoHeader
     ServerMachine.outcomeOf ServerMachine.replying ServerMachine.planOf
-    Steps.bytesLent Steps.ownAfter Steps.sentAfter Steps.dispatchesAfter Steps.completionsAfter Steps.happens Steps.step Steps.answerTo
+    Steps.bytesLent Steps.ownAfter Steps.sentAfter Steps.dispatchesAfter Steps.completionsAfter Steps.heardAfter Steps.happens Steps.step Steps.answerTo Steps.noticeOf
 opened = tt

@@ -1,22 +1,26 @@
--- The three runs, proved: each starts fresh, keeps every premise, and ends as document 01 says.
+-- The runs, proved: each starts fresh, keeps every premise, and ends as documents 01 and 02 say.
 use Prim.Native.Nat.{ℕ}
 use mathlib.Core.List.{List, [], _∷_}
 use mathlib.Core.Path.{_≡_, refl, ap, _∙_}
 use native.Mathlib.Omega.{arith}
 use lib.ListN.{length, length-replicate}
 use Rattle.words.specs.Sizes.{pduSize, slotsSize}
-use Rattle.client_record.specs.declared.State.the-variants.{AckPending, Complete}
+use Rattle.calls.specs.declared.Notice.{Notice}
+use Rattle.timers.specs.declared.Timer.the-variants.{Off, Armed}
+use Rattle.client_record.specs.declared.State.the-variants.{AckPending, Complete, Fault}
 use Rattle.server_record.specs.declared.Idle.the-variants.{Spent, Repeatable}
-use Rattle.server_record.specs.declared.Reply.the-variants.{Data}
-use Rattle.server_record.specs.declared.State.the-variants.{Idle, Held}
+use Rattle.server_record.specs.declared.Reply.the-variants.{Data, Fault as FaultReply}
+use Rattle.server_record.specs.declared.State.the-variants.{Idle, Running, Held}
 use Rattle.history.specs.World.{World}
 use Rattle.history.specs.Freshness.{Fresh}
 use Rattle.history.specs.Claim.{replyHandedUp}
 use Rattle.history.proofs.Beginning.{client-record-fresh, server-record-fresh}
-use Rattle.runs.specs.Runs.{Story, Ran, activity, called, asking, before, lossy, lossyClientPdus, lossyServerPdus, twice, twiceClientPdus, twiceServerPdus, twiceAndNext, twiceAndNextClientPdus, twiceAndNextServerPdus, question, secondReply, nextReply, exampleMessage, exampleReply, zeros}
+use Rattle.runs.specs.Runs.{Story, Ran, Told, timersIn, activity, called, asking, before, lossy, lossyNotices, lossyClientPdus, lossyServerPdus, twice, twiceNotices, twiceClientPdus, twiceServerPdus, twiceAndNext, twiceAndNextNotices, twiceAndNextClientPdus, twiceAndNextServerPdus, question, secondReply, nextReply, exampleMessage, exampleReply, zeros}
+use Rattle.runs.specs.Stops.{stopped, unanswered, stoppedNotices, unansweredNotices, stopClientPdus, stoppedServerPdus, unansweredServerPdus, stopCancels, toldOf}
 use Rattle.runs.proofs.Stories.{Plays}
 use Rattle.runs.proofs.Lossy.{reply-whole as lossy-reply, plays-lossy}
 use Rattle.runs.proofs.Twice.{reply-whole as twice-reply, plays-twice, next-reply, plays-twice-and-next}
+use Rattle.runs.proofs.Stopped.{nothing-whole, plays-stopped, plays-unanswered}
 
 -- The world before a run is fresh.
 before-fresh : (clientSlots serverSlots : List ℕ) → Fresh (before clientSlots serverSlots)
@@ -25,11 +29,11 @@ before-fresh clientSlots serverSlots = record {
   server = server-record-fresh activity 7 100 refl (omega arith);
   client-unsent = refl;
   server-unsent = refl;
-  books = record { starts = refl; dispatches = refl; replies = refl; completions = refl };
+  books = record { starts = refl; dispatches = refl; replies = refl; completions = refl; cancels = refl; heard = refl };
 }
 
 -- What a story that was played shows.
-ran : {w after : World} {story : Story} {handed : List ℕ} → Fresh w → Plays w story after → replyHandedUp after ≡ handed
+ran : {w after : World} {story : Story} {notices : List Notice} {handed : List ℕ} → Fresh w → Plays w story notices after → replyHandedUp after ≡ handed
     → Ran w story (after .client .sent) (after .server .sent) (after .client .machine .state) (after .server .machine .state)
     (after .books .dispatches) (after .books .completions) handed
 ran fresh plays handed = record {
@@ -45,6 +49,15 @@ ran fresh plays handed = record {
   hands-up = ap replyHandedUp (plays .ends) ∙ handed;
 }
 
+shown : {w after : World} {story : Story} {notices : List Notice} → Plays w story notices after
+    → Told w story notices (timersIn after) (after .books .cancels) (after .books .heard)
+shown plays = record {
+  tells = plays .tells;
+  leaves-armed = ap timersIn (plays .ends);
+  cancelled = ap (λ (v : World). v .books .cancels) (plays .ends);
+  hears = ap (λ (v : World). v .books .heard) (plays .ends);
+}
+
 -- The first, for every request of 2,785 bytes and every reply of 2,786: the call is COMPLETE and the server spent,
 -- there is one dispatch, of the whole request, and the client hands up the whole reply.
 pub lossy-ran : (message reply clientSlots serverSlots out : List ℕ) → length message ≡ 2785 → length reply ≡ 2786 → length clientSlots ≡ slotsSize
@@ -54,6 +67,13 @@ pub lossy-ran : (message reply clientSlots serverSlots out : List ℕ) → lengt
 lossy-ran message reply clientSlots serverSlots out asks replies clientRoom serverRoom room =
     ran (before-fresh clientSlots serverSlots) (plays-lossy message reply clientSlots serverSlots out asks replies clientRoom serverRoom room)
     (lossy-reply message reply clientSlots serverSlots out asks replies clientRoom serverRoom room)
+
+-- The stubs are told of it once and nothing is left armed.
+pub lossy-told : (message reply clientSlots serverSlots out : List ℕ) → length message ≡ 2785 → length reply ≡ 2786 → length clientSlots ≡ slotsSize
+    → length serverSlots ≡ slotsSize → length out ≡ pduSize
+    → Told (before clientSlots serverSlots) (lossy message reply out) lossyNotices (Off ∷ Off ∷ Off ∷ Off ∷ []) [] []
+lossy-told message reply clientSlots serverSlots out asks replies clientRoom serverRoom room =
+    shown (plays-lossy message reply clientSlots serverSlots out asks replies clientRoom serverRoom room)
 
 -- So it is of the bytes written out.
 zeros-long : (n : ℕ) → length (zeros n) ≡ n
@@ -89,3 +109,39 @@ pub twice-and-next-ran : (clientSlots serverSlots out : List ℕ) → length cli
 twice-and-next-ran clientSlots serverSlots out clientRoom serverRoom room =
     ran (before-fresh clientSlots serverSlots) (plays-twice-and-next clientSlots serverSlots out clientRoom serverRoom room)
     (next-reply clientSlots serverSlots out clientRoom serverRoom room)
+
+-- What the stubs are told in both: RESEND of the second call is left armed, and its ACK.
+pub twice-and-next-told : (clientSlots serverSlots out : List ℕ) → length clientSlots ≡ slotsSize → length serverSlots ≡ slotsSize → length out ≡ pduSize
+    → Told (before clientSlots serverSlots) (twiceAndNext out) twiceAndNextNotices (Off ∷ Armed 10 ∷ Off ∷ Armed 101 ∷ []) [] []
+twice-and-next-told clientSlots serverSlots out clientRoom serverRoom room =
+    shown (plays-twice-and-next clientSlots serverSlots out clientRoom serverRoom room)
+
+-- The fourth: the call is dispatched once and never complete, the client is in FAULT and hands nothing up, and the server
+-- holds the fault.
+pub stopped-ran : (clientSlots serverSlots out : List ℕ) → length clientSlots ≡ slotsSize → length serverSlots ≡ slotsSize → length out ≡ pduSize
+    → Ran (before clientSlots serverSlots) (stopped out) stopClientPdus stoppedServerPdus Fault (Held (FaultReply 23))
+    (record { ordinal = 0; number = 0; call = called; bytes = question } ∷ []) [] []
+stopped-ran clientSlots serverSlots out clientRoom serverRoom room =
+    ran (before-fresh clientSlots serverSlots) (plays-stopped clientSlots serverSlots out clientRoom serverRoom room)
+    (nothing-whole clientSlots serverSlots out clientRoom serverRoom room)
+
+-- Of both local cancels the stub is told, of each once, though the first came twice and the second late again; only RESEND is
+-- left armed.
+pub stopped-told : (clientSlots serverSlots out : List ℕ) → length clientSlots ≡ slotsSize → length serverSlots ≡ slotsSize → length out ≡ pduSize
+    → Told (before clientSlots serverSlots) (stopped out) stoppedNotices (Off ∷ Off ∷ Off ∷ Armed 101 ∷ []) stopCancels
+    (toldOf 1 ∷ toldOf 2 ∷ [])
+stopped-told clientSlots serverSlots out clientRoom serverRoom room = shown (plays-stopped clientSlots serverSlots out clientRoom serverRoom room)
+
+-- The fifth: the client is in FAULT, while the server runs the call.
+pub unanswered-ran : (clientSlots serverSlots out : List ℕ) → length clientSlots ≡ slotsSize → length serverSlots ≡ slotsSize → length out ≡ pduSize
+    → Ran (before clientSlots serverSlots) (unanswered out) stopClientPdus unansweredServerPdus Fault Running
+    (record { ordinal = 0; number = 0; call = called; bytes = question } ∷ []) [] []
+unanswered-ran clientSlots serverSlots out clientRoom serverRoom room =
+    ran (before-fresh clientSlots serverSlots) (plays-unanswered clientSlots serverSlots out clientRoom serverRoom room)
+    (nothing-whole clientSlots serverSlots out clientRoom serverRoom room)
+
+-- The stub is told of the second cancel alone, and nothing is left armed.
+pub unanswered-told : (clientSlots serverSlots out : List ℕ) → length clientSlots ≡ slotsSize → length serverSlots ≡ slotsSize → length out ≡ pduSize
+    → Told (before clientSlots serverSlots) (unanswered out) unansweredNotices (Off ∷ Off ∷ Off ∷ Off ∷ []) stopCancels (toldOf 2 ∷ [])
+unanswered-told clientSlots serverSlots out clientRoom serverRoom room =
+    shown (plays-unanswered clientSlots serverSlots out clientRoom serverRoom room)

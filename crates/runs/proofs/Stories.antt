@@ -12,32 +12,35 @@ use Rattle.words.specs.Sizes.{bodySize}
 use Rattle.answers.specs.declared.Answer.the-variants.{Done}
 use Rattle.answers.specs.Number.{numberOf}
 use Rattle.pdu.specs.declared.Header.{Header}
+use Rattle.calls.specs.declared.Notice.{Notice}
 use Rattle.writer.proofs.RoundTrip.{Fits}
 use Rattle.calls.specs.declared.Call.{Call}
 use Rattle.calls.specs.Sent.{sentHeader}
 use Rattle.history.specs.Lists.{In}
 use Rattle.history.specs.World.{SentPdu, World}
 use Rattle.history.specs.Events.{Own, Event}
-use Rattle.history.specs.Steps.{step, answerTo, run}
+use Rattle.history.specs.Steps.{step, answerTo, noticeOf, run}
 use Rattle.history.specs.Fairness.{Typed, FairArrival, Premise, Fair}
-use Rattle.runs.specs.Runs.{Story, eventsOf, numbersOf, answersTo}
+use Rattle.runs.specs.Runs.{Story, eventsOf, numbersOf, answersTo, noticesTo}
 use Rattle.history.proofs.Network.{pduOf, call-fits}
 
--- The event is answered that number, and leaves that world.
-pub record Makes (w : World) (e : Event) (number : ℕ) (after : World) : Type 0 where
+-- The event is answered that number, its stub is told that, and it leaves that world.
+pub record Makes (w : World) (e : Event) (number : ℕ) (notice : Notice) (after : World) : Type 0 where
   pub answered : numberOf (answerTo w e) ≡ number
+  pub tells : noticeOf w e ≡ notice
   pub leaves : step w e ≡ after
 
--- The story keeps every premise, is answered as it says, and ends so.
-pub record Plays (w : World) (story : Story) (after : World) : Type 0 where
+-- The story keeps every premise, is answered as it says, the stubs are told these notices, and it ends so.
+pub record Plays (w : World) (story : Story) (notices : List Notice) (after : World) : Type 0 where
   pub fair : Fair w (eventsOf story)
   pub answers : answersTo w (eventsOf story) ≡ numbersOf story
+  pub tells : noticesTo w (eventsOf story) ≡ notices
   pub ends : run w (eventsOf story) ≡ after
 
 -- The same where the world left is told otherwise.
-pub told : {A : Type 0} {w : World} {e : Event} {number : ℕ} (after : A → World) {x y : A} → x ≡ y → Makes w e number (after x)
-    → Makes w e number (after y)
-told after same m = record { answered = m .answered; leaves = m .leaves ∙ ap after same }
+pub told : {A : Type 0} {w : World} {e : Event} {number : ℕ} {notice : Notice} (after : A → World) {x y : A} → x ≡ y
+    → Makes w e number notice (after x) → Makes w e number notice (after y)
+told after same m = record { answered = m .answered; tells = m .tells; leaves = m .leaves ∙ ap after same }
 
 -- What arrives is the i-th PDU sent.
 nth : (sent : List SentPdu) (i : ℕ) → i < length sent → In (getD sent i (pduOf 0 [])) sent
@@ -49,48 +52,68 @@ pub came : {sent : List SentPdu} (i : ℕ) → ltb i (length sent) ≡ true → 
 came {sent} i here = record { earlier = nth sent i (ltb-true i (length sent) here); own = refl }
 
 -- Nothing happens;
-pub over : {w : World} → Plays w [] w
+pub over : {w : World} → Plays w [] [] w
 unfolding run
-over = record { fair = tt; answers = refl; ends = refl }
+over = record { fair = tt; answers = refl; tells = refl; ends = refl }
 
 -- an event that keeps its premise, and then the rest;
-onward : {w next after : World} {e : Event} {number : ℕ} {story : Story} → Makes w e number next → (answerTo w e ≡ Done → Premise w e)
-    → Plays next story after → Plays w ((e, number) ∷ story) after
+onward : {w next after : World} {e : Event} {number : ℕ} {notice : Notice} {story : Story} {notices : List Notice}
+    → Makes w e number notice next → (answerTo w e ≡ Done → Premise w e) → Plays next story notices after
+    → Plays w ((e, number) ∷ story) (notice ∷ notices) after
 unfolding run
-onward {after = after} {story = story} m premise rest =
+onward {after = after} {story = story} {notices = notices} m premise rest =
     let back = sym (m .leaves) in
     record {
       fair = (premise, subst (λ (v : World). Fair v (eventsOf story)) back (rest .fair));
       answers = λ i. m .answered i ∷ subst (λ (v : World). answersTo v (eventsOf story) ≡ numbersOf story) back (rest .answers) i;
+      tells = λ i. m .tells i ∷ subst (λ (v : World). noticesTo v (eventsOf story) ≡ notices) back (rest .tells) i;
       ends = subst (λ (v : World). run v (eventsOf story) ≡ after) back (rest .ends);
     }
 
-pub then : {w next after : World} {e : Event} {number : ℕ} {story : Story} → Makes w e number next → Premise w e
-    → Plays next story after → Plays w ((e, number) ∷ story) after
+pub then : {w next after : World} {e : Event} {number : ℕ} {notice : Notice} {story : Story} {notices : List Notice}
+    → Makes w e number notice next → Premise w e → Plays next story notices after
+    → Plays w ((e, number) ∷ story) (notice ∷ notices) after
 then m premise rest = onward m (λ done. premise) rest
 
 -- a refused one, and then the rest;
-pub refused : {w next after : World} {e : Event} {number : ℕ} {story : Story} → Makes w e number next → eqb number 0 ≡ false
-    → Plays next story after → Plays w ((e, number) ∷ story) after
+pub refused : {w next after : World} {e : Event} {number : ℕ} {notice : Notice} {story : Story} {notices : List Notice}
+    → Makes w e number notice next → eqb number 0 ≡ false → Plays next story notices after
+    → Plays w ((e, number) ∷ story) (notice ∷ notices) after
 refused {number = number} m undone rest =
     onward m (λ done. absurd (eqb-false number 0 undone (sym (m .answered) ∙ ap numberOf done))) rest
 
 -- a story behind another.
-pub joined : {w next after : World} (one two : Story) → Plays w one next → Plays next two after → Plays w (one ++ two) after
+notices-joined : (w : World) (one two : Story)
+    → noticesTo w (eventsOf (one ++ two)) ≡ noticesTo w (eventsOf one) ++ noticesTo (run w (eventsOf one)) (eventsOf two)
 unfolding run
-joined {after = after} [] two p q =
+notices-joined w [] two = refl
+notices-joined w (t ∷ ts) two = λ i. noticeOf w (t .0) ∷ notices-joined (step w (t .0)) ts two i
+
+pub joined : {w next after : World} (one two : Story) {first second : List Notice} → Plays w one first next
+    → Plays next two second after → Plays w (one ++ two) (first ++ second) after
+unfolding run
+joined {after = after} [] two {second = second} p q =
     let back = sym (p .ends) in
     record {
       fair = subst (λ (v : World). Fair v (eventsOf two)) back (q .fair);
       answers = subst (λ (v : World). answersTo v (eventsOf two) ≡ numbersOf two) back (q .answers);
+      tells = λ i. p .tells i ++ subst (λ (v : World). noticesTo v (eventsOf two) ≡ second) back (q .tells) i;
       ends = subst (λ (v : World). run v (eventsOf two) ≡ after) back (q .ends);
     }
-joined {w} {next} {after} (t ∷ ts) two p q =
-    let later : Plays (step w (t .0)) ts next = record { fair = p .fair .1; answers = ap (drop 1) (p .answers); ends = p .ends } in
+joined {w} {next} {after} (t ∷ ts) two {second = second} p q =
+    let later : Plays (step w (t .0)) ts (noticesTo (step w (t .0)) (eventsOf ts)) next = record {
+      fair = p .fair .1;
+      answers = ap (drop 1) (p .answers);
+      tells = refl;
+      ends = p .ends;
+    } in
     let rest = joined ts two later q in
     record {
       fair = (p .fair .0, rest .fair);
       answers = λ i. getD (p .answers i) 0 0 ∷ rest .answers i;
+      tells =
+          notices-joined w (t ∷ ts) two
+          ∙ (λ i. p .tells i ++ subst (λ (v : World). noticesTo v (eventsOf two) ≡ second) (sym (p .ends)) (q .tells) i);
       ends = rest .ends;
     }
 

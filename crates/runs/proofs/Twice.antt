@@ -1,10 +1,11 @@
 -- The second run, event by event.
 use Prim.Native.Nat.{ℕ, _<_, _≤_}
-use mathlib.Core.List.{List, [], _∷_}
+use mathlib.Core.List.{List, [], _∷_, _++_}
 use mathlib.Core.Path.{_≡_, refl, _∙_}
 use native.Mathlib.Omega.{arith}
 use lib.ListN.{length, take}
 use Rattle.words.specs.Sizes.{bodySize, pduSize, slotsSize}
+use Rattle.calls.specs.declared.Notice.the-variants.{Last, Dispatch as DispatchTold}
 use Rattle.calls.specs.Sent.{sentHeader}
 use Rattle.incoming.specs.declared.Incoming.{Incoming}
 use Rattle.incoming.specs.declared.Last.the-variants.{At}
@@ -24,7 +25,7 @@ use Rattle.server_record.specs.declared.State.the-variants.{Idle, Running, Repl
 use Rattle.server_record.specs.Rules.{sound as serverSound}
 use Rattle.server.specs.HandUp.{handsUp as serverHandsUp}
 use Rattle.history.specs.Fairness.{Typed}
-use Rattle.runs.specs.Runs.{before, activity, called, asking, question, firstReply, secondReply, runOnce, runAgain, twice, nextReply, next, twiceAndNext, twiceAndNextClientPdus, twiceAndNextServerPdus}
+use Rattle.runs.specs.Runs.{before, activity, called, asking, question, firstReply, secondReply, runOnce, runAgain, twice, twiceNotices, nextReply, next, twiceAndNext, twiceAndNextNotices, twiceAndNextClientPdus, twiceAndNextServerPdus, untold}
 use Rattle.history.proofs.Holding.{cleared-empty, empty-holding, holding-whole}
 use Rattle.history.specs.Lists.{andThen}
 use Rattle.history.proofs.Network.{Uuids}
@@ -180,19 +181,20 @@ module _ (clientSlots serverSlots out : List ℕ) (clientRoom : length clientSlo
       refl refl
 
   -- The story, stage by stage.
-  plays-once : Plays (world k0 s0 b0) (runOnce out) (world k2 s3 b3)
+  plays-once : Plays (world k0 s0 b0) (runOnce out) (untold 2 ++ (DispatchTold ∷ untold 2)) (world k2 s3 b3)
   unfolding opened fragmentOf
   plays-once =
-      then {next = world k1 s0 b1} (record { answered = refl; leaves = refl }) (record { typed = typed; whole = refl })
+      then {next = world k1 s0 b1} (record { answered = refl; tells = refl; leaves = refl }) (record { typed = typed; whole = refl })
       (then {next = world k2 s0 b1} (client-transmits _ out room question 3 refl uuids) refl
       (then {next = world k2 s1 (b2 question)}
       (told (λ (bytes : List ℕ). world k2 s1 (b2 bytes)) (question-whole serverSlots serverRoom)
       (server-arrives _ out room (came-with 0 0 32 1 question (omega arith) (omega arith)) serverRoom uuids)) (came 0 refl)
-      (then {next = world k2 s2 b3} (record { answered = refl; leaves = refl }) refl
+      (then {next = world k2 s2 b3} (record { answered = refl; tells = refl; leaves = refl }) refl
       (then {next = world k2 s3 b3} (server-transmits _ out room firstReply 1 refl uuids) refl
       over))))
 
-  plays-again : Plays (world k2 s3 b3) (runAgain out) (world k6 s7 (b6 secondReply))
+  plays-again : Plays (world k2 s3 b3) (runAgain out) (untold 4 ++ (DispatchTold ∷ untold 2 ++ (Last ∷ untold 1)))
+      (world k6 s7 (b6 secondReply))
   unfolding opened fragmentOf
   plays-again =
       then {next = world k3 s3 b3} (client-times _ out room Wait 6 uuids) tt
@@ -202,7 +204,7 @@ module _ (clientSlots serverSlots out : List ℕ) (clientRoom : length clientSlo
       (then {next = world k5 s5 (b4 question)}
       (told (λ (bytes : List ℕ). world k5 s5 (b4 bytes)) (question-whole v1 v1-long)
       (server-arrives _ out room (came-with 0 0 32 3 question (omega arith) (omega arith)) v1-long uuids)) (came 2 refl)
-      (then {next = world k5 s6 b5} (record { answered = refl; leaves = refl }) refl
+      (then {next = world k5 s6 b5} (record { answered = refl; tells = refl; leaves = refl }) refl
       (then {next = world k5 s7 b5} (server-transmits _ out room secondReply 2 refl uuids) refl
       (then {next = world k6 s7 (b6 secondReply)}
       (told (λ (bytes : List ℕ). world k6 s7 (b6 bytes)) reply-whole
@@ -210,7 +212,7 @@ module _ (clientSlots serverSlots out : List ℕ) (clientRoom : length clientSlo
       (refused {next = world k6 s7 (b6 secondReply)} (client-times _ out room Wait 8 uuids) refl
       over))))))))
 
-  pub plays-twice : Plays (before clientSlots serverSlots) (twice out) (world k6 s7 (b6 secondReply))
+  pub plays-twice : Plays (before clientSlots serverSlots) (twice out) twiceNotices (world k6 s7 (b6 secondReply))
   plays-twice = joined (runOnce out) (runAgain out) plays-once plays-again
 
   -- The next call. The slot buffers after its puts,
@@ -283,10 +285,11 @@ module _ (clientSlots serverSlots out : List ℕ) (clientRoom : length clientSlo
       (record { number = omega arith; new = refl; fits = refl }) (omega arith) refl)
       refl refl
 
-  plays-next : Plays (world k6 s7 (b6 secondReply)) (next out) (world k9 s10 (b10 nextReply))
+  plays-next : Plays (world k6 s7 (b6 secondReply)) (next out) (untold 2 ++ (DispatchTold ∷ untold 4 ++ (Last ∷ [])))
+      (world k9 s10 (b10 nextReply))
   unfolding opened fragmentOf
   plays-next =
-      then {next = world k7 s7 b7} (record { answered = refl; leaves = refl }) (record { typed = called-typed; whole = refl })
+      then {next = world k7 s7 b7} (record { answered = refl; tells = refl; leaves = refl }) (record { typed = called-typed; whole = refl })
       (then {next = world k8 s7 b7} (client-transmits _ out room question 3 refl called-uuids) refl
       (then {next = world k8 s8 (b8 question)}
       (told (λ (bytes : List ℕ). world k8 s8 (b8 bytes)) next-whole
@@ -295,12 +298,13 @@ module _ (clientSlots serverSlots out : List ℕ) (clientRoom : length clientSlo
       (server-arrives _ out room (came-with 0 0 32 3 question (omega arith) (omega arith)) v3-long called-uuids) refl
       (refused {next = world k8 s8 (b8 question)}
       (client-arrives _ out room (came-with 7 2 0 1 firstReply (omega arith) (omega arith)) u1-long called-uuids) refl
-      (then {next = world k8 s9 b9} (record { answered = refl; leaves = refl }) refl
+      (then {next = world k8 s9 b9} (record { answered = refl; tells = refl; leaves = refl }) refl
       (then {next = world k8 s10 b9} (server-transmits _ out room nextReply 3 refl called-uuids) refl
       (then {next = world k9 s10 (b10 nextReply)}
       (told (λ (bytes : List ℕ). world k9 s10 (b10 bytes)) next-reply
       (client-arrives _ out room (next-came 7 2 0 1 nextReply (omega arith) (omega arith)) u1-long called-uuids)) (came 3 refl)
       over)))))))
 
-  pub plays-twice-and-next : Plays (before clientSlots serverSlots) (twiceAndNext out) (world k9 s10 (b10 nextReply))
+  pub plays-twice-and-next : Plays (before clientSlots serverSlots) (twiceAndNext out) twiceAndNextNotices
+      (world k9 s10 (b10 nextReply))
   plays-twice-and-next = joined (twice out) (next out) plays-twice plays-next

@@ -1,2 +1,3 @@
--- Three lists of events that keep every premise of the theorem.
+-- Lists of events that keep every premise of the theorem.
 pub mod Runs
+pub mod Stops

@@ -40,6 +40,7 @@ fn run() -> Result<bool, Failure> {
     say(&format!("{:<52} {:>10} {:>14}", "event", "ns", "a second"));
     bench.client()?;
     bench.server()?;
+    bench.cancels()?;
     bench.codec()?;
     bench.refused()?;
     Ok(true)
@@ -184,6 +185,27 @@ impl Bench {
         let ticket = u64::from(record[40]);
         self.time("server timer RESEND, data", 0, &record, |record, bench| {
             door::server_timer(record, 3, ticket, &mut bench.pdu)
+        })
+    }
+
+    /// A cancel, its arrival while the call runs, its ack, and the timer that runs out without one.
+    fn cancels(&mut self) -> Result<(), Failure> {
+        let (mut record, _) = self.requested(1);
+        self.time("client cancel", 0, &record, |record, bench| door::client_cancel(record, &mut bench.pdu))?;
+        let length = usize::from((door::client_cancel(&mut record, &mut self.pdu) >> 16) as u16);
+        let cancel = self.pdu[..length].to_vec();
+        let mut running = self.running(1);
+        self.time("server arrive, cancel", 0, &running, |record, bench| {
+            door::server_arrive(record, &cancel, &mut bench.slots, &mut bench.pdu)
+        })?;
+        let result = door::server_arrive(&mut running, &cancel, &mut self.slots, &mut self.pdu);
+        let cancel_ack = self.pdu[..usize::from((result >> 16) as u16)].to_vec();
+        self.time("client arrive, cancel_ack", 0, &record, |record, bench| {
+            door::client_arrive(record, &cancel_ack, &mut bench.slots, &mut bench.pdu)
+        })?;
+        let ticket = u64::from(record[56]);
+        self.time("client timer CANCEL", 0, &record, |record, bench| {
+            door::client_timer(record, 4, ticket, &mut bench.pdu)
         })
     }
 

@@ -38,8 +38,8 @@ pub fn say(line: &str) {
     }
 }
 
-/// One line on standard error. Nothing is left to do if that is closed too.
-fn complain(line: &str) {
+/// Prints one line on standard error. Nothing is left to do if that is closed too.
+pub fn complain(line: &str) {
     let _ = writeln!(io::stderr(), "{line}");
 }
 

@@ -16,6 +16,9 @@ pub const UNKNOWN_OPERATION: u32 = 0x1c01_0002;
 pub const BAD_REQUEST: u32 = 0x1c01_000b;
 /// The status of a reply that would be too long.
 pub const REPLY_TOO_LONG: u32 = 0x1c01_0013;
+/// The status of a call that was ended because of a cancel: nca_s_fault_cancel of C706. Of this controller it also
+/// says that the operation had no effect: what an operation does, it does whole, at the end of its work.
+pub const CANCELLED: u32 = 0x1c00_000d;
 
 /// Operation 0: the reply is the request.
 pub const ECHO: u16 = 0;

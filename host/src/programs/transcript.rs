@@ -76,20 +76,20 @@ fn told(outcome: &Outcome<'_>) -> String {
 }
 
 fn event_columns(activity: &[u8; 16], number: u32, event: &str, name: &str) -> String {
-    format!("{}  {event:<8}  {name:<9}  {number:>4}", short(activity))
+    format!("{}  {event:<8}  {name:<10} {number:>4}", short(activity))
 }
 
 fn pdu_columns(event: &str, datagram: &[u8], told: &str) -> String {
     let Ok(header) = Header::read(datagram) else {
         return format!("{:<8}  {event:<8}  {} bytes that are no PDU  {told}", "", datagram.len());
     };
-    let told = match (fack(&header, datagram), told) {
+    let told = match (body_told(&header, datagram), told) {
         (None, told) => told.to_string(),
-        (Some(fack), "") => fack,
-        (Some(fack), told) => format!("{fack}; {told}"),
+        (Some(body), "") => body,
+        (Some(body), told) => format!("{body}; {told}"),
     };
     format!(
-        "{}  {event:<8}  {:<9}  {:>4}  {:>8}  {:<14}  {:>6}  {:>5}  {told}",
+        "{}  {event:<8}  {:<10} {:>4}  {:>8}  {:<14}  {:>6}  {:>5}  {told}",
         short(&header.activity()),
         header.pdu_type(),
         header.number(),
@@ -100,23 +100,58 @@ fn pdu_columns(event: &str, datagram: &[u8], told: &str) -> String {
     )
 }
 
-/// What a fack tells: how far fragments are held without a gap, which are held behind that, and the serial that it
-/// answers. Nothing where the body is not that of a fack with a mask.
-fn fack(header: &Header, datagram: &[u8]) -> Option<String> {
-    let body = datagram.get(HEADER_SIZE..).filter(|_| header.pdu_type() == PduType::Fack)?;
-    let little_endian = header.bytes()[4] != 0;
-    let number = |at: usize, size: usize| {
-        let bytes = body.get(at..at + size)?.iter();
+/// What the body of a fack, a cancel or a cancel_ack tells. Nothing where it is not such a body.
+fn body_told(header: &Header, datagram: &[u8]) -> Option<String> {
+    let body = Body { bytes: datagram.get(HEADER_SIZE..)?, little_endian: header.bytes()[4] != 0 };
+    match header.pdu_type() {
+        PduType::Fack => fack(header.fragment(), &body),
+        PduType::Cancel => cancel(&body),
+        PduType::CancelAck => cancel_ack(&body),
+        _ => None,
+    }
+}
+
+/// A body, in its sender's byte order.
+struct Body<'a> {
+    bytes: &'a [u8],
+    little_endian: bool,
+}
+
+impl Body<'_> {
+    /// The number of so many bytes at that place, if it is there.
+    fn number(&self, at: usize, size: usize) -> Option<u32> {
+        let bytes = self.bytes.get(at..at + size)?.iter();
         let digit = |number: u32, byte: &u8| number << 8 | u32::from(*byte);
-        Some(if little_endian { bytes.rfold(0, digit) } else { bytes.fold(0, digit) })
-    };
-    let (version, serial, masks, mask) = (number(0, 1)?, number(12, 2)?, number(14, 2)?, number(16, 4)?);
-    let held = match header.fragment() {
+        Some(if self.little_endian { bytes.rfold(0, digit) } else { bytes.fold(0, digit) })
+    }
+
+    /// Whether it has this length, and version 0 in so many bytes.
+    fn is_readable(&self, version_size: usize, length: usize) -> bool {
+        self.number(0, version_size) == Some(0) && self.bytes.len() == length
+    }
+}
+
+/// How far fragments are held without a gap, which are held behind that, and the serial that the fack answers.
+fn fack(fragment: u16, body: &Body) -> Option<String> {
+    let (serial, masks, mask) = (body.number(12, 2)?, body.number(14, 2)?, body.number(16, 4)?);
+    let held = match fragment {
         u16::MAX => String::from("lacks 0"),
         last => format!("holds 0 to {last}"),
     };
-    let readable = version == 0 && body.len() == 16 + 4 * masks as usize;
+    let readable = body.is_readable(1, 16 + 4 * masks as usize);
     readable.then(|| format!("{held}, mask {mask:#010x}, answers serial {serial}"))
+}
+
+/// The number of the cancel.
+fn cancel(body: &Body) -> Option<String> {
+    let number = body.number(4, 4)?;
+    body.is_readable(4, 8).then(|| format!("number {number}"))
+}
+
+/// The number of the cancel that is answered, and whether the server accepts it.
+fn cancel_ack(body: &Body) -> Option<String> {
+    let (number, accepts) = (body.number(4, 4)?, body.number(8, 4)?);
+    body.is_readable(4, 12).then(|| format!("number {number}, accepts {accepts}"))
 }
 
 fn flags(header: &Header) -> String {
@@ -147,9 +182,9 @@ mod tests {
         assert_eq!(pdu_columns("received", &datagram[..79], "x"), "          received  79 bytes that are no PDU  x");
     }
 
-    /// A fack of call 5, in either order, with this number and this body.
-    fn fack_pdu(little_endian: bool, fragment: u16, body: &[u8]) -> Vec<u8> {
-        let mut pdu = [&[4, 9][..], &[0; 78], body].concat();
+    /// A PDU of call 5, in either order, of this type, with this fragment number and this body.
+    fn pdu(pdu_type: u8, little_endian: bool, fragment: u16, body: &[u8]) -> Vec<u8> {
+        let mut pdu = [&[4, pdu_type][..], &[0; 78], body].concat();
         let short = |number: u16| if little_endian { number.to_le_bytes() } else { number.to_be_bytes() };
         pdu[4] = if little_endian { 16 } else { 0 };
         pdu[if little_endian { 64 } else { 67 }] = 5;
@@ -167,8 +202,8 @@ mod tests {
                      lacks 0, mask 0x80000005, answers serial 259; x";
         for (little_endian, end) in [(true, little), (false, big)] {
             let body = [&[0; 12][..], &end].concat();
-            assert_eq!(pdu_columns("sent", &fack_pdu(little_endian, 2, &body), ""), one);
-            assert_eq!(pdu_columns("received", &fack_pdu(little_endian, 65_535, &body), "x"), other);
+            assert_eq!(pdu_columns("sent", &pdu(9, little_endian, 2, &body), ""), one);
+            assert_eq!(pdu_columns("received", &pdu(9, little_endian, 65_535, &body), "x"), other);
         }
     }
 
@@ -179,7 +214,33 @@ mod tests {
         for (version, masks, length) in strange {
             let mut body = [0; 24];
             (body[0], body[14]) = (version, masks);
-            let line = pdu_columns("sent", &fack_pdu(true, 2, &body[..length]), "x");
+            let line = pdu_columns("sent", &pdu(9, true, 2, &body[..length]), "x");
+            assert!(line.ends_with(&format!("     0  {length:>5}  x")), "{line}");
+        }
+    }
+
+    #[test]
+    fn a_cancel_and_its_ack_tell_the_number_in_either_order() {
+        let (little, big) = ([0, 0, 0, 0, 3, 1, 0, 0, 1, 0, 0, 0], [0, 0, 0, 0, 0, 0, 1, 3, 0, 0, 0, 1]);
+        for (little_endian, body) in [(true, little), (false, big)] {
+            assert_eq!(
+                pdu_columns("sent", &pdu(8, little_endian, 0, &body[..8]), ""),
+                "00000000  sent      cancel        5         0                       0      8  number 259"
+            );
+            assert_eq!(
+                pdu_columns("received", &pdu(10, little_endian, 0, &body), "x"),
+                "00000000  received  cancel_ack    5         0                       0     12  \
+                 number 259, accepts 1; x"
+            );
+        }
+    }
+
+    #[test]
+    fn of_a_strange_cancel_nothing_more_is_told() {
+        for (pdu_type, version, length) in [(8, 0, 7), (8, 0, 9), (8, 0, 12), (8, 1, 8), (10, 0, 8), (10, 1, 12)] {
+            let mut body = [0; 16];
+            body[0] = version;
+            let line = pdu_columns("sent", &pdu(pdu_type, true, 0, &body[..length]), "x");
             assert!(line.ends_with(&format!("     0  {length:>5}  x")), "{line}");
         }
     }

@@ -4,7 +4,7 @@ use super::calls::{invoke, Callable, Given};
 use super::records::Way;
 use crate::bench::memory::RIGHT;
 use crate::codec::pdu::Uuid;
-use crate::door::invocation::{Invocation, StartArguments};
+use crate::door::invocation::{ClientInvocation, Invocation, StartArguments};
 use crate::door::layout;
 use crate::door::record_bytes::encode;
 use crate::generate::author::Author;
@@ -12,10 +12,26 @@ use crate::generate::client;
 use crate::generate::made::Made;
 use crate::generate::parts::{any_call, message_length};
 use crate::generate::random::Random;
-use crate::records::client::{ClientSide, State, STATES};
+use crate::records::client::{Client, ClientSide, State, STATES};
 
 /// Lengths of a UUID that are not its own.
 const UUID_LENGTHS: [usize; 6] = [0, 1, 15, 17, 32, 272];
+
+/// The highest number that a timer has at either side.
+const HIGHEST_TIMER: u8 = 4;
+
+/// The names of timers that only the other side has, or neither, as they are counted.
+pub fn other_timer_names<S: Callable>() -> Vec<String> {
+    let side = S::WORDS.side;
+    let own: Vec<u8> = S::TIMER_NUMBERS.iter().map(|timer| timer.0).collect();
+    let mut names = Vec::new();
+    for answer in [1, 2, 15] {
+        names.push(format!("{side} timer of another kind: {answer}"));
+        let others = (0..=HIGHEST_TIMER).filter(|kind| !own.contains(kind));
+        names.extend(others.map(|kind| format!("{side} timer of kind {kind}: {answer}")));
+    }
+    names
+}
 
 /// A UUID of another length.
 fn wrong_uuid(turn: usize, random: &mut Random) -> Vec<u8> {
@@ -40,15 +56,21 @@ pub fn other_timer<S: Callable>(turn: usize, author: &mut Author<S>) {
         .filter(|kind| !own.clone().any(|own| own == *kind))
         .collect();
     let any = random.pick(&others);
-    let kind = random.pick(&[0, 4, others[1], others[2], any, 255]);
-    let ticket = random.pick(&[record.tickets.counter, 0, u64::MAX]);
+    let kind = random.pick(&[0, others[1], others[2], others[3], any, 255]);
+    let mut armed = S::TIMERS.iter().filter_map(|kind| record.timer_of(*kind));
+    let right = armed.next().unwrap_or(record.tickets.counter);
+    let ticket = random.pick(&[right, right, 0, u64::MAX]);
     author.bench.set_bytes::<S>(&bytes);
     if case == 3 {
         author.lend_wrong_pdu();
     }
     if let Some(Given::Answer(answer)) = invoke::<S>(&Invocation::Timer { kind, ticket }, author) {
-        let name = format_args!("{} timer of another kind: {answer}", S::WORDS.side);
-        author.bench.coverage.counts.add(name);
+        let side = S::WORDS.side;
+        let counts = &mut author.bench.coverage.counts;
+        counts.add(format_args!("{side} timer of another kind: {answer}"));
+        if kind <= HIGHEST_TIMER {
+            counts.add(format_args!("{side} timer of kind {kind}: {answer}"));
+        }
     }
     author.bench.lent = RIGHT;
 }
@@ -83,9 +105,8 @@ pub fn wrong_start_names() -> Vec<String> {
         .collect()
 }
 
-/// A start whose mark or one of whose UUIDs no call has.
-pub fn wrong_start(turn: usize, author: &mut client::author::Author) {
-    let random = &mut author.random;
+/// A record that can take a start, by turns.
+fn record_to_start(turn: usize, random: &mut Random) -> Client {
     let states = STATES.map(|state| {
         if state.may_start() {
             state
@@ -93,8 +114,15 @@ pub fn wrong_start(turn: usize, author: &mut client::author::Author) {
             State::Queued
         }
     });
-    let mut record = ClientSide::sound_record(states[turn / 4 % states.len()], random);
+    let mut record = ClientSide::sound_record(states[turn % states.len()], random);
     record.number = 7;
+    record
+}
+
+/// A start whose mark or one of whose UUIDs no call has.
+pub fn wrong_start(turn: usize, author: &mut client::author::Author) {
+    let random = &mut author.random;
+    let record = record_to_start(turn / 4, random);
     let call = any_call(random);
     let wrong = wrong_uuid(turn, random);
     let mark = random.between(2, 255) as u8;
@@ -117,7 +145,8 @@ pub fn wrong_start(turn: usize, author: &mut client::author::Author) {
         Way::State.spoil::<ClientSide>(&mut bytes, random);
     }
     author.bench.set_bytes::<ClientSide>(&bytes);
-    if let Some(Given::Answer(answer)) = invoke(&Invocation::Own(arguments), author) {
+    let start = Invocation::Own(ClientInvocation::Start(arguments));
+    if let Some(Given::Answer(answer)) = invoke(&start, author) {
         let what = WRONG_STARTS[case];
         let name = format_args!("client start with {what} wrong: {answer}");
         author.bench.coverage.counts.add(name);

@@ -7,13 +7,12 @@ use crate::door::invocation::Invocation;
 use crate::door::step::Door;
 use crate::generate::arriving::Arriving;
 use crate::generate::author::Author;
-use crate::generate::client::pdus::OTHER_TYPES;
 use crate::generate::made::Made;
 use crate::generate::parts::{any_call, message_length};
 use crate::generate::random::Random;
 use crate::generate::server::pdus;
 use crate::machines::refusal::answer;
-use crate::records::client::{Client, ClientSide, Start};
+use crate::records::client::{Client, ClientEvent, ClientSide, Start};
 use crate::records::outgoing::MESSAGE_LIMIT;
 use crate::records::record::Record;
 use crate::records::server::{Answer, Server, ServerSide};
@@ -99,11 +98,14 @@ pub fn call_fitting<S: Callable>(
     }
 }
 
-/// The timer that is armed, if one is, with its number.
+/// A timer that is armed, if one is, with its number.
 fn fitting_timer<S: Door>(record: &Record<S>, random: &mut Random) -> (u8, S::TimerKind) {
-    let mut timers = S::TIMER_NUMBERS.iter();
-    let armed = timers.find(|timer| record.timer_of(timer.1).is_some());
-    armed.copied().unwrap_or(random.pick(S::TIMER_NUMBERS))
+    let mut armed = S::TIMER_NUMBERS.to_vec();
+    armed.retain(|timer| record.timer_of(timer.1).is_some());
+    match armed[..] {
+        [] => random.pick(S::TIMER_NUMBERS),
+        _ => random.pick(&armed),
+    }
 }
 
 /// Calls a function, unless there were enough events.
@@ -118,11 +120,15 @@ pub fn ask_part<S: Made>(number: u16, author: &mut Author<S>) -> Option<Given> {
 }
 
 impl Callable for ClientSide {
-    fn own_event_named(name: &str, random: &mut Random) -> Option<Start> {
-        (name == "start").then(|| Start {
-            call: any_call(random),
-            length: message_length(random),
-        })
+    fn own_event_named(name: &str, random: &mut Random) -> Option<ClientEvent> {
+        match name {
+            "start" => Some(ClientEvent::Start(Start {
+                call: any_call(random),
+                length: message_length(random),
+            })),
+            "cancel" => Some(ClientEvent::Cancel),
+            _ => None,
+        }
     }
 
     fn any_fresh_argument(_: &mut Random) {}
@@ -139,7 +145,8 @@ impl Callable for ClientSide {
         match random.between(0, 9) {
             0..=4 => Arriving::response(client, random),
             5 => Arriving::fack(client, random),
-            6 => Arriving::of_type(random.pick(&OTHER_TYPES), client, random),
+            6 => Arriving::other_type(client, random),
+            7 => Arriving::cancel_ack(client, random),
             _ => Arriving::of_type(random.pick(&[3, 4, 5, 6]), client, random),
         }
     }

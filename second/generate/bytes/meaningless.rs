@@ -50,6 +50,7 @@ impl Meaningless for ClientSide {
     const TIMER_PLACES: &'static [Place] = &[
         (layout::FIRST_ARMED, layout::FIRST_TICKET),
         (layout::SECOND_ARMED, layout::SECOND_TICKET),
+        (layout::THIRD_ARMED, layout::THIRD_TICKET),
     ];
 
     const STATUS_PLACE: Option<Place> = None;

@@ -3,7 +3,7 @@
 use crate::generate::author;
 use crate::generate::parts::any_call;
 use crate::machines::event::Event;
-use crate::records::client::{ClientSide, Start};
+use crate::records::client::{ClientEvent, ClientSide, Start};
 
 /// The author of client events.
 pub type Author = author::Author<ClientSide>;
@@ -18,6 +18,12 @@ impl Author {
     /// Starts any call with a message of so many bytes.
     pub fn start(&mut self, length: u32) {
         let call = any_call(&mut self.random);
-        self.event(Event::Own(Start { call, length }));
+        let start = Start { call, length };
+        self.event(Event::Own(ClientEvent::Start(start)));
+    }
+
+    /// The local cancel.
+    pub fn cancel(&mut self) {
+        self.event(Event::Own(ClientEvent::Cancel));
     }
 }

@@ -31,9 +31,17 @@ enum Kind {
     Failed {
         pdu_type: u8,
     },
+    /// So many cancels, of which none is acknowledged in time.
+    Cancelled {
+        cancels: u32,
+    },
+    /// The same, and the last one is.
+    Heard {
+        cancels: u32,
+    },
 }
 
-const CALLS: [Kind; 16] = [
+const CALLS: [Kind; 19] = [
     Kind::Answered {
         length: 5,
         reply: 1,
@@ -84,12 +92,22 @@ const CALLS: [Kind; 16] = [
         acknowledged: 2,
     },
     Kind::Early { length: 44_544 },
+    Kind::Cancelled { cancels: 1 },
+    Kind::Heard { cancels: 2 },
+    Kind::Cancelled { cancels: 3 },
 ];
 
 pub fn whole_call(turn: usize, author: &mut Author) {
     let kind = CALLS[turn % CALLS.len()];
     let ticket_counter = author.random.pick(&[0, 0, 1, 1 << 40, u64::MAX - 3]);
     author.set_fresh(ticket_counter);
+    call_of(kind, author);
+    author.start(3);
+    author.hand_up(0);
+}
+
+/// The events of a call.
+fn call_of(kind: Kind, author: &mut Author) {
     match kind {
         Kind::Answered { length, reply } => {
             author.start(length);
@@ -120,9 +138,9 @@ pub fn whole_call(turn: usize, author: &mut Author) {
             author.arrive_of_type(pdu_type);
             author.hand_up(0);
         }
+        Kind::Cancelled { cancels } => cancelled_call(cancels, author),
+        Kind::Heard { cancels } => heard_call(cancels, author),
     }
-    author.start(3);
-    author.hand_up(0);
 }
 
 /// Now and then something else comes between.
@@ -178,6 +196,38 @@ fn ping_to_the_limit(author: &mut Author) {
     for _ in 0..=RETRY_LIMIT {
         author.timer(TimerKind::Wait);
     }
+}
+
+/// The timer ends the call.
+fn cancelled_call(cancels: u32, author: &mut Author) {
+    cancel_while_sending(cancels, author);
+    author.timer(TimerKind::Cancel);
+    author.timer(TimerKind::Wait);
+}
+
+/// The last cancel_ack comes in time, and the call goes on.
+fn heard_call(cancels: u32, author: &mut Author) {
+    cancel_while_sending(cancels, author);
+    arrive_cancel_ack(cancels, author);
+    author.timer(TimerKind::Cancel);
+    author.cancel();
+    receive(2, author);
+    finish(2, author);
+}
+
+/// So many cancels while the request is sent, with the cancel_acks of all but the last.
+fn cancel_while_sending(cancels: u32, author: &mut Author) {
+    author.start(2_000);
+    for number in 1..=cancels {
+        author.cancel();
+        author.transmit();
+        arrive_cancel_ack(number - 1, author);
+    }
+    author.late_timer(TimerKind::Cancel);
+}
+
+fn arrive_cancel_ack(number: u32, author: &mut Author) {
+    author.arrive(|client, random| Arriving::cancel_ack_of(number, client, random));
 }
 
 fn unknown_call(length: u32, acknowledged: u16, author: &mut Author) {

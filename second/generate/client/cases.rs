@@ -5,7 +5,7 @@ use crate::generate::arriving::{
     Arriving, IMPOSSIBLE_WAYS, LAST_OF_SEVERAL, ONE_OF_SEVERAL, WHOLE,
 };
 use crate::generate::client::author::Author;
-use crate::generate::client::events::state_timer;
+use crate::generate::client::events::any_timer_of;
 use crate::generate::client::pdus::MALFORMED_WAYS;
 use crate::generate::fragment::{at_an_edge, EDGES};
 use crate::generate::made::Made;
@@ -20,9 +20,10 @@ use crate::records::timer::RETRY_LIMIT;
 /// Every event meets a record that breaks one rule.
 pub fn broken_record(turn: usize, author: &mut Author) {
     let client: Client = scenes::broken_record(turn, &mut author.random);
-    let kind = state_timer(client.state).unwrap_or(TimerKind::Wait);
+    let kind = any_timer_of(client.state, &mut author.random);
     author.set_record(client);
     author.start(8);
+    author.cancel();
     author.transmit();
     author.arrive(Arriving::response);
     author.timer(kind);
@@ -30,9 +31,9 @@ pub fn broken_record(turn: usize, author: &mut Author) {
 }
 
 /// A record in which a timer can still be armed.
-fn record_with_tickets(state: State, random: &mut Random) -> Client {
+pub fn record_with_tickets(state: State, random: &mut Random) -> Client {
     let mut client = ClientSide::sound_record(state, random);
-    client.set_counter(client.tickets.counter.min(u64::MAX - 1));
+    client.leave_a_ticket();
     client
 }
 
@@ -74,7 +75,7 @@ pub fn fragment_case(turn: usize, author: &mut Author) {
 /// Rows that arm nothing are done also where no ticket is left.
 pub fn no_ticket_left(turn: usize, author: &mut Author) {
     let mut choices = Choices::of(turn);
-    let case = choices.below(9);
+    let case = choices.below(12);
     let state = match case {
         0 => State::SendFrags,
         1 => State::AckPending,
@@ -94,7 +95,11 @@ pub fn no_ticket_left(turn: usize, author: &mut Author) {
         5 => author.arrive_of_type(pdu_type::FAULT),
         6 => author.arrive_of_type(pdu_type::REJECT),
         7 => author.arrive(|client, random| Arriving::fack_of(0, client, random)),
-        _ => author.arrive(|client, random| Arriving::response_of(0, WHOLE, client, random)),
+        8 => author.arrive(|client, random| Arriving::response_of(0, WHOLE, client, random)),
+        // CANCEL is armed already.
+        9 => author.cancel(),
+        10 => author.timer(TimerKind::Cancel),
+        _ => author.arrive(|client, random| Arriving::cancel_ack_of(7, client, random)),
     }
 }
 
@@ -110,6 +115,8 @@ fn record_without_tickets(state: State, random: &mut Random) -> Client {
     client.tickets.counter = u64::MAX;
     client.own.wait = state.names(TimerKind::Wait).then_some(u64::MAX);
     client.own.ack = state.names(TimerKind::Ack).then_some(u64::MAX);
+    client.own.cancel = state.names(TimerKind::Cancel).then_some(u64::MAX);
+    client.own.cancel_number = 7;
     client
 }
 

@@ -3,14 +3,16 @@
 use crate::codec::pdu::pdu_type;
 use crate::generate::arriving::{Arriving, IMPOSSIBLE_WAYS};
 use crate::generate::client::author::Author;
-use crate::generate::client::pdus::{MALFORMED_WAYS, OTHER_TYPES};
+use crate::generate::client::pdus::MALFORMED_WAYS;
 use crate::generate::defect::defect_set;
-use crate::generate::defects::{arrive_with_defects, set_with_length, timer_with_defects};
+use crate::generate::defects::{
+    any_or, arrive_with_defects, event_with_lend, set_with_length, timer_with_defects,
+};
 use crate::generate::made::Made;
 use crate::generate::parts::message_length;
 use crate::generate::random::Random;
 use crate::generate::turn::Choices;
-use crate::records::client::{Client, ClientSide, State, TimerKind, ACTIVE_STATES, STATES};
+use crate::records::client::{Client, ClientSide, State, TimerKind, ACTIVE_STATES, STATES, TIMERS};
 
 /// The number that a PDU leads to, or 0 for a good one, before further defects are put in.
 const BASES: [u8; 9] = [0, 10, 12, 13, 14, 15, 16, 17, 20];
@@ -59,13 +61,11 @@ fn arrive(base: u8, defects: &[u8], mut client: Client, author: &mut Author) {
 /// A record for which there is a PDU that leads to the number.
 fn base_record(base: u8, random: &mut Random) -> Client {
     let over = [State::AckPending, State::Complete, State::Fault];
-    let other_than_dispatched = [&over[..], &[State::SendFrags, State::ReceiveFrags]].concat();
     let state = match base {
         13 if random.percent(30) => State::Queued,
         14 if random.percent(30) => random.pick(&over),
-        15 => random.pick(&other_than_dispatched),
         10 | 12 => random.pick(&STATES),
-        13 => random.pick(&[ACTIVE_STATES, over].concat()),
+        13 | 15 => random.pick(&[ACTIVE_STATES, over].concat()),
         _ => random.pick(&ACTIVE_STATES),
     };
     let mut client = ClientSide::sound_record(state, random);
@@ -79,10 +79,9 @@ fn base_record(base: u8, random: &mut Random) -> Client {
 }
 
 fn base_pdu(base: u8, client: &Client, random: &mut Random) -> Arriving {
-    let other_type = random.pick(&OTHER_TYPES);
     match base {
         0 => good_pdu(client, random),
-        10 => Arriving::of_type(other_type, client, random),
+        10 => Arriving::other_type(client, random),
         12 => {
             let way = random.between(0, IMPOSSIBLE_WAYS - 1);
             Arriving::impossible_response(way, client, random)
@@ -116,15 +115,19 @@ fn good_pdu(client: &Client, random: &mut Random) -> Arriving {
         pdu_type::WORKING,
         pdu_type::NOCALL,
     ];
-    match random.between(0, 5) {
+    match random.between(0, 6) {
         0..=1 => Arriving::response(client, random),
         2 => Arriving::fack(client, random),
+        3 => Arriving::cancel_ack(client, random),
         _ => Arriving::of_type(random.pick(&plain), client, random),
     }
 }
 
 fn pdu_without_a_row(client: &Client, random: &mut Random) -> Arriving {
     let rare = random.pick(&[pdu_type::WORKING, pdu_type::NOCALL]);
+    if client.state == State::Dispatched || random.percent(30) {
+        return Arriving::cancel_ack_without_a_row(client, random);
+    }
     if client.state.is_active() {
         return Arriving::of_type(rare, client, random);
     }
@@ -148,17 +151,39 @@ pub fn defects_at_start(turn: usize, author: &mut Author) {
     author.start(length);
 }
 
+/// Every second record can take a local cancel.
+pub fn defects_at_cancel(turn: usize, author: &mut Author) {
+    let mut choices = Choices::of(turn);
+    let lends_wrong = choices.bool();
+    let is_broken = choices.bool();
+    let state = any_or::<ClientSide>(ACTIVE_STATES[turn / 8 % 3], &mut choices);
+    let random = &mut author.random;
+    let mut client = ClientSide::sound_record(state, random);
+    if random.percent(50) {
+        client.set_counter(u64::MAX);
+    }
+    if random.percent(25) {
+        client.own.cancel_number = u32::MAX;
+    }
+    if is_broken {
+        client.break_any_rule(random);
+    }
+    event_with_lend(client, lends_wrong, author, |author| author.cancel());
+}
+
 /// Every second record has the timer.
 pub fn defects_at_timer(turn: usize, author: &mut Author) {
     let mut choices = Choices::of(turn);
-    let any_kind = [TimerKind::Wait, TimerKind::Ack];
     let timer = if choices.bool() {
-        (choices.pick(&STATES), choices.pick(&any_kind))
+        (choices.pick(&STATES), choices.pick(&TIMERS))
     } else {
         choices.pick(&[
             (State::Dispatched, TimerKind::Wait),
+            (State::SendFrags, TimerKind::Cancel),
             (State::ReceiveFrags, TimerKind::Wait),
+            (State::Dispatched, TimerKind::Cancel),
             (State::AckPending, TimerKind::Ack),
+            (State::ReceiveFrags, TimerKind::Cancel),
         ])
     };
     let set_serial = |client: &mut Client, random: &mut Random| {

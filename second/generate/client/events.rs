@@ -7,22 +7,23 @@ use crate::codec::pdu::pdu_type;
 use crate::generate::arriving::Arriving;
 use crate::generate::client::author::Author;
 use crate::generate::client::calls::whole_call;
+use crate::generate::client::cancels::{cancel_ack_case, cancel_armed, local_cancel, other_ticket};
 use crate::generate::client::cases::{
     arrival_row, broken_record, first_fragment, fragment_case, impossible_number, malformed_body,
     no_ticket_left,
 };
 use crate::generate::client::defects::{
-    damaged_arrival, defects_at_arrival, defects_at_start, defects_at_timer, refused_arrival,
+    damaged_arrival, defects_at_arrival, defects_at_cancel, defects_at_start, defects_at_timer,
+    refused_arrival,
 };
-use crate::generate::client::pdus::OTHER_TYPES;
 use crate::generate::defects::defects_at_transmit;
 use crate::generate::parts::message_length;
 use crate::generate::random::Random;
 use crate::generate::scenes::{self, any_message_out, any_record, play_scenes, Scene};
-use crate::records::client::{Client, ClientSide, State, TimerKind};
+use crate::records::client::{Client, ClientSide, State, TimerKind, TIMERS};
 
 /// The scenes of one round, each with how often it comes.
-const ROUND: [(Scene<ClientSide>, usize); 17] = [
+const ROUND: [(Scene<ClientSide>, usize); 22] = [
     (broken_record, 3),
     (any_record, 5),
     (any_message_out, 2),
@@ -30,14 +31,19 @@ const ROUND: [(Scene<ClientSide>, usize); 17] = [
     (refused_arrival, 2),
     (damaged_arrival, 4),
     (impossible_number, 2),
-    (malformed_body, 2),
+    (malformed_body, 3),
     (arrival_row, 2),
     (fragment_case, 1),
     (first_fragment, 1),
     (no_ticket_left, 1),
     (defects_at_start, 2),
     (defects_at_transmit, 4),
-    (defects_at_timer, 4),
+    (defects_at_timer, 5),
+    (defects_at_cancel, 3),
+    (local_cancel, 1),
+    (cancel_ack_case, 3),
+    (cancel_armed, 2),
+    (other_ticket, 1),
     (wrong_lend, 1),
     (whole_call, 1),
 ];
@@ -51,15 +57,23 @@ fn wrong_lend(turn: usize, author: &mut Author) {
     scenes::wrong_lend(turn, 2, author);
 }
 
-pub fn state_timer(state: State) -> Option<TimerKind> {
-    [TimerKind::Wait, TimerKind::Ack]
+/// One of the timers that a state names; any where it names none.
+pub fn any_timer_of(state: State, random: &mut Random) -> TimerKind {
+    let named: Vec<TimerKind> = TIMERS
         .into_iter()
-        .find(|kind| state.names(*kind))
+        .filter(|kind| state.names(*kind))
+        .collect();
+    match named[..] {
+        [] => random.pick(&TIMERS),
+        _ => random.pick(&named),
+    }
 }
 
 #[derive(Clone, Copy)]
 enum Happening {
     Start,
+    Cancel,
+    CancelAck,
     Transmit,
     Response,
     RepeatedResponse,
@@ -73,8 +87,10 @@ enum Happening {
     Other,
 }
 
-const HAPPENINGS: [Happening; 12] = [
+const HAPPENINGS: [Happening; 14] = [
     Happening::Start,
+    Happening::Cancel,
+    Happening::CancelAck,
     Happening::Transmit,
     Happening::Response,
     Happening::RepeatedResponse,
@@ -89,14 +105,14 @@ const HAPPENINGS: [Happening; 12] = [
 ];
 
 /// In how many of a hundred cases each of them happens in a state.
-fn shares(state: State) -> [usize; 12] {
+fn shares(state: State) -> [usize; 14] {
     match state {
-        State::Queued => [50, 8, 6, 0, 4, 4, 2, 2, 6, 2, 12, 4],
-        State::SendFrags => [4, 38, 16, 4, 13, 6, 5, 5, 3, 0, 3, 3],
-        State::Dispatched => [2, 2, 24, 4, 12, 6, 12, 14, 14, 4, 3, 3],
-        State::ReceiveFrags => [3, 3, 38, 9, 8, 6, 4, 4, 14, 4, 4, 3],
-        State::AckPending => [20, 4, 6, 6, 4, 4, 4, 4, 28, 8, 8, 4],
-        State::Complete | State::Fault => [42, 6, 8, 8, 6, 6, 3, 3, 5, 0, 9, 4],
+        State::Queued => [46, 2, 2, 8, 6, 0, 4, 4, 2, 2, 6, 2, 12, 4],
+        State::SendFrags => [4, 8, 4, 33, 14, 4, 9, 5, 4, 4, 4, 1, 3, 3],
+        State::Dispatched => [2, 6, 4, 2, 20, 4, 10, 6, 11, 12, 13, 4, 3, 3],
+        State::ReceiveFrags => [2, 6, 4, 2, 33, 8, 7, 6, 4, 4, 13, 4, 4, 3],
+        State::AckPending => [18, 2, 2, 4, 6, 6, 4, 4, 4, 4, 26, 8, 8, 4],
+        State::Complete | State::Fault => [38, 2, 2, 6, 8, 8, 6, 6, 3, 3, 5, 0, 9, 4],
     }
 }
 
@@ -104,15 +120,16 @@ fn shares(state: State) -> [usize; 12] {
 pub fn any_event(author: &mut Author) {
     let state = author.record().state;
     let happening = author.random.share(&HAPPENINGS, &shares(state));
-    let kind = match state_timer(state) {
-        Some(kind) if author.random.percent(85) => kind,
-        _ => author.random.pick(&[TimerKind::Wait, TimerKind::Ack]),
+    let kind = match author.random.percent(85) {
+        true => any_timer_of(state, &mut author.random),
+        false => author.random.pick(&TIMERS),
     };
     match happening {
         Happening::Start => {
             let length = message_length(&mut author.random);
             author.start(length);
         }
+        Happening::Cancel => author.cancel(),
         Happening::Transmit => author.transmit(),
         Happening::Timer => author.timer(kind),
         Happening::LateTimer => author.late_timer(kind),
@@ -130,10 +147,11 @@ fn any_arriving(happening: Happening, client: &Client, random: &mut Random) -> A
         Happening::Response => return Arriving::response(client, random),
         Happening::RepeatedResponse => return Arriving::repeated_response(client, random),
         Happening::Fack => return Arriving::fack(client, random),
+        Happening::CancelAck => return Arriving::cancel_ack(client, random),
         Happening::Failure => failure,
         Happening::Working => pdu_type::WORKING,
         Happening::Nocall => pdu_type::NOCALL,
-        _ => random.pick(&OTHER_TYPES),
+        _ => return Arriving::other_type(client, random),
     };
     Arriving::of_type(pdu_type, client, random)
 }

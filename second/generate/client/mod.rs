@@ -2,6 +2,7 @@
 
 pub mod author;
 pub mod calls;
+pub mod cancels;
 pub mod cases;
 pub mod defects;
 pub mod events;

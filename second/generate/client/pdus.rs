@@ -2,6 +2,7 @@
 
 use crate::codec::pdu::pdu_type;
 use crate::generate::arriving::{Arriving, FACK_WAYS};
+use crate::generate::cancel::{CANCEL_ACK_WAYS, CANCEL_WAYS};
 use crate::generate::fragment::{
     contradicting, impossible, lacking, repeated, Place, CONTRADICTIONS,
 };
@@ -9,13 +10,18 @@ use crate::generate::random::Random;
 use crate::records::client::Client;
 
 /// The types that no client takes.
-pub const OTHER_TYPES: [u8; 5] = [pdu_type::REQUEST, pdu_type::PING, pdu_type::ACK, 8, 10];
+const OTHER_TYPES: [u8; 4] = [
+    pdu_type::REQUEST,
+    pdu_type::PING,
+    pdu_type::ACK,
+    pdu_type::CANCEL,
+];
 
 /// A fault or reject of 0 to 3 bytes.
 const FAILURE_WAYS: usize = 8;
 
 /// All ways in which a body is malformed.
-pub const MALFORMED_WAYS: usize = FAILURE_WAYS + FACK_WAYS;
+pub const MALFORMED_WAYS: usize = FAILURE_WAYS + FACK_WAYS + CANCEL_ACK_WAYS;
 
 impl Arriving {
     /// A response with a fragment that the record lacks.
@@ -59,7 +65,39 @@ impl Arriving {
         Arriving::fack_of_more(client, random)
     }
 
-    /// A fault, reject or fack whose body is malformed in one of so many ways.
+    /// A PDU of a type that no client takes; a cancel among them may be malformed.
+    pub fn other_type(client: &Client, random: &mut Random) -> Arriving {
+        let pdu_type = random.pick(&OTHER_TYPES);
+        let mut arriving = Arriving::of_type(pdu_type, client, random);
+        if pdu_type == pdu_type::CANCEL && random.percent(50) {
+            arriving.damage_cancel(random.between(0, CANCEL_WAYS - 1), random);
+        }
+        arriving
+    }
+
+    /// A cancel_ack that mostly has the number of the last cancel.
+    pub fn cancel_ack(client: &Client, random: &mut Random) -> Arriving {
+        let number = client.own.cancel_number;
+        let any = random.field_u32();
+        let number = random.pick(&[number, number, number, number.wrapping_sub(1), any]);
+        Arriving::cancel_ack_of(number, client, random)
+    }
+
+    /// A cancel_ack that the record has no row for.
+    pub fn cancel_ack_without_a_row(client: &Client, random: &mut Random) -> Arriving {
+        let number = client.own.cancel_number;
+        let other = random.pick(&[
+            number.wrapping_sub(1),
+            number.wrapping_add(1),
+            number ^ 1 << 31,
+        ]);
+        match client.own.cancel {
+            Some(_) => Arriving::cancel_ack_of(other, client, random),
+            None => Arriving::cancel_ack_of(random.pick(&[number, other]), client, random),
+        }
+    }
+
+    /// A fault, reject, fack or cancel_ack whose body is malformed in one of so many ways.
     pub fn malformed(way: usize, client: &Client, random: &mut Random) -> Arriving {
         let failure = [pdu_type::FAULT, pdu_type::REJECT][way % 2];
         if way < FAILURE_WAYS {
@@ -67,6 +105,12 @@ impl Arriving {
             arriving.body.truncate(way / 2);
             return arriving;
         }
-        Arriving::malformed_fack(way - FAILURE_WAYS, client, random)
+        let way = way - FAILURE_WAYS;
+        if way < FACK_WAYS {
+            return Arriving::malformed_fack(way, client, random);
+        }
+        let mut arriving = Arriving::cancel_ack(client, random);
+        arriving.damage_cancel(way - FACK_WAYS, random);
+        arriving
     }
 }

@@ -1,7 +1,7 @@
 //! Scenes of a server that go round the cases of one point: a rule, a refusal, a ticket.
 
 use crate::codec::pdu::{flags1, pdu_type};
-use crate::generate::arriving::{Arriving, FACK_WAYS, IMPOSSIBLE_WAYS, WHOLE};
+use crate::generate::arriving::{Arriving, IMPOSSIBLE_WAYS, WHOLE};
 use crate::generate::fragment::sent_again;
 use crate::generate::made::Made;
 use crate::generate::random::Random;
@@ -30,7 +30,7 @@ pub fn broken_record(turn: usize, author: &mut Author) {
 pub fn record_with_numbers(state: State, random: &mut Random) -> Server {
     let mut server = ServerSide::sound_record(state, random);
     server.number = server.number.clamp(1, u32::MAX - 1);
-    server.set_counter(server.tickets.counter.min(u64::MAX - 1));
+    server.leave_a_ticket();
     server
 }
 
@@ -67,6 +67,7 @@ pub fn old_or_without_a_row(turn: usize, author: &mut Author) {
         pdu_type::FACK,
         pdu_type::ACK,
         pdu_type::PING,
+        pdu_type::CANCEL,
     ]);
     let age = choices.below(3);
     let state = match (kind, age) {
@@ -74,6 +75,7 @@ pub fn old_or_without_a_row(turn: usize, author: &mut Author) {
         (pdu_type::REQUEST, 2) => choices.pick(&[State::IdleRepeatable, State::IdleSpent]),
         (_, 0) => STATES[1 + turn % 7],
         (_, 1) => choices.pick(&[State::IdleFresh, State::HeldData, State::IdleSpent]),
+        (pdu_type::CANCEL, _) => choices.pick(&[State::IdleRepeatable, State::IdleSpent]),
         _ => choices.pick(&[State::Collect, State::Running, State::IdleSpent]),
     };
     let mut server = record_with_numbers(state, &mut author.random);
@@ -158,10 +160,11 @@ pub fn ticket_needed(turn: usize, author: &mut Author) {
 /// Rows that arm nothing are done also where no ticket is left.
 pub fn no_ticket_left(turn: usize, author: &mut Author) {
     let mut choices = Choices::of(turn);
-    let case = choices.below(11);
+    let case = choices.below(12);
     let state = match case {
         0..=1 => State::Replying,
         2 | 6 | 8 => State::HeldData,
+        11 => choices.pick(&STATES[3..]),
         3 => choices.pick(&[State::HeldData, State::HeldFault]),
         4..=5 => State::Running,
         7 => choices.pick(&[State::IdleSpent, State::Collect, State::HeldData]),
@@ -188,6 +191,7 @@ pub fn no_ticket_left(turn: usize, author: &mut Author) {
             pdu::newer(request, server, random)
         }),
         8..=9 => author.arrive(|server, random| Arriving::fack_of(0, server, random)),
+        11 => author.arrive(pdu::cancel),
         _ => author.arrive_of_type(pdu_type::ACK),
     }
 }
@@ -210,12 +214,12 @@ fn record_without_tickets(state: State, random: &mut Random) -> Server {
 
 pub fn malformed_body(turn: usize, author: &mut Author) {
     let mut choices = Choices::of(turn);
-    let way = choices.below(FACK_WAYS);
+    let way = choices.below(pdu::MALFORMED_WAYS);
     // The states shift from one round of the ways to the next.
     let state = STATES[(way + choices.below(8)) % 8];
     let server = ServerSide::sound_record(state, &mut author.random);
     author.set_record(server);
-    author.arrive(|server, random| Arriving::malformed_fack(way, server, random));
+    author.arrive(|server, random| pdu::malformed(way, server, random));
 }
 
 pub fn impossible_number(turn: usize, author: &mut Author) {

@@ -11,6 +11,7 @@ use crate::generate::random::Random;
 use crate::generate::scenes::{any_message_out, any_record, play_scenes, wrong_lend, Scene};
 use crate::generate::server::author::Author;
 use crate::generate::server::calls::whole_call;
+use crate::generate::server::cancels::{cancel_case, cancel_while_running, forgotten_cancel};
 use crate::generate::server::cases::{
     broken_record, changed_call, forbidden_bits, hand_up_case, impossible_number, malformed_body,
     no_ticket_left, old_or_without_a_row, ticket_needed,
@@ -26,7 +27,7 @@ use crate::generate::server::rows::{
 use crate::records::server::{Resend, Server, ServerSide, State};
 
 /// The scenes of one round, each with how often it comes.
-const ROUND: [(Scene<ServerSide>, usize); 26] = [
+const ROUND: [(Scene<ServerSide>, usize); 29] = [
     (broken_record, 3),
     (any_record, 3),
     (any_message_out, 2),
@@ -52,6 +53,9 @@ const ROUND: [(Scene<ServerSide>, usize); 26] = [
     (defects_at_timer, 4),
     (defects_at_reply, 3),
     (defects_at_fault, 2),
+    (cancel_case, 3),
+    (cancel_while_running, 1),
+    (forgotten_cancel, 1),
     (last_scenes, 1),
 ];
 
@@ -74,6 +78,7 @@ enum Happening {
     Ping,
     Fack,
     Ack,
+    Cancel,
     Timer,
     LateTimer,
     Reply,
@@ -82,7 +87,7 @@ enum Happening {
     Other,
 }
 
-const HAPPENINGS: [Happening; 13] = [
+const HAPPENINGS: [Happening; 14] = [
     Happening::Transmit,
     Happening::Request,
     Happening::RepeatedRequest,
@@ -90,6 +95,7 @@ const HAPPENINGS: [Happening; 13] = [
     Happening::Ping,
     Happening::Fack,
     Happening::Ack,
+    Happening::Cancel,
     Happening::Timer,
     Happening::LateTimer,
     Happening::Reply,
@@ -99,14 +105,14 @@ const HAPPENINGS: [Happening; 13] = [
 ];
 
 /// In how many of a hundred cases each of them happens in a state.
-fn shares(state: State) -> [usize; 13] {
+fn shares(state: State) -> [usize; 14] {
     match state {
-        State::IdleFresh | State::IdleSpent => [6, 36, 4, 16, 8, 5, 5, 4, 2, 3, 3, 6, 2],
-        State::IdleRepeatable => [4, 44, 8, 12, 8, 4, 4, 3, 1, 3, 2, 5, 2],
-        State::Collect => [3, 56, 8, 5, 7, 3, 3, 2, 1, 3, 2, 5, 2],
-        State::Running => [3, 8, 6, 5, 8, 3, 3, 2, 1, 38, 14, 6, 3],
-        State::Replying => [48, 2, 6, 4, 6, 14, 8, 2, 1, 2, 2, 3, 2],
-        State::HeldData | State::HeldFault => [2, 14, 4, 4, 12, 12, 12, 24, 6, 2, 2, 4, 2],
+        State::IdleFresh | State::IdleSpent => [6, 34, 4, 16, 7, 5, 5, 3, 4, 2, 3, 3, 6, 2],
+        State::IdleRepeatable => [4, 42, 8, 12, 7, 4, 4, 3, 3, 1, 3, 2, 5, 2],
+        State::Collect => [3, 52, 8, 5, 7, 3, 3, 4, 2, 1, 3, 2, 5, 2],
+        State::Running => [3, 8, 6, 5, 8, 3, 3, 12, 2, 1, 30, 12, 4, 3],
+        State::Replying => [44, 2, 6, 4, 6, 13, 8, 5, 2, 1, 2, 2, 3, 2],
+        State::HeldData | State::HeldFault => [2, 13, 4, 4, 11, 11, 11, 5, 23, 6, 2, 2, 4, 2],
     }
 }
 
@@ -142,6 +148,7 @@ fn any_arriving(happening: Happening, server: &Server, random: &mut Random) -> A
         Happening::Ping => pdu::ping(server, random),
         Happening::Fack => Arriving::fack(server, random),
         Happening::Ack => pdu::of_type(pdu_type::ACK, server, random),
+        Happening::Cancel => pdu::cancel(server, random),
         _ => pdu::other_type(server, random),
     }
 }

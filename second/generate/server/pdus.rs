@@ -2,6 +2,7 @@
 
 use crate::codec::pdu::{flags1, pdu_type, Header};
 use crate::generate::arriving::{Arriving, FACK_WAYS, IMPOSSIBLE_WAYS};
+use crate::generate::cancel::{CANCEL_ACK_WAYS, CANCEL_WAYS};
 use crate::generate::fragment::{
     contradicting, impossible, lacking, repeated, sent_again, Place, CONTRADICTIONS,
 };
@@ -12,15 +13,17 @@ use crate::records::incoming::Incoming;
 use crate::records::server::{Server, State};
 
 /// The types that no server takes.
-pub const OTHER_TYPES: [u8; 7] = [
+const OTHER_TYPES: [u8; 6] = [
     pdu_type::RESPONSE,
     pdu_type::FAULT,
     pdu_type::WORKING,
     pdu_type::NOCALL,
     pdu_type::REJECT,
-    8,
-    10,
+    pdu_type::CANCEL_ACK,
 ];
+
+/// The ways in which a body is malformed that a server judges.
+pub const MALFORMED_WAYS: usize = FACK_WAYS + CANCEL_WAYS;
 
 /// Another idempotent bit, object, interface, version or operation.
 pub const CALL_CHANGES: usize = 5;
@@ -106,11 +109,32 @@ pub fn ping(server: &Server, random: &mut Random) -> Arriving {
     ping
 }
 
+/// The numbers of cancels that are next to the last one seen, or far from it.
+pub fn numbers_beside(seen: u32) -> [u32; 6] {
+    [
+        seen,
+        seen.wrapping_sub(1),
+        seen.wrapping_add(1),
+        seen ^ 1 << 31,
+        0,
+        u32::MAX,
+    ]
+}
+
+/// A cancel of the server's call, mostly with a number beside the last one seen.
+pub fn cancel(server: &Server, random: &mut Random) -> Arriving {
+    let any = random.field_u32();
+    let beside = random.pick(&numbers_beside(server.own.cancel_number));
+    let number = random.pick(&[beside, beside, any]);
+    Arriving::cancel_of(number, server, random)
+}
+
 /// A PDU that the record has a row for, mostly.
 pub fn good(server: &Server, random: &mut Random) -> Arriving {
-    match random.between(0, 9) {
+    match random.between(0, 10) {
         0..=4 => request(server, random),
         5..=6 => ping(server, random),
+        10 if server.state.answers_cancel() => cancel(server, random),
         7 if server.state.has_answer() => of_type(pdu_type::ACK, server, random),
         _ if server.state.has_answer() => Arriving::fack(server, random),
         _ => request(server, random),
@@ -138,21 +162,34 @@ pub fn any_impossible(server: &Server, random: &mut Random) -> Arriving {
     impossible_request(way, server, random)
 }
 
+/// A fack or cancel whose body is malformed in one of so many ways.
+pub fn malformed(way: usize, server: &Server, random: &mut Random) -> Arriving {
+    if way < FACK_WAYS {
+        return Arriving::malformed_fack(way, server, random);
+    }
+    let mut arriving = cancel(server, random);
+    arriving.damage_cancel(way - FACK_WAYS, random);
+    arriving
+}
+
 pub fn any_malformed(server: &Server, random: &mut Random) -> Arriving {
-    let way = random.between(0, FACK_WAYS - 1);
-    let arriving = Arriving::malformed_fack(way, server, random);
+    let way = random.between(0, MALFORMED_WAYS - 1);
+    let arriving = malformed(way, server, random);
     if random.percent(20) {
         return newer(arriving, server, random);
     }
     arriving
 }
 
-/// A PDU of a type that no server takes; a fault or reject among them may be malformed.
+/// A PDU of a type that no server takes; a fault, reject or cancel_ack among them may be malformed.
 pub fn other_type(server: &Server, random: &mut Random) -> Arriving {
     let pdu_type = random.pick(&OTHER_TYPES);
     let mut arriving = of_type(pdu_type, server, random);
     if matches!(pdu_type, pdu_type::FAULT | pdu_type::REJECT) && random.percent(50) {
         arriving.body.truncate(random.between(0, 3));
+    }
+    if pdu_type == pdu_type::CANCEL_ACK && random.percent(50) {
+        arriving.damage_cancel(random.between(0, CANCEL_ACK_WAYS - 1), random);
     }
     if pdu_type == pdu_type::RESPONSE && random.percent(50) {
         arriving.header.fragment_number = random.pick(&[32, 65_535]);
@@ -194,16 +231,21 @@ pub fn contradiction(server: &Server, random: &mut Random) -> Arriving {
 
 /// A PDU that the record has no row for.
 pub fn without_a_row(server: &Server, random: &mut Random) -> Arriving {
-    let kind = random.pick(&[pdu_type::ACK, pdu_type::FACK]);
+    let kind = random.pick(&[pdu_type::ACK, pdu_type::FACK, pdu_type::CANCEL]);
     let arriving = match kind {
         pdu_type::FACK => Arriving::fack(server, random),
+        pdu_type::CANCEL => cancel(server, random),
         _ => of_type(kind, server, random),
     };
     if server.state == State::Running && random.percent(60) {
         let request = repeated_request(server, random);
         return newer(request, server, random);
     }
-    let has_row = server.state.has_answer() && !(kind == pdu_type::ACK && server.call.idempotent);
+    let has_row = match kind {
+        pdu_type::CANCEL => server.state.answers_cancel(),
+        pdu_type::ACK => server.state.has_answer() && !server.call.idempotent,
+        _ => server.state.has_answer(),
+    };
     if has_row || random.percent(30) {
         return newer(arriving, server, random);
     }

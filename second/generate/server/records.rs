@@ -4,8 +4,8 @@ use super::events;
 use crate::generate::author::Author;
 use crate::generate::made::Made;
 use crate::generate::parts::{
-    any_call, any_incoming, any_outgoing, any_serial, any_timer, call_number, no_outgoing,
-    retry_count, ticket_above, ticket_counter, whole_incoming,
+    any_call, any_incoming, any_outgoing, any_serial, any_timer, call_number, cancel_number,
+    no_outgoing, retry_count, ticket_above, ticket_counter, whole_incoming,
 };
 use crate::generate::random::Random;
 use crate::records::call::Call;
@@ -28,15 +28,20 @@ impl Made for ServerSide {
         server.incoming = incoming_in(state, random);
         server.resends = retry_count(random);
         server.own.resend = any_timer(state.is_held(), server.tickets, random);
+        server.own.cancel_number = cancel_number(random);
         server
     }
 
     fn break_own_rule(server: &mut Server, rule: Rule, random: &mut Random) {
-        let resend = &mut server.own.resend;
         match rule {
             Rule::ResendCount => server.resends = random.pick(&[6, 7, 255]),
-            Rule::ResendState => *resend = Some(random.pick(&[0, server.tickets.counter])),
-            Rule::ResendTicket => *resend = ticket_above(&mut server.tickets, random),
+            Rule::ResendState => {
+                server.own.resend = Some(random.pick(&[0, server.tickets.counter]));
+            }
+            Rule::ResendTicket => {
+                server.leave_a_ticket();
+                server.own.resend = ticket_above(server.tickets, random);
+            }
             // No rule of a server.
             _ => {}
         }

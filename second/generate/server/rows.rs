@@ -11,7 +11,7 @@ use crate::records::incoming::Incoming;
 use crate::records::server::{Resend, State, STATES};
 use crate::records::timer::RETRY_LIMIT;
 
-const ORDERS: [ByteOrder; 2] = [ByteOrder::Little, ByteOrder::Big];
+pub const ORDERS: [ByteOrder; 2] = [ByteOrder::Little, ByteOrder::Big];
 
 fn with_no_fack(mut arriving: Arriving, no_fack: bool) -> Arriving {
     arriving.header.flags1 &= !flags1::NO_FACK;

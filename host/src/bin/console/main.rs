@@ -1,10 +1,11 @@
 //! A console: calls a controller over UDP, several times, and compares each reply with what it must be.
 
 mod caller;
+mod stop;
 
 use caller::{Caller, End, Spans};
 use morphelai::programs::network::{Faults, Network};
-use morphelai::programs::operations::{is_right, Answer, FILL, INTERFACE, VERSION};
+use morphelai::programs::operations::{is_right, Answer, CANCELLED, FILL, INTERFACE, VERSION};
 use morphelai::programs::options::Arguments;
 use morphelai::programs::random::Random;
 use morphelai::programs::transcript::Transcript;
@@ -15,9 +16,9 @@ use std::process::ExitCode;
 use std::time::{Duration, Instant};
 
 const USAGE: &str = "console --to ADDRESS:PORT [--calls N] [--size BYTES] [--reply BYTES] [--operation 0..3] \
-[--idempotent] [--wait MS] [--ack MS] [--seconds N] [--loss %] [--delay %] [--repeat %] [--seed N] [--trace] \
-[--pcap FILE]";
-const VALUED: [&str; 6] = ["--to", "--size", "--reply", "--operation", "--wait", "--ack"];
+[--idempotent] [--wait MS] [--ack MS] [--cancel MS] [--stop MS] [--seconds N] [--loss %] [--delay %] [--repeat %] \
+[--seed N] [--trace] [--pcap FILE]; the line stop on standard input cancels the call that is out";
+const VALUED: [&str; 8] = ["--to", "--size", "--reply", "--operation", "--wait", "--ack", "--cancel", "--stop"];
 
 /// What the arguments ask for.
 struct Plan {
@@ -86,6 +87,8 @@ impl Plan {
             spans: Spans {
                 wait: milliseconds("--wait", 100)?,
                 ack: milliseconds("--ack", 20)?,
+                cancel: milliseconds("--cancel", 1000)?,
+                stop: arguments.span("--stop", Duration::from_millis(1))?,
                 seconds: arguments.span("--seconds", Duration::from_secs(1))?,
             },
             faults: arguments.faults()?,
@@ -108,22 +111,27 @@ impl Plan {
         let end = caller.call(&self.call, &request).map_err(|failure| during(number, failure))?;
         let time = began.elapsed().as_secs_f64() * 1000.0;
         let (right, what) = match &end {
-            End::Answered(answer) => self.judge(&request, answer),
+            End::Answered(answer) => self.judge(&request, answer, caller.is_cancel_sent()),
             End::Failed(why) => (false, why.clone()),
         };
         say(&format!("call {number}: {}, {what}, {time:.1} ms", if right { "good" } else { "failed" }));
         Ok(right)
     }
 
-    /// Whether an answer is right, and a few words on it.
-    fn judge(&self, request: &[u8], answer: &Answer) -> (bool, String) {
+    /// Whether an answer is right, and a few words on it; of a call for which a cancel was sent, what came of that.
+    fn judge(&self, request: &[u8], answer: &Answer, cancel_sent: bool) -> (bool, String) {
         let right = is_right(self.call.operation, self.call.idempotent, request, answer);
         let what = match answer {
             Answer::Reply(reply) if right => format!("{} back", reply.len()),
             Answer::Reply(reply) => format!("a wrong reply of {} back", reply.len()),
             Answer::Fault(status) => format!("fault {status:#010x} back"),
         };
-        (right, format!("{} bytes, {what}", request.len()))
+        let came_of_cancel = match answer {
+            _ if !cancel_sent => "",
+            Answer::Fault(CANCELLED) => ", cancelled: the controller ended it",
+            Answer::Reply(_) | Answer::Fault(_) => ", completed although stop was pressed",
+        };
+        (right, format!("{} bytes, {what}{came_of_cancel}", request.len()))
     }
 }
 

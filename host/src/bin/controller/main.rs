@@ -9,16 +9,16 @@ use morphelai::programs::options::Arguments;
 use morphelai::programs::tally::Tally;
 use morphelai::programs::transcript::Transcript;
 use morphelai::programs::{conclude, say, Failure};
-use morphelai::{Header, Outcome, PduType};
+use morphelai::{Header, Notice, Outcome, PduType};
 use service::Service;
 use std::collections::HashMap;
 use std::net::{Ipv4Addr, SocketAddrV4};
 use std::process::ExitCode;
 use std::time::{Duration, Instant, SystemTime, UNIX_EPOCH};
 
-const USAGE: &str = "controller [--listen ADDRESS:PORT] [--resend MS] [--calls N] [--seconds N] [--idle SECONDS] \
-[--loss %] [--delay %] [--repeat %] [--seed N] [--trace] [--pcap FILE]";
-const VALUED: [&str; 3] = ["--listen", "--resend", "--idle"];
+const USAGE: &str = "controller [--listen ADDRESS:PORT] [--resend MS] [--work MS] [--ignore-cancels] [--calls N] \
+[--seconds N] [--idle SECONDS] [--loss %] [--delay %] [--repeat %] [--seed N] [--trace] [--pcap FILE]";
+const VALUED: [&str; 4] = ["--listen", "--resend", "--work", "--idle"];
 /// How long nothing must have come before --calls ends the program: a console may still ask for a lost reply.
 const QUIET: Duration = Duration::from_secs(1);
 /// The most activities that have a record; more are not taken, so that memory stays bounded.
@@ -30,6 +30,11 @@ struct Controller {
     tally: Tally,
     boot: u32,
     resend: Duration,
+    /// How long each operation takes.
+    work: Option<Duration>,
+    ignores_cancels: bool,
+    /// How many calls were ended because of a cancel.
+    cancelled: u64,
     limits: Limits,
 }
 
@@ -46,14 +51,17 @@ fn main() -> ExitCode {
 }
 
 fn run() -> Result<bool, Failure> {
-    let arguments = Arguments::parse(std::env::args_os().skip(1).collect(), &VALUED, &[])?;
+    let arguments = Arguments::parse(std::env::args_os().skip(1).collect(), &VALUED, &["--ignore-cancels"])?;
     if arguments.has("--help") {
         say(&format!("usage: {USAGE}"));
         return Ok(true);
     }
     let mut controller = Controller::new(&arguments)?;
     let served = controller.serve();
-    // Whatever ended it, the count is told.
+    // Whatever ended it, the counts are told.
+    if controller.cancelled > 0 {
+        say(&format!("{} of the executions ended by a cancel, without effect", controller.cancelled));
+    }
     let counted = summary(&controller.tally);
     served.and(counted)
 }
@@ -72,7 +80,9 @@ impl Controller {
     fn new(arguments: &Arguments) -> Result<Controller, Failure> {
         let second = Duration::from_secs(1);
         let at = arguments.address("--listen")?.unwrap_or(SocketAddrV4::new(Ipv4Addr::LOCALHOST, 0));
-        let resend = arguments.span("--resend", Duration::from_millis(1))?.unwrap_or(Duration::from_millis(200));
+        let millisecond = Duration::from_millis(1);
+        let resend = arguments.span("--resend", millisecond)?.unwrap_or(Duration::from_millis(200));
+        let work = arguments.span("--work", millisecond)?;
         let faults = arguments.faults()?;
         let limits = Limits {
             end: arguments.span("--seconds", second)?.map(|end| Instant::now() + end),
@@ -91,6 +101,9 @@ impl Controller {
             tally: Tally::default(),
             boot: SystemTime::now().duration_since(UNIX_EPOCH).map_or(0, |since| since.as_secs() as u32),
             resend,
+            work,
+            ignores_cancels: arguments.has("--ignore-cancels"),
+            cancelled: 0,
             limits,
         })
     }
@@ -113,7 +126,7 @@ impl Controller {
         end.is_some_and(|end| end <= now) || idle.is_some_and(quiet) || done && quiet(QUIET) && self.is_at_rest()
     }
 
-    /// Nothing is held back, and no reply waits for its ack.
+    /// Nothing is held back, no call is running, and no reply waits for its ack.
     fn is_at_rest(&self) -> bool {
         !self.network.holds() && self.services.values().all(|service| service.until().is_none())
     }
@@ -135,7 +148,8 @@ impl Controller {
         }
     }
 
-    /// Hands a datagram to the server of its activity, and executes the call where it is dispatched.
+    /// Hands a datagram to the server of its activity. Executes the call where it is dispatched, and ends it where it
+    /// is cancelled.
     fn arrive(&mut self, header: &Header, datagram: &[u8], from: SocketAddrV4) -> Result<(), Failure> {
         self.admit(header, from)?;
         let activity = header.activity();
@@ -143,11 +157,17 @@ impl Controller {
             self.network.transcript.pdu("received", datagram, "dropped: not of an activity that is served");
             return Ok(());
         };
-        if service.arrive(datagram, &mut self.network)? {
-            let times = self.tally.add(activity, service.number(), header.has(IDEMPOTENT));
-            service.execute(times, &mut self.network)?;
+        match service.arrive(datagram, &mut self.network)? {
+            Some(Notice::Dispatch) => {
+                let times = self.tally.add(activity, service.number(), header.has(IDEMPOTENT));
+                service.begin(times, self.work, &mut self.network)
+            }
+            Some(Notice::Cancel) if !self.ignores_cancels => {
+                self.cancelled += 1;
+                service.cancel(&mut self.network)
+            }
+            _ => Ok(()),
         }
-        Ok(())
     }
 
     /// Makes a server for an activity that is first seen, by a request or a ping.
