@@ -241,5 +241,18 @@ pub fn write_cancel_ack(number: u32, accepts: bool) -> [u8; 12]
     ensures { λ r. ⌜ r ≡ cancelAckBytes number accepts ⌝ }
 {
     let n = words::split32(number);
-    [0, 0, 0, 0, n[0], n[1], n[2], n[3], words::mark(accepts), 0, 0, 0]
+    [
+        0,
+        0,
+        0,
+        0,
+        n[0],
+        n[1],
+        n[2],
+        n[3],
+        words::mark(accepts),
+        0,
+        0,
+        0,
+    ]
 }

@@ -1,7 +1,7 @@
 -- What the client makes of cancels: what a local cancel sends and leaves, and that CANCEL stays armed until the cancel is
 -- answered or the call ends.
 use Prim.Native.Nat.{ℕ, _+_, _<_}
-use mathlib.Core.Bool.{Bool, true, false, true≢false, false≢true}
+use mathlib.Core.Bool.{Bool, true, false, false≢true}
 use mathlib.Core.List.{List, []}
 use mathlib.Core.Logic.{_⊎_, inl, inr}
 use mathlib.Core.Path.{_≡_, refl, sym, ap, subst, _∙_}
@@ -9,7 +9,7 @@ use native.Mathlib.Omega.{arith}
 use lib.Dec.{ltb}
 use lib.ListN.{length}
 use Rattle.words.specs.Choice.{choose}
-use Rattle.words.specs.Sizes.{pduSize, retryLimit}
+use Rattle.words.specs.Sizes.{retryLimit}
 use Rattle.answers.specs.declared.Answer.the-variants.{Done}
 use Rattle.answers.specs.declared.Ground.{Ground}
 use Rattle.answers.specs.declared.Ground.the-variants.{Pass, Refuse}
@@ -32,7 +32,7 @@ use Rattle.reader.specs.Reading.{reading}
 use Rattle.writer.proofs.RoundTrip.{Fits, read-written, body-written}
 use Rattle.timers.specs.declared.Timer.{Timer}
 use Rattle.timers.specs.declared.Timer.the-variants.{Off, Armed}
-use Rattle.timers.specs.Tickets.{usedUp, nextTicket, armedAfresh, armedIfOff, ticketsIfOff, off}
+use Rattle.timers.specs.Tickets.{usedUp, armedAfresh, armedIfOff, ticketsIfOff, off}
 use Rattle.timers.proofs.TimerLaws.{next-is, off-has-none}
 use Rattle.grounds.specs.Entry.{lentGround}
 use Rattle.grounds.specs.Fragment.{isLast, bodyLength}
@@ -62,7 +62,6 @@ use Rattle.client.specs.Sending.{pduHeader, sentOut}
 use Rattle.client.specs.Machine.{outcomeOf, sending, planOf, acted, starting, transmitting, timing, cancelling, arriving}
 use Rattle.client.proofs.Judging.{start-passes, cancel-passes, arrival-passes, acknowledgement-passes}
 use Rattle.client.proofs.Accepting.{start-accepted, cancel-accepted, arrive-row, arrive-accepted}
-use Rattle.client.proofs.Exact.{cancel-number}
 use Rattle.client.proofs.Sends.{cancel-whole}
 
 -- A call whose CANCEL is armed is active,
@@ -88,9 +87,10 @@ start-idle FaultState e = refl
 unfoldable pub Stays : Client → ℕ → Type 0
 Stays d ticket = (d .cancel ≡ Armed ticket) ⊎ (isActive (d .state) ≡ false)
 
--- A datagram that is a cancel_ack, type 10, well formed and with the record's cancel number.
+-- A datagram that is a cancel_ack, type 10, with the record's call number, well formed and with the record's cancel number.
 pub record AnswersLast (c : Client) (datagram : List ℕ) : Type 0 where
   pub kind : reading datagram .header .kind ≡ 10
+  pub call : reading datagram .header .number ≡ c .number
   pub formed : cancelAckReading (reading datagram .little) (bodyOf datagram) .answer ≡ Done
   pub number : cancelAckReading (reading datagram .little) (bodyOf datagram) .number ≡ c .cancels
 
@@ -205,7 +205,12 @@ module _ (c : Client) (ticket : ℕ) (armed : c .cancel ≡ Armed ticket) where
       answers e is =
           let j = acknowledgement-passes c lent r (bodyOf datagram) e is in (
             unfold arrivalPlan arrivalRow cancelAckPlan accepted in ap (λ (x : Event). arrivalRow x c (r .header) n status .answer) is,
-            record { kind = cancel-ack-kind (r .header .kind) is; formed = j .formed; number = sym (j .number) },
+            record {
+              kind = cancel-ack-kind (r .header .kind) is;
+              call = sym (arrival-passes c lent r (bodyOf datagram) e .1 .mine);
+              formed = j .formed;
+              number = sym (j .number);
+            },
           )
 
       by-row : arrivalGround c lent r (bodyOf datagram) ≡ Pass → let d = arrivalRow (eventOf (r .header .kind)) c (r .header) n status .client in
@@ -431,9 +436,11 @@ module _ (c : Client) (datagram slots out : List ℕ) (done : arriving c datagra
 
   pub cancel-ack-answers : AnswersLast c datagram × (off (c .cancel) ≡ false)
   cancel-ack-answers =
-      let j =
-      acknowledgement-passes c (lentGround (length slots) (length out)) (reading datagram) (bodyOf datagram) (arrive-accepted c datagram slots out done) is-ack in
-      (record { kind = typed; formed = j .formed; number = sym (j .number) }, j .armed)
+      let lent = lentGround (length slots) (length out) in
+      let pass = arrive-accepted c datagram slots out done in
+      let j = acknowledgement-passes c lent (reading datagram) (bodyOf datagram) pass is-ack in
+      let call = sym (arrival-passes c lent (reading datagram) (bodyOf datagram) pass .1 .mine) in
+      (record { kind = typed; call = call; formed = j .formed; number = sym (j .number) }, j .armed)
 
   pub cancel-ack-disarms : arriving c datagram slots out .outcome .client ≡ cancelDisarmed c
   unfolding arriving acted sending outcomeOf arrivalRow cancelAckPlan accepted

@@ -145,7 +145,7 @@ pub fn timer(c: Client, kind: TimerKind, ticket: u64, out: &mut [u8]) -> Outcome
     outcome_of(plan, send_out(send, client, &none, out))
 }
 
-// Local cancel: the fitter presses stop.
+// Local cancel: the client's user asks that the call be stopped; the call goes on.
 pub fn cancel(c: Client, out: &mut [u8]) -> Outcome
     ensures { λ r. ⌜ Stepped (cancelling c (now (out .entry))) r (now (out .exit)) ⌝ }
 {

@@ -280,7 +280,14 @@ pub fn to_sending(c: Client) -> Client
     ensures { λ r. ⌜ r ≡ sending c ⌝ }
 {
     let cancel = c.cancel;
-    with_timers(c, State::SendFrags, c.tickets, Timer::Off, Timer::Off, cancel)
+    with_timers(
+        c,
+        State::SendFrags,
+        c.tickets,
+        Timer::Off,
+        Timer::Off,
+        cancel,
+    )
 }
 
 // To ACK_PENDING with only ACK armed.

@@ -222,7 +222,15 @@ pub fn arrival(c: Client, lent: Ground, reading: Reading, body: &[u8]) -> Ground
     let ack = bodies::read_cancel_ack(body, reading.little);
     let read = ack.answer;
     let formed = grounds::of_answer(read);
-    let pdu = pdu_ground(event, old, formed, h.flags1, h.fragment, body, reading.little);
+    let pdu = pdu_ground(
+        event,
+        old,
+        formed,
+        h.flags1,
+        h.fragment,
+        body,
+        reading.little,
+    );
     let cancel = c.cancel;
     let current = is_current(cancel, c.cancels, ack.number);
     let length = grounds::body_length(body.len());

@@ -1,32 +1,28 @@
 -- How often cancels are on the books, and which dispatch a run is of.
 use Prim.Native.Nat.{ℕ, _+_, _≤_, _<_}
 use mathlib.Core.Bool.{Bool, true, false}
-use mathlib.Core.List.{List, [], _∷_, _++_, append-assoc}
-use mathlib.Core.Logic.{_⊎_, inl, inr}
+use mathlib.Core.List.{List, [], _∷_, append-assoc}
+use mathlib.Core.Logic.{inl}
 use mathlib.Core.Path.{_≡_, refl, sym, ap, _∙_}
 use native.Mathlib.Omega.{arith}
 use lib.Dec.{eqb}
-use lib.ListN.{length, length-append}
-use borrow.Author.Tests.{eq-eqb, eqb-true, ne-eqb}
-use Rattle.words.specs.Choice.{choose, both}
-use Rattle.words.proofs.Tests.{choose-true, choose-false, both-hold, both-true}
+use lib.ListN.{length}
+use borrow.Author.Tests.{eq-eqb, eqb-true}
+use Rattle.words.specs.Choice.{both}
+use Rattle.words.proofs.Tests.{both-true}
 use Rattle.history.specs.Lists.{In, andThen}
 use Rattle.history.specs.World.{Dispatched, Cancelled, Heard}
 use Rattle.history.specs.Steps.{lastDispatched}
 use Rattle.history.specs.Claim.{timesCancelled, timesHeard, RunOf, AskedFor}
+use Rattle.history.proofs.ListLaws.{counts, counts-not, counts-none}
 
 -- One more cancel of a start counts once,
 pub cancelled-same : (ks : List Cancelled) (k : Cancelled) (n : ℕ) → n ≡ k .ordinal → timesCancelled n (andThen ks k) ≡ timesCancelled n ks + 1
-cancelled-same [] k n e = rw (choose-true {A = ℕ} (eqb n (k .ordinal)) 1 0 (eq-eqb n (k .ordinal) e))
-cancelled-same (x ∷ ks) k n e = rw (cancelled-same ks k n e) (omega arith)
+cancelled-same ks k n e = counts (λ x. eqb n (x .ordinal)) ks k (eq-eqb n (k .ordinal) e)
 
 -- and a start that no cancel is of was not cancelled.
 pub cancelled-none : (ks : List Cancelled) (n : ℕ) → ((k : Cancelled) → In k ks → k .ordinal ≡ n → ⊥) → timesCancelled n ks ≡ 0
-cancelled-none [] n none = refl
-cancelled-none (x ∷ ks) n none =
-    let here : choose {A = ℕ} (eqb n (x .ordinal)) 1 0 ≡ 0 =
-    choose-false {A = ℕ} (eqb n (x .ordinal)) 1 0 (ne-eqb n (x .ordinal) (λ (e : n ≡ x .ordinal). none x (inl refl) (sym e))) in
-    rw (here, cancelled-none ks n (λ (k : Cancelled) (m : In k ks). none k (inr m)))
+cancelled-none ks n none = counts-none (λ x. eqb n (x .ordinal)) ks (λ k m e. none k m (sym (eqb-true n (k .ordinal) e)))
 
 -- A cancel told is of a run and a number.
 abbrev isHeard : ℕ → ℕ → Heard → Bool
@@ -36,25 +32,6 @@ heard-is : (run n : ℕ) (h : Heard) → isHeard run n h ≡ true → (run ≡ h
 heard-is run n h e =
     let parts = both-true (eqb run (h .run)) (eqb n (h .number)) e in
     (eqb-true run (h .run) (parts .0), eqb-true n (h .number) (parts .1))
-
--- One more that is of another run or number does not count,
-heard-other : (hs : List Heard) (h : Heard) (run n : ℕ) → isHeard run n h ≡ false → timesHeard run n (andThen hs h) ≡ timesHeard run n hs
-heard-other [] h run n e = rw (choose-false {A = ℕ} (isHeard run n h) 1 0 e)
-heard-other (x ∷ hs) h run n e = ap (λ (k : ℕ). choose (isHeard run n x) 1 0 + k) (heard-other hs h run n e)
-
--- one of that run and number counts once,
-heard-same : (hs : List Heard) (h : Heard) (run n : ℕ) → isHeard run n h ≡ true → timesHeard run n (andThen hs h) ≡ timesHeard run n hs + 1
-heard-same [] h run n e = rw (choose-true {A = ℕ} (isHeard run n h) 1 0 e)
-heard-same (x ∷ hs) h run n e = rw (heard-same hs h run n e) (omega arith)
-
--- and where none is of them none counts.
-heard-none : (hs : List Heard) (run n : ℕ) → ((h : Heard) → In h hs → isHeard run n h ≡ true → ⊥) → timesHeard run n hs ≡ 0
-heard-none [] run n none = refl
-heard-none (x ∷ hs) run n none = by-test (isHeard run n x) refl (heard-none hs run n (λ (h : Heard) (m : In h hs). none h (inr m)))
-  where
-    by-test : (t : Bool) → isHeard run n x ≡ t → timesHeard run n hs ≡ 0 → choose t 1 0 + timesHeard run n hs ≡ 0
-    by-test true e rest = absurd (none x (inl refl) e)
-    by-test false e rest = unfold choose in omega (arith, rest)
 
 -- So a number above all that were told in its run is told once.
 pub heard-once : (hs : List Heard) (h : Heard) → ((x : Heard) → In x hs → x .run ≡ h .run → x .number < h .number)
@@ -74,11 +51,11 @@ heard-once hs h above once run n = by-test (isHeard run n h) refl
 
     by-test : (t : Bool) → isHeard run n h ≡ t → timesHeard run n (andThen hs h) ≤ 1
     by-test true e =
-        let one = heard-same hs h run n e in
-        let before = heard-none hs run n (none e) in
+        let one = counts (isHeard run n) hs h e in
+        let before = counts-none (isHeard run n) hs (none e) in
         omega arith
     by-test false e =
-        let same = heard-other hs h run n e in
+        let same = counts-not (isHeard run n) hs h e in
         let before = once run n in
         omega arith
 

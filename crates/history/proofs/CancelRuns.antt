@@ -11,8 +11,8 @@ use Rattle.words.specs.Choice.{choose}
 use Rattle.words.specs.Sizes.{retryLimit}
 use Rattle.answers.specs.declared.Answer.the-variants.{Done}
 use Rattle.answers.specs.declared.Ground.{Ground}
-use Rattle.answers.specs.declared.Ground.the-variants.{Pass}
-use Rattle.bodies.specs.Cancel.{cancelReading}
+use Rattle.bodies.specs.declared.CancelReading.{CancelReading}
+use Rattle.bodies.proofs.CancelTrip.{cancel-read}
 use Rattle.calls.specs.declared.Notice.{Notice}
 use Rattle.calls.specs.declared.Notice.the-variants.{Nothing as Untold, Last, Count, Fault as FaultNotice, Reject, Cause, Dispatch, Cancel as CancelTold}
 use Rattle.grounds.proofs.PassLaws.{done-or-not}
@@ -28,7 +28,7 @@ use Rattle.server_record.specs.declared.State.{State}
 use Rattle.server_record.specs.declared.State.the-variants.{Idle as IdleState, Running}
 use Rattle.server_record.specs.declared.Server.{Server}
 use Rattle.server_record.specs.Record.{holding, unarmed, withOutgoing, withResends}
-use Rattle.server_record.specs.States.{neverCalled, isFresh}
+use Rattle.server_record.specs.States.{neverCalled, isFresh, isIdle, isRunning}
 use Rattle.server_record.specs.Arming.{runsAgain}
 use Rattle.server_record.proofs.StateLaws.{replying-state, held-state}
 use Rattle.server_steps.specs.declared.Send.the-variants.{Nothing}
@@ -37,14 +37,16 @@ use Rattle.server_steps.specs.Rows.{answered, replyPlan, settled, transmitted, 
 use Rattle.server.specs.Machine.{outcomeOf, sending, replying, transmitting, faulting, timing}
 use Rattle.server.proofs.Judging.{transmit-passes, timer-passes}
 use Rattle.server.proofs.Accepting.{reply-accepted, transmit-accepted, fault-accepted, timer-accepted}
-use Rattle.server.proofs.Hearing.{reply-deaf, transmit-deaf, fault-deaf, timer-deaf}
+use Rattle.server.proofs.CancelAnswers.{CancelComes, WellFormed, cancelNumber, formed-read}
+use Rattle.server.proofs.Cancels.{cancel-taken, cancel-heard}
+use Rattle.server.proofs.Hearing.{reply-deaf, transmit-deaf, fault-deaf, timer-deaf, only-cancel-heard}
 use Rattle.history.specs.Lists.{In}
 use Rattle.history.specs.World.{Started, Dispatched, Cancelled, Heard, World}
 use Rattle.history.specs.Events.{Lent, ClientEvent, ServerEvent, Event, Start, ClientTransmit, ClientArrive, ClientTimer, ClientCancel, ServerArrive, ServerTransmit, ServerTimer, Reply as GiveReply, Fault, OfClient, OfServer}
-use Rattle.history.specs.Steps.{bytesLent, ownAfter, lastStart, ofRecord, ofArrival, happens, answerTo, noticeOf, step, run}
+use Rattle.history.specs.Steps.{bytesLent, ownAfter, lastStart, cancelOf, ofRecord, ofArrival, happens, answerTo, noticeOf, step, run}
 use Rattle.history.specs.Fairness.{Premise, ServerPremise, Fair}
 use Rattle.history.specs.Freshness.{Fresh}
-use Rattle.history.specs.Claim.{HeardAskedFor, HeardOnce, Hears}
+use Rattle.history.specs.Claim.{runs, HeardAskedFor, HeardOnce, HeardRunning, Hears}
 use Rattle.history.proofs.ListLaws.{within-grown}
 use Rattle.history.proofs.Invariant.{Inv}
 use Rattle.history.proofs.Refused.{refused-same}
@@ -52,7 +54,7 @@ use Rattle.history.proofs.ServerSteps.{past}
 use Rattle.history.proofs.ClientEvents.{cancelled-more}
 use Rattle.history.proofs.CancelLists.{asked-more}
 use Rattle.history.proofs.Cancelling.{CancelsInv, cancels-on, cancels-started, cancel-counts}
-use Rattle.history.proofs.Hearing.{ToldIn, HeardInv, passes, hearing-on, arrive-hears, told-asked, above-told}
+use Rattle.history.proofs.Hearing.{ToldIn, HeardInv, passes, hearing-on, arrive-hears, told-asked}
 use Rattle.history.proofs.Histories.{start-more, step-inv}
 use Rattle.history.proofs.Undisturbed.{running-is}
 
@@ -185,7 +187,7 @@ server-keeps w (ServerArrive p lent out) inv known done fair =
       server =
           hearing-on (w .server .machine) _ _ (w .books .cancels) (w .books .dispatches) (w .books .heard) (ofArrival w p Done) _ (known .server)
           (arrive-hears (w .server .machine) (p .bytes) (w .server .slots) out (known .server .collecting) d)
-          (told-asked w p out inv (known .client) (fair .earlier) (ofArrival w p Done) refl);
+          (told-asked w p out inv (known .client) (fair .earlier));
     }) done
 server-keeps w (ServerTransmit message out) inv known done fair =
     let deaf = transmit-deaf (w .server .machine) message out in
@@ -273,20 +275,46 @@ pub told-once : (w : World) → CancelInv w → HeardOnce w
 unfolding HeardOnce
 told-once w known = known .server .once
 
+-- only while the call runs,
+pub told-running : (w : World) → HeardRunning w
+unfolding HeardRunning noticeOf happens
+told-running w (ServerArrive p lent out) told =
+    ap runs (only-cancel-heard (w .server .machine) (p .bytes) (bytesLent lent (w .server .slots)) out told .running)
+told-running w (ServerTransmit message out) told = untold-asks _ (transmit-deaf (w .server .machine) message out .untold) told
+told-running w (ServerTimer ticket out) told = untold-asks _ (timer-deaf (w .server .machine) ticket out .untold) told
+told-running w (GiveReply n message) told = untold-asks _ (reply-deaf (w .server .machine) n .untold) told
+told-running w (Fault status out) told = untold-asks _ (fault-deaf (w .server .machine) status out .untold) told
+
 -- and every one that comes in time is told.
-pub hears-all : (w : World) → CancelInv w → Hears w
-unfolding Hears answerTo noticeOf happens
-hears-all w known p lent out runs-now done typed some above =
-    above-told (w .server .machine) (p .bytes) (bytesLent lent (w .server .slots)) out state done typed (by-last (known .server .last state))
+pub hears-all : (w : World) → Inv w → CancelInv w → Hears w
+unfolding Hears answerTo noticeOf happens isIdle isRunning
+hears-all w inv known p lent out runs-now comes some above =
+    let s = w .server .machine in
+    let slots = bytesLent lent (w .server .slots) in
+    let read = cancel-read (reading (p .bytes) .little) (bodyOf (p .bytes)) (comes .formed) in
+    let formed : WellFormed (p .bytes) = record { size = read .size; version = read .version } in
+    let is : cancelOf p ≡ cancelNumber (p .bytes) = ap (λ (r : CancelReading). r .number) (formed-read (p .bytes) formed) in
+    let c : CancelComes s (p .bytes) slots out =
+    record {
+      kept = inv .server .kept;
+      slotted = comes .slotted;
+      room = comes .room;
+      read = comes .read;
+      activity = sym (comes .activity);
+      typed = comes .kind;
+    } in
+    let number = sym (comes .call) in
+    let busy = ap isIdle state in (
+      cancel-taken s (p .bytes) slots out c formed number busy,
+      cancel-heard s (p .bytes) slots out c formed number busy (ap isRunning state)
+          (subst (λ (n : ℕ). s .seen < n) is (by-last (known .server .last state))) .0,
+    )
   where
     state : w .server .machine .state ≡ Running
     state = running-is (w .server .machine .state) runs-now
 
-    number : ℕ
-    number = cancelReading (reading (p .bytes) .little) (bodyOf (p .bytes)) .number
-
     by-last : (w .server .machine .seen ≡ 0) ⊎ ToldIn (w .books .heard) (length (w .books .dispatches)) (w .server .machine .seen)
-        → w .server .machine .seen < number
+        → w .server .machine .seen < cancelOf p
     by-last (inl none) = omega (arith, some)
     by-last (inr t) =
         let less = above (t .entry) (t .told) (t .run-is) in

@@ -1,6 +1,6 @@
 -- The client's cancel number is how often its last start was cancelled, and CANCEL stays armed.
-use Prim.Native.Nat.{ℕ, suc, _+_, _-_, _≤_, _<_}
-use mathlib.Core.Bool.{Bool, true, false, true≢false, false≢true}
+use Prim.Native.Nat.{ℕ, _+_, _-_, _<_}
+use mathlib.Core.Bool.{true, false, false≢true}
 use mathlib.Core.List.{List, [], _∷_}
 use mathlib.Core.Logic.{_⊎_, inl, inr}
 use mathlib.Core.Path.{_≡_, refl, sym, ap, subst, _∙_}
@@ -12,18 +12,17 @@ use Rattle.client_record.specs.declared.State.{State}
 use Rattle.client_record.specs.declared.State.the-variants.{Queued, SendFrags, Dispatched as DispatchedState, ReceiveFrags, AckPending, Complete, Fault}
 use Rattle.client_record.specs.declared.Client.{Client}
 use Rattle.client_record.specs.States.{isQueued, isActive}
-use Rattle.client_record.specs.declared.TimerKind.the-variants.{Cancel}
 use Rattle.client_record.proofs.StateLaws.{active-state}
 use Rattle.client.specs.Machine.{cancelling}
 use Rattle.client.proofs.Judging.{cancel-passes}
 use Rattle.client.proofs.Accepting.{cancel-accepted}
 use Rattle.client.proofs.Exact.{cancel-number}
-use Rattle.client.proofs.Cancels.{Stays, AnswersLast, start-stays, transmit-stays, timer-stays, cancel-stays, arrive-stays, start-uncancelled, transmit-cancels, timer-cancels, arrive-cancels}
+use Rattle.client.proofs.Cancels.{Stays, AnswersLast, start-stays, transmit-stays, timer-stays, cancel-stays, arrive-stays}
 use Rattle.history.specs.Lists.{In, andThen}
-use Rattle.history.specs.World.{Started, Cancelled, Side, World}
-use Rattle.history.specs.Events.{Lent, ClientEvent, Event, Start, ClientTransmit, ClientArrive, ClientTimer, ClientCancel, OfClient, OfServer}
+use Rattle.history.specs.World.{Started, Cancelled, World}
+use Rattle.history.specs.Events.{Lent, ClientEvent, Start, ClientTransmit, ClientArrive, ClientTimer, ClientCancel, OfClient, OfServer}
 use Rattle.history.specs.Steps.{bytesLent, lastStart, clientTurnOf, clientTurn, cancelledAfter, happens, answerTo, step}
-use Rattle.history.specs.Claim.{timesCancelled, namesCancel, OnClient, timerIn, Answered, StaysArmed}
+use Rattle.history.specs.Claim.{timesCancelled, namesCancel, timerIn, Answered, StaysArmed}
 use Rattle.history.proofs.ListLaws.{in-grown}
 use Rattle.history.proofs.CancelLists.{cancelled-same, cancelled-none}
 use Rattle.history.proofs.Invariant.{Inv}
@@ -143,6 +142,7 @@ stays-armed w (OfClient e) ticket armed active = by-event e refl active
           is = ap OfClient is;
           done = unfold answerTo happens in subst (λ (x : ClientEvent). clientTurn (w .client) x .answer ≡ Done) (sym is) (answered .0);
           kind = answered .1 .kind;
+          call = answered .1 .call;
           number = answered .1 .number;
         })
     arrived p lent out is (inr stays) on =

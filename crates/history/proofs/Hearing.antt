@@ -1,35 +1,25 @@
 -- What the stub is told of cancels: only what was asked for, once in a run, and all that comes in time.
 use Prim.Native.Nat.{ℕ, _+_, _≤_, _<_}
 use mathlib.Core.Bool.{Bool, true, false, false≢true}
-use mathlib.Core.List.{List, [], _∷_}
+use mathlib.Core.List.{List}
 use mathlib.Core.Logic.{_⊎_, inl, inr}
 use mathlib.Core.Path.{_≡_, refl, sym, ap, subst, _∙_}
 use native.Mathlib.Omega.{arith}
 use lib.Dec.{ltb}
 use lib.ListN.{length, length-append}
-use borrow.Author.Tests.{ltb-true, lt-ltb}
+use borrow.Author.Tests.{ltb-true}
 use Rattle.words.specs.Choice.{choose}
-use Rattle.words.specs.Sizes.{retryLimit}
-use Rattle.words.proofs.Tests.{choose-true}
-use Rattle.answers.specs.declared.Answer.{Answer}
-use Rattle.answers.specs.declared.Answer.the-variants.{Done, OldCall, NoRow, Repeated}
-use Rattle.answers.specs.declared.Ground.{Ground}
-use Rattle.answers.specs.declared.Ground.the-variants.{Pass}
-use Rattle.answers.specs.Number.{numberOf}
+use Rattle.answers.specs.declared.Answer.the-variants.{Done}
 use Rattle.bodies.specs.declared.CancelReading.{CancelReading}
 use Rattle.bodies.specs.Cancel.{cancelReading}
 use Rattle.calls.specs.declared.Notice.{Notice}
 use Rattle.calls.specs.declared.Notice.the-variants.{Nothing as Untold, Dispatch, Cancel as CancelTold}
 use Rattle.flags.specs.Flags.{idempotent, hasFlag}
-use Rattle.grounds.specs.Entry.{lentGround}
 use Rattle.grounds.specs.Fragment.{isLast, bodyLength}
-use Rattle.grounds.proofs.PassLaws.{refusal-stops}
 use Rattle.incoming.specs.Slots.{cleared, complete, stored}
-use Rattle.outgoing.specs.Sending.{sendsLast}
 use Rattle.pdu.specs.declared.Header.{Header}
 use Rattle.pdu.specs.Header.{bodyOf}
 use Rattle.reader.specs.Reading.{reading}
-use Rattle.server_record.specs.declared.Idle.the-variants.{Fresh, Spent, Repeatable}
 use Rattle.server_record.specs.declared.Reply.{Reply}
 use Rattle.server_record.specs.declared.Reply.the-variants.{Data, Fault}
 use Rattle.server_record.specs.declared.State.{State}
@@ -38,12 +28,9 @@ use Rattle.server_record.specs.declared.Server.{Server}
 use Rattle.server_record.specs.States.{isFresh, isHeld}
 use Rattle.server_record.specs.Record.{unarmed, withOutgoing, withIncoming, withSeen}
 use Rattle.server_record.proofs.StateLaws.{held-state}
-use Rattle.server_rows.specs.declared.Order.{Order}
-use Rattle.server_rows.specs.declared.Order.the-variants.{Below, Equal, Newer}
 use Rattle.server_rows.specs.declared.Row.{Row}
 use Rattle.server_rows.specs.declared.Row.the-variants.{Old, Missing, Repeat, Begin, Put, Working, Nocall, Replay, Acknowledge, Finish, AcceptCancel, DeclineCancel}
 use Rattle.server_rows.specs.Events.{eventOf}
-use Rattle.server_rows.specs.Table.{cancelEqual, cancelRow}
 use Rattle.server_rows.specs.Rows.{orderFor, rowFor}
 use Rattle.server_rows.proofs.TableLaws.{put-told, replay-told, acknowledge-told, accept-told}
 use Rattle.server_steps.specs.declared.Plan.{Plan}
@@ -52,14 +39,13 @@ use Rattle.server_steps.specs.Plan.{accepted, refused}
 use Rattle.server_steps.specs.Rows.{rewinding, replayHeld, replayPlan}
 use Rattle.server_arrivals.specs.Rows.{begun, putState, putNotice, putPlan, requestPlan, beginPlan, workingPlan, nocallPlan, fackPlan, ackPlan, heardPlan, acceptPlan, declinePlan}
 use Rattle.server_arrivals.specs.Table.{arrivalRow}
-use Rattle.server_arrivals.proofs.CancelLaws.{above-heard}
-use Rattle.server.specs.Machine.{outcomeOf, sending, planOf, acted, arriving}
+use Rattle.server.specs.Machine.{outcomeOf, sending, acted, arriving}
 use Rattle.server.proofs.Accepting.{arrive-row}
-use Rattle.server.proofs.CancelAnswers.{cancel-row, cancelNumber, formed-read}
-use Rattle.server.proofs.Hearing.{HeardCancel, only-cancel-heard}
+use Rattle.server.proofs.CancelAnswers.{cancelNumber, formed-read}
+use Rattle.server.proofs.Hearing.{only-cancel-heard}
 use Rattle.history.specs.Lists.{In, andThen}
-use Rattle.history.specs.World.{callNumber, Dispatched, Cancelled, Heard, SentPdu, World}
-use Rattle.history.specs.Steps.{lastStart, dispatchesAfter, heardAfter, Subject, heardEntry, answerTo}
+use Rattle.history.specs.World.{Dispatched, Cancelled, Heard, SentPdu, World}
+use Rattle.history.specs.Steps.{lastStart, dispatchesAfter, heardAfter, Subject, cancelOf, ofArrival, heardEntry}
 use Rattle.history.specs.Claim.{timesHeard, AskedFor, RunOf}
 use Rattle.history.proofs.ListLaws.{in-grown, in-added}
 use Rattle.history.proofs.CancelLists.{heard-once, last-run, run-more, asked-more}
@@ -119,10 +105,10 @@ apart x c r = false≢true (sym (ap isCollect r) ∙ ap isCollect c)
 module _ (s t : Server) (notice : Notice) (cancels : List Cancelled) (ds : List Dispatched) (heard : List Heard) (of : Subject) (d : Dispatched)
     (inv : HeardInv s cancels ds heard) where
   abbrev after : Type 0
-  after = HeardInv t cancels (dispatchesAfter ds notice d) (heardAfter heard notice (heardEntry ds of t))
+  after = HeardInv t cancels (dispatchesAfter ds notice d) (heardAfter heard notice (heardEntry ds of))
 
   abbrev new : Heard
-  new = heardEntry ds of t
+  new = heardEntry ds of
 
   untold : notice ≡ Untold → HeardInv t cancels ds heard → after
   unfolding dispatchesAfter heardAfter
@@ -142,7 +128,7 @@ module _ (s t : Server) (notice : Notice) (cancels : List Cancelled) (ds : List 
   longer : length (andThen ds d) ≡ length ds + 1
   longer = rw length-append refl
 
-  pub hearing-on : Hearing s t notice → (notice ≡ CancelTold → AskedFor cancels ds new) → after
+  pub hearing-on : Hearing s t notice → (notice ≡ CancelTold → (t .seen ≡ of .cancel) × AskedFor cancels ds new) → after
   hearing-on (stays same e) asks = untold e (subst (λ (x : Server). HeardInv x cancels ds heard) (sym same) inv)
   hearing-on (passes gone e) asks =
       untold e
@@ -175,20 +161,21 @@ module _ (s t : Server) (notice : Notice) (cancels : List Cancelled) (ds : List 
         last = λ is. inl none;
       })
   hearing-on (hears before above state e) asks =
+      let seen = asks e .0 in
       told e
       (record {
-        asked = λ h m. by-place (λ x. AskedFor cancels ds x) h (in-grown heard h new m) (inv .asked h) (asks e);
+        asked = λ h m. by-place (λ x. AskedFor cancels ds x) h (in-grown heard h new m) (inv .asked h) (asks e .1);
         early = λ h m. by-place (λ x. x .run ≤ length ds) h (in-grown heard h new m) (inv .early h) (omega arith);
-        once = heard-once heard new (λ x m run. let low = inv .most before x m run in omega arith) (inv .once);
+        once = heard-once heard new (λ x m run. let low = inv .most before x m run in omega (arith, seen)) (inv .once);
         collecting = λ is. absurd (apart (t .state) is state);
         most =
             λ is h m run.
             by-place (λ x. x .run ≡ length ds → x .number ≤ t .seen) h (in-grown heard h new m)
-            (λ old r. let low = inv .most before h old r in omega arith) (λ r. omega arith) run;
-        last = λ is. inr (record { entry = new; told = in-added heard new; run-is = refl; number-is = refl });
+            (λ old r. let low = inv .most before h old r in omega arith) (λ r. omega (arith, seen)) run;
+        last = λ is. inr (record { entry = new; told = in-added heard new; run-is = refl; number-is = sym seen });
       })
     where
-      by-place : (P : Heard → Type 0) (h : Heard) → In h heard ⊎ (h ≡ heardEntry ds of t) → (In h heard → P h) → P (heardEntry ds of t) → P h
+      by-place : (P : Heard → Type 0) (h : Heard) → In h heard ⊎ (h ≡ heardEntry ds of) → (In h heard → P h) → P (heardEntry ds of) → P h
       by-place P h (inl old) known own = known old
       by-place P h (inr same) known own = subst P (sym same) own
 
@@ -256,14 +243,15 @@ arrive-hears s datagram slots out collecting done =
     subst (λ (p : Plan). Hearing s (p .server) (p .notice)) (sym (arrive-row s datagram slots out done))
     (row-hears s h (bodyLength (bodyOf datagram)) (cancelReading (reading datagram .little) (bodyOf datagram) .number) collecting (rowFor s h) refl)
 
--- A cancel that is told was asked for at the client, in the run that it is told of.
+-- A cancel that is told was asked for at the client, in the run that it is told of, and is the number last seen then.
 pub told-asked : (w : World) (p : SentPdu) (out : List ℕ) → Inv w → CancelsInv (w .client .machine) (w .books .starts) (w .books .cancels)
     → In p (w .client .sent)
     → let r = arriving (w .server .machine) (p .bytes) (w .server .slots) out in
-    (of : Subject) → of .ordinal ≡ p .ordinal → r .outcome .notice ≡ CancelTold
-    → AskedFor (w .books .cancels) (w .books .dispatches) (heardEntry (w .books .dispatches) of (r .outcome .server))
+    r .outcome .notice ≡ CancelTold
+    → (r .outcome .server .seen ≡ cancelOf p)
+    × AskedFor (w .books .cancels) (w .books .dispatches) (heardEntry (w .books .dispatches) (ofArrival w p Done))
 unfolding isFresh
-told-asked w p out inv cancels sent of is told =
+told-asked w p out inv cancels sent told =
     let s = w .server .machine in
     let k = only-cancel-heard s (p .bytes) (w .server .slots) out told in
     let known = inv .asked p sent .told (k .comes .read) (k .comes .typed) in
@@ -275,44 +263,16 @@ told-asked w p out inv cancels sent of is told =
     let same : w .books .standing ≡ p .ordinal =
     equal-start (p .ordinal) (w .books .standing) (lastStart (w .books .starts)) (omega arith) (omega arith)
     (sym (called .number) ∙ k .own ∙ known .number) in
-    let number : cancelReading (reading (p .bytes) .little) (bodyOf (p .bytes)) .number ≡ cancelNumber (p .bytes) =
-    ap (λ (r : CancelReading). r .number) (formed-read (p .bytes) (k .formed)) in
-    record {
-      cancel = record { ordinal = p .ordinal; number = cancelReading (reading (p .bytes) .little) (bodyOf (p .bytes)) .number };
-      asked = known .asked;
-      ordinal = sym is;
-      number = number ∙ sym (k .seen);
-      ran =
-          subst (RunOf (w .books .dispatches) (length (w .books .dispatches))) (ran .last ∙ same ∙ sym is)
-          (last-run (w .books .dispatches) (ran .ran .dispatch) (ran .ran .dispatched));
-    }
-
--- A cancel that is taken in RUNNING with a number above the last seen is told.
-pub above-told : (s : Server) (datagram slots out : List ℕ) → s .state ≡ Running → arriving s datagram slots out .outcome .answer ≡ Done
-    → reading datagram .header .kind ≡ 8 → s .seen < cancelReading (reading datagram .little) (bodyOf datagram) .number
-    → arriving s datagram slots out .outcome .notice ≡ CancelTold
-unfolding arriving acted sending outcomeOf
-above-told s datagram slots out state done typed above =
-    let plan = planOf s (lentGround (length slots) (length out)) (reading datagram) (bodyOf datagram) in
-    let row : plan ≡ arrivalRow (cancelRow (orderFor s h) Running) s h n cancel =
-    arrive-row s datagram slots out done
-    ∙ ap (λ (r : Row). arrivalRow r s h n cancel) (cancel-row s h typed ∙ ap (cancelRow (orderFor s h)) state) in
-    ap (λ (p : Plan). p .notice) row ∙ by-order (orderFor s h) (sym (ap (λ (p : Plan). p .answer) row) ∙ done)
-  where
-    h : Header
-    h = reading datagram .header
-
-    n : ℕ
-    n = bodyLength (bodyOf datagram)
-
-    cancel : ℕ
-    cancel = cancelReading (reading datagram .little) (bodyOf datagram) .number
-
-    refused-not : (a : Answer) → (numberOf a ≡ numberOf Done → ⊥) → refused s a .answer ≡ Done → ⊥
-    refused-not a other e = unfold refused in other (ap numberOf e)
-
-    by-order : (order : Order) → arrivalRow (cancelRow order Running) s h n cancel .answer ≡ Done
-        → arrivalRow (cancelRow order Running) s h n cancel .notice ≡ CancelTold
-    by-order Below e = unfold arrivalRow cancelRow in absurd (refused-not OldCall (λ x. omega arith) e)
-    by-order Equal e = unfold arrivalRow cancelRow cancelEqual heardPlan in ap (λ (p : Plan). p .notice) (above-heard s cancel above)
-    by-order Newer e = unfold arrivalRow cancelRow in absurd (refused-not NoRow (λ x. omega arith) e)
+    let number : cancelOf p ≡ cancelNumber (p .bytes) =
+    ap (λ (r : CancelReading). r .number) (formed-read (p .bytes) (k .formed)) in (
+      k .seen ∙ sym number,
+      record {
+        cancel = record { ordinal = p .ordinal; number = cancelOf p };
+        asked = known .asked;
+        ordinal = refl;
+        number = refl;
+        ran =
+            subst (RunOf (w .books .dispatches) (length (w .books .dispatches))) (ran .last ∙ same)
+            (last-run (w .books .dispatches) (ran .ran .dispatch) (ran .ran .dispatched));
+      },
+    )

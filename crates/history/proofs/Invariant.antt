@@ -82,7 +82,7 @@ pub record Collecting (s : Server) (standing : ℕ) (slots : List ℕ) (starts :
 
 -- The dispatch that a record and its slot buffer give.
 abbrev pub entryOf : Server → ℕ → List ℕ → Dispatched
-entryOf s standing slots = dispatchEntry (record { ordinal = standing; number = s .number; standing = standing }) s slots
+entryOf s standing slots = dispatchEntry (record { ordinal = standing; number = s .number; cancel = s .seen; standing = standing }) s slots
 
 -- In RUNNING the last dispatch is the server's call, as the record and the slot buffer have it.
 pub record LastRun (s : Server) (standing : ℕ) (slots : List ℕ) (dispatches : List Dispatched) : Type 0 where

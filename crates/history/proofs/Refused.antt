@@ -205,7 +205,7 @@ refused-same w (OfServer e) other =
             replies = replies-same (w .books) e t other i;
             completions = w .books .completions;
             cancels = w .books .cancels;
-            heard = heardAfter (w .books .heard) (u .notice i) (heardEntry (w .books .dispatches) of (t .machine));
+            heard = heardAfter (w .books .heard) (u .notice i) (heardEntry (w .books .dispatches) of);
             standing = standing-same w e (t .answer) other i;
           };
     }

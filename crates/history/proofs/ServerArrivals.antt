@@ -15,7 +15,6 @@ use Rattle.answers.specs.declared.Answer.the-variants.{Done, OldCall, NoRow, Re
 use Rattle.answers.specs.declared.Ground.{Ground}
 use Rattle.answers.specs.declared.Ground.the-variants.{Pass}
 use Rattle.bodies.specs.Cancel.{cancelReading}
-use Rattle.calls.specs.declared.Notice.the-variants.{Nothing as Untold}
 use Rattle.flags.specs.Flags.{idempotent, hasFlag}
 use Rattle.fragments.specs.Slots.{storing}
 use Rattle.outgoing.specs.Sending.{acknowledgedTo}
@@ -74,7 +73,7 @@ use Rattle.history.proofs.ServerPuts.{Begins, begun-inv, put-inv}
 -- The row of an arriving PDU that passed.
 module _ (w : World) (inv : Inv w) (o : ℕ) (h : Header) (body : List ℕ) (j : CanArrive (w .server .machine) h) (whole : Buffer (w .server .slots))
     (short : Short body) (sized : Sized h) (known : IsRequest (h .kind) → Request (w .books .starts) o h body)
-    (out : List ℕ) (room : length out ≡ pduSize) where
+    (out : List ℕ) (room : length out ≡ pduSize) (cancel : ℕ) where
   abbrev s : Server
   s = w .server .machine
 
@@ -135,13 +134,13 @@ module _ (w : World) (inv : Inv w) (o : ℕ) (h : Header) (body : List ℕ) (j :
   abbrev AfterAt : Plan → ℕ → World
   AfterAt plan standing =
       serverStep w (sending plan h [] out .outcome) (sending plan h [] out .out) (storing (plan .put) (h .fragment) body (w .server .slots))
-      (record { ordinal = o; number = h .number; standing = standing })
+      (record { ordinal = o; number = h .number; cancel = cancel; standing = standing })
 
   abbrev After : Plan → World
   After plan = AfterAt plan stands
 
   abbrev of : Subject
-  of = record { ordinal = o; number = h .number; standing = stands }
+  of = record { ordinal = o; number = h .number; cancel = cancel; standing = stands }
 
   -- A plan that puts nothing, dispatches nothing and sends no response.
   quiet-inv : (plan : Plan) → plan .put ≡ false → tellsDispatch (plan .notice) ≡ false → answers (plan .send) ≡ false → (ofCall (plan .send) ≡ true → Typed (plan .server .call))
@@ -180,7 +179,7 @@ module _ (w : World) (inv : Inv w) (o : ℕ) (h : Header) (body : List ℕ) (j :
       subst (λ (n : ℕ). Inv (AfterAt (beginPlan s h (bodyLength body)) n)) (sym (stands-at (b .0)))
       (put-inv w inv (begun s h) o
       (begun-inv s (w .books .standing) (w .server .slots) (w .books .starts) (w .books .dispatches) (w .books .replies) (inv .server) whole o h body request (b .1)) refl h body request short
-      (begin-fits s h j e) out room)
+      (begin-fits s h j e) out room cancel)
 
   -- Put: the request is of the call that is collected.
   put-row-inv : rowFor s h ≡ Put
@@ -193,7 +192,7 @@ module _ (w : World) (inv : Inv w) (o : ℕ) (h : Header) (body : List ℕ) (j :
       subst (λ (n : ℕ). Inv (AfterAt (requestPlan s (h .flags1) (h .serial) (h .fragment) (bodyLength body)) n)) (sym (stands-at is))
       (put-inv w inv s o
       (subst (λ (n : ℕ). ServerInv s n (w .server .slots) (w .books .starts) (w .books .dispatches) (w .books .replies)) (equal-ordinal request (told .1)) (inv .server))
-      (told .2) h body request short (put-fits s h j e) out room)
+      (told .2) h body request short (put-fits s h j e) out room cancel)
 
   -- Replay: data is sent again by transmit, a fault at once.
   replay-inv : (reply : Reply) → s .state ≡ Held reply → sound (replayHeld s reply .server) ≡ true
@@ -248,9 +247,9 @@ module _ (w : World) (inv : Inv w) (o : ℕ) (h : Header) (body : List ℕ) (j :
   cancel-other e is = absurd (no-cancel (sym e ∙ kind-request (h .kind) is))
 
   -- Cancel, in RUNNING: only the number last seen moves.
-  accept-inv : (cancel : ℕ) → rowFor s h ≡ AcceptCancel → Inv (After (acceptPlan s cancel))
+  accept-inv : rowFor s h ≡ AcceptCancel → Inv (After (acceptPlan s cancel))
   unfolding rowFor accepted
-  accept-inv cancel e =
+  accept-inv e =
       let told = accept-told (eventOf (h .kind)) (orderFor s h) (s .state) (hasFlag idempotent (h .flags1)) (s .call .idempotent) e in
       heard-or-not s cancel (λ (p : Plan). Inv (After p))
       (quiet-inv (heardPlan s cancel) (unfold heardPlan in refl) (unfold heardPlan in refl) (unfold heardPlan in refl)
@@ -260,33 +259,33 @@ module _ (w : World) (inv : Inv w) (o : ℕ) (h : Header) (body : List ℕ) (j :
       (quiet-inv (accepted s (CancelAck cancel true)) refl refl refl (λ x. absurd (false≢true x)) (inv .server) (cancel-other (told .0)))
 
   -- Cancel, in COLLECT, REPLYING or HELD: nothing moves.
-  decline-inv : (cancel : ℕ) → rowFor s h ≡ DeclineCancel → Inv (After (declinePlan s cancel))
+  decline-inv : rowFor s h ≡ DeclineCancel → Inv (After (declinePlan s cancel))
   unfolding rowFor accepted declinePlan
-  decline-inv cancel e =
+  decline-inv e =
       let told = decline-told (eventOf (h .kind)) (orderFor s h) (s .state) (hasFlag idempotent (h .flags1)) (s .call .idempotent) e in
       quiet-inv (declinePlan s cancel) refl refl refl (λ x. absurd (false≢true x)) (inv .server) (cancel-other (told .0))
 
-  by-row : (cancel : ℕ) (row : Row) → rowFor s h ≡ row → Inv (After (arrivalRow row s h (bodyLength body) cancel))
+  by-row : (row : Row) → rowFor s h ≡ row → Inv (After (arrivalRow row s h (bodyLength body) cancel))
   unfolding arrivalRow workingPlan nocallPlan accepted oldGround rowGround rowFor
-  by-row cancel Old e = absurd (refusal-stops OldCall (subst (λ (x : Row). oldGround x ≡ Pass) e (j .old)))
-  by-row cancel Missing e = absurd (refusal-stops NoRow (subst (λ (x : Row). rowGround x ≡ Pass) e (j .row)))
-  by-row cancel Repeat e = absurd (refusal-stops Repeated (subst (λ (x : Row). rowGround x ≡ Pass) e (j .row)))
-  by-row cancel Begin e = begin-inv e
-  by-row cancel Put e = put-row-inv e
-  by-row cancel Working e =
+  by-row Old e = absurd (refusal-stops OldCall (subst (λ (x : Row). oldGround x ≡ Pass) e (j .old)))
+  by-row Missing e = absurd (refusal-stops NoRow (subst (λ (x : Row). rowGround x ≡ Pass) e (j .row)))
+  by-row Repeat e = absurd (refusal-stops Repeated (subst (λ (x : Row). rowGround x ≡ Pass) e (j .row)))
+  by-row Begin e = begin-inv e
+  by-row Put e = put-row-inv e
+  by-row Working e =
       quiet-inv (workingPlan s) refl refl refl (λ x. absurd (false≢true x)) (inv .server)
       (λ x. working-told (eventOf (h .kind)) (orderFor s h) (s .state) (hasFlag idempotent (h .flags1)) (s .call .idempotent) e)
-  by-row cancel Nocall e =
+  by-row Nocall e =
       quiet-inv (nocallPlan s) refl refl refl (λ x. absurd (false≢true x)) (inv .server)
       (λ x.
       absurd
       (no-ping
       (sym (nocall-told (eventOf (h .kind)) (orderFor s h) (s .state) (hasFlag idempotent (h .flags1)) (s .call .idempotent) e) ∙ kind-request (h .kind) x)))
-  by-row cancel Replay e = replay-row-inv e
-  by-row cancel Acknowledge e = fack-inv e
-  by-row cancel Finish e = ack-inv e
-  by-row cancel AcceptCancel e = accept-inv cancel e
-  by-row cancel DeclineCancel e = decline-inv cancel e
+  by-row Replay e = replay-row-inv e
+  by-row Acknowledge e = fack-inv e
+  by-row Finish e = ack-inv e
+  by-row AcceptCancel e = accept-inv e
+  by-row DeclineCancel e = decline-inv e
 
 -- An arriving datagram keeps what is known of the world, where the client sent it and the buffer lent is the
 -- server's own.

@@ -303,26 +303,26 @@ fack-sends true serial = (refl, refl)
 fack-sends false serial = (refl, refl)
 
 -- A request that is taken is of its start, and the record then stands there.
-abbrev pub ofRequest : ℕ → Header → Subject
-ofRequest o h = record { ordinal = o; number = h .number; standing = o }
+abbrev pub ofRequest : ℕ → Header → ℕ → Subject
+ofRequest o h cancel = record { ordinal = o; number = h .number; cancel = cancel; standing = o }
 
 -- A world whose server put a request.
 pub put-inv : (w : World) → Inv w → (s : Server) (o : ℕ) → ServerInv s o (w .server .slots) (w .books .starts) (w .books .dispatches) (w .books .replies) → s .state ≡ Collect
     → (h : Header) (body : List ℕ) → Request (w .books .starts) o h body → Short body
     → CanPut (s .incoming) (h .fragment) (isLast (h .flags1))
-    → (out : List ℕ) → length out ≡ pduSize
+    → (out : List ℕ) → length out ≡ pduSize → (cancel : ℕ)
     → Inv
     (serverStep w (sending (requestPlan s (h .flags1) (h .serial) (h .fragment) (bodyLength body)) h [] out .outcome)
     (sending (requestPlan s (h .flags1) (h .serial) (h .fragment) (bodyLength body)) h [] out .out)
-    (filled (h .fragment) body (w .server .slots)) (ofRequest o h))
+    (filled (h .fragment) body (w .server .slots)) (ofRequest o h cancel))
 unfolding requestPlan putPlan sending outcomeOf withIncoming unarmed
-put-inv w inv s o server state h body request short can out room =
+put-inv w inv s o server state h body request short can out room cancel =
     subst
     (λ (n : ℕ).
     Inv
     (serverStep w (sending (requestPlan s (h .flags1) (h .serial) (h .fragment) n) h [] out .outcome)
     (sending (requestPlan s (h .flags1) (h .serial) (h .fragment) n) h [] out .out)
-    (filled (h .fragment) body (w .server .slots)) (ofRequest o h)))
+    (filled (h .fragment) body (w .server .slots)) (ofRequest o h cancel)))
     (sym (body-length body short))
     (record {
       client = inv .client;
@@ -358,7 +358,7 @@ put-inv w inv s o server state h body request short can out room =
     dispatches : List Dispatched
     dispatches =
         dispatchesAfter (w .books .dispatches) (putNotice (complete m))
-        (dispatchEntry (ofRequest o h) (putServer-of (complete m)) (filled (h .fragment) body (w .server .slots)))
+        (dispatchEntry (ofRequest o h cancel) (putServer-of (complete m)) (filled (h .fragment) body (w .server .slots)))
 
     known : ServerInv (putServer-of (complete m)) o (filled (h .fragment) body (w .server .slots)) (w .books .starts) dispatches (w .books .replies)
         × CallInv (w .books .starts) dispatches (w .books .replies)

@@ -96,7 +96,6 @@ module _ (s : Server) (h : Header) (n cancel : ℕ) (state : s .state ≡ Runnin
   row-alone Acknowledge e =
       absurd (not-replied (acknowledge-told (eventOf (h .kind)) (orderFor s h) (s .state) bit (s .call .idempotent) e .2))
   row-alone Finish e = absurd (not-replied (finish-told (eventOf (h .kind)) (orderFor s h) (s .state) bit (s .call .idempotent) e .2))
-
   row-alone AcceptCancel e = accept-alone (ltb (s .seen) cancel) refl
     where
       accept-alone : (above : Bool) → ltb (s .seen) cancel ≡ above

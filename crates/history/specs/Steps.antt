@@ -8,11 +8,13 @@ use lib.ListN.{length}
 use Rattle.words.specs.Choice.{choose}
 use Rattle.answers.specs.declared.Answer.{Answer}
 use Rattle.answers.specs.Number.{numberOf}
+use Rattle.bodies.specs.Cancel.{cancelReading}
 use Rattle.calls.specs.declared.Call.{Call}
 use Rattle.calls.specs.declared.Notice.{Notice}
 use Rattle.calls.specs.declared.Notice.the-variants.{Nothing as Untold, Last, Count, Fault as FaultNotice, Reject, Cause, Dispatch, Cancel}
 use Rattle.calls.specs.declared.Sent.{Sent}
 use Rattle.calls.specs.declared.Sent.the-variants.{Nothing, Pdu}
+use Rattle.pdu.specs.Header.{bodyOf}
 use Rattle.reader.specs.Reading.{reading}
 use Rattle.client_record.specs.declared.Client.{Client}
 use Rattle.client.specs.declared.Outcome.{Outcome as ClientOutcome}
@@ -188,20 +190,31 @@ repliesAfter b (ServerTimer ticket out) t = b .replies
 repliesAfter b (Reply n message) t = repliedAfter (b .replies) t (lastDispatched (b .dispatches)) message
 repliesAfter b (Fault status out) t = b .replies
 
--- What a turn of the server is of: the start and the number of what it sends or dispatches, and where the record
--- stands after it. An arrival is of the PDU that arrives, any other of the record.
+-- The cancel number that a PDU has, read as a cancel.
+abbrev pub cancelOf : SentPdu → ℕ
+cancelOf p = cancelReading (reading (p .bytes) .little) (bodyOf (p .bytes)) .number
+
+-- What a turn of the server is of: the start and the number of what it sends or dispatches, the cancel number that it
+-- tells, and where the record stands after it. An arrival is of the PDU that arrives, any other of the record.
 pub record Subject : Type 0 where
   pub ordinal : ℕ
   pub number : ℕ
+  pub cancel : ℕ
   pub standing : ℕ
 
 abbrev pub ofRecord : World → Subject
-ofRecord w = record { ordinal = w .books .standing; number = w .server .machine .number; standing = w .books .standing }
+ofRecord w = record {
+  ordinal = w .books .standing;
+  number = w .server .machine .number;
+  cancel = w .server .machine .seen;
+  standing = w .books .standing;
+}
 
 abbrev pub ofArrival : World → SentPdu → Answer → Subject
 ofArrival w p answer = record {
   ordinal = p .ordinal;
   number = reading (p .bytes) .header .number;
+  cancel = cancelOf p;
   standing = standingAfter (w .books .standing) answer (reading (p .bytes) .header .kind) (p .ordinal);
 }
 
@@ -221,8 +234,8 @@ dispatchEntry of s slots =
     record { ordinal = of .ordinal; number = of .number; call = s .call; bytes = serverHandsUp s slots }
 
 -- What is on the books of a cancel that the stub is told.
-abbrev pub heardEntry : List Dispatched → Subject → Server → Heard
-heardEntry dispatches of s = record { run = length dispatches; ordinal = of .ordinal; number = s .seen }
+abbrev pub heardEntry : List Dispatched → Subject → Heard
+heardEntry dispatches of = record { run = length dispatches; ordinal = of .ordinal; number = of .cancel }
 
 -- The world after a turn of the client, with the starts and the local cancels then: what it sends and what it tells
 -- complete is of the last start.
@@ -254,7 +267,7 @@ serverWorld w t of replies = record {
         replies = replies;
         completions = w .books .completions;
         cancels = w .books .cancels;
-        heard = heardAfter (w .books .heard) (t .notice) (heardEntry (w .books .dispatches) of (t .machine));
+        heard = heardAfter (w .books .heard) (t .notice) (heardEntry (w .books .dispatches) of);
         standing = of .standing;
       };
 }

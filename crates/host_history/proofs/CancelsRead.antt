@@ -1,19 +1,20 @@
--- Of cancels: what a host is told and reads of them, that CANCEL stays armed, and that the client's cancel number counts
--- them.
-use Prim.Native.Nat.{ℕ, _<_}
+-- Of cancels: what a host is told and reads of them, that CANCEL stays armed, and that the client's cancel number
+-- counts them.
+use Prim.Native.Nat.{ℕ, _+_, _<_, _≤_}
 use mathlib.Core.Bool.{Bool, true, false, false≢true}
 use mathlib.Core.List.{List, [], _∷_}
 use mathlib.Core.Logic.{_⊎_, inl, inr}
 use mathlib.Core.Path.{_≡_, refl, sym, ap, subst, _∙_}
 use native.Mathlib.Omega.{arith}
 use lib.Dec.{eqb}
-use lib.ListN.{length}
+use lib.ListN.{length, length-drop}
 use borrow.Author.Tests.{eqb-true}
 use Rattle.words.specs.Choice.{choose}
+use Rattle.words.specs.Sizes.{headerSize}
 use Rattle.answers.specs.declared.Answer.the-variants.{Done}
 use Rattle.bodies.specs.declared.CancelReading.{CancelReading}
 use Rattle.bodies.specs.declared.CancelAckReading.{CancelAckReading}
-use Rattle.bodies.specs.Cancel.{cancelReading, cancelAckReading}
+use Rattle.bodies.specs.Cancel.{cancelAckReading}
 use Rattle.bodies.proofs.CancelTrip.{cancel-ack-read}
 use Rattle.calls.specs.declared.Notice.{Notice}
 use Rattle.calls.specs.declared.Notice.the-variants.{Nothing as Untold, Last, Count, Fault, Reject, Cause, Dispatch, Cancel}
@@ -22,86 +23,87 @@ use Rattle.pdu.specs.Header.{bodyOf}
 use Rattle.reader.specs.Reading.{reading}
 use Rattle.timers.specs.declared.Timer.the-variants.{Armed}
 use Rattle.record_bytes.specs.Layout.{fieldsIn}
+use Rattle.record_bytes.proofs.PartLaws.{uuid-part}
 use Rattle.record_bytes.proofs.Keeping.{choice-by, choice-keeps}
 use Rattle.client_record.specs.declared.State.{State as ClientState}
 use Rattle.client_record.specs.declared.TimerKind.the-variants.{Cancel as CancelKind}
 use Rattle.client_table.specs.Events.{eventOf as clientEventOf}
-use Rattle.client.proofs.Accepting.{arrive-accepted as client-accepted}
+use Rattle.client.proofs.Accepting.{arrive-accepted}
 use Rattle.client.proofs.Judging.{acknowledgement-passes}
 use Rattle.client_bytes.specs.Layout.{stateOf as clientState, clientOf, clientIn}
-use Rattle.server_record.specs.declared.State.{State as ServerState}
-use Rattle.server.proofs.Accepting.{arrive-accepted as server-accepted}
-use Rattle.server.proofs.CancelAnswers.{formed-read, taken-formed}
+use Rattle.server.proofs.CancelAnswers.{WellFormed, formed-read}
 use Rattle.server.proofs.Cancels.{cancel-touches-nothing}
 use Rattle.server.proofs.Hearing.{reply-deaf, transmit-deaf, fault-deaf, timer-deaf, only-cancel-heard}
 use Rattle.server_bytes.specs.Layout.{serverOf, serverIn}
-use Rattle.history.specs.Lists.{In, andThen}
+use Rattle.history.specs.Lists.{andThen}
 use Rattle.history.specs.World.{Heard, SentPdu, World}
 use Rattle.history.specs.Events.{Lent, Event, Start, ClientTransmit as TransmitOfClient, ClientArrive as ArriveOfClient, ClientTimer as TimerOfClient, ClientCancel as CancelOfClient, ServerArrive as ArriveOfServer, OfClient, OfServer}
-use Rattle.history.specs.Steps.{bytesLent, heardAfter, ofArrival, heardEntry, happens, answerTo, noticeOf, step, run}
-use Rattle.history.specs.Claim.{runs, OnClient, timerIn, namesCancel, clientCalls, Answered, StaysArmed, CancelsCounted, Hears}
+use Rattle.history.specs.Steps.{bytesLent, heardAfter, cancelOf, ofArrival, heardEntry, happens, answerTo, noticeOf, step, run}
+use Rattle.history.specs.Claim.{runs, OnClient, timerIn, namesCancel, clientCalls, Answered, StaysArmed, CancelsCounted, HeardAskedFor, HeardOnce, OwnCancel as ComesOwn, Hears}
 use Rattle.morphelai.specs.Result.{noticeKind}
 use Rattle.host_history.specs.Results.{noticeIn}
-use Rattle.host_history.specs.Hosts.{HostWorld, worldOf, ClientCall, ServerCall, HostCall, ClientStart, ClientTransmit, ClientArrive, ClientTimer, ClientCancel, ServerArrive, ServerTransmit, ServerTimer, ServerReply, ServerFault, ToClient, ToServer, exported, serverSeen, hostStep}
+use Rattle.host_history.specs.Hosts.{HostWorld, worldOf, ServerCall, HostCall, ClientStart, ClientTransmit, ClientArrive, ClientTimer, ClientCancel, ServerArrive, ServerTransmit, ServerTimer, ServerReply, ServerFault, ToClient, ToServer, exported, serverSeen, hostStep}
 use Rattle.host_history.specs.Meaning.{meant, HostFits, Keeps, Tells}
-use Rattle.host_history.specs.HostReads.{stateByte, NamesCancel, CancelTimer, ArmedWith, cancelNumber, numberCarried}
+use Rattle.host_history.specs.HostReads.{NamesCancel, CancelTimer, ArmedWith, versionCarried, cancelCarried}
 use Rattle.host_history.specs.HostBooks.{CancelRead, CancelsRead}
-use Rattle.host_history.specs.HostDemand.{AnswersCancel, CancelStays, CancelNumberCounts, CancelsTold}
+use Rattle.host_history.specs.HostDemand.{CancelAnswered, CancelStays, CancelNumberCounts, CancelsAsked, CancelsOnce, OwnCancel, CancelsTold}
 use Rattle.host_history.proofs.Refusals.{refused-leaves}
 use Rattle.host_history.proofs.Unchanged.{refused-same}
 use Rattle.host_history.proofs.SameRun.{same-step, told}
 use Rattle.host_history.proofs.BooksRead.{runs-there, client-told}
 use Rattle.host_history.proofs.Notices.{ClientTells}
 use Rattle.host_history.proofs.TimersRead.{armed-told, armed-read}
-use Rattle.host_history.proofs.Datagrams.{client-took, server-took, kind-there, carried-there}
+use Rattle.host_history.proofs.Datagrams.{client-took, read-took, kind-there, activity-there, call-there, version-there, carried-there}
 use Rattle.host_history.proofs.RunsRead.{state-runs}
 
 -- Where the notice is "cancel" there is one more cancel told, else none.
 module _ (before : List Heard) (heard : Heard) where
-  cancel-adds : (n : Notice) → n ≡ Cancel → heardAfter before n heard ≡ andThen before heard
+  heard-adds : (n : Notice) → n ≡ Cancel → heardAfter before n heard ≡ andThen before heard
   unfolding heardAfter
-  cancel-adds n e = ap (λ (m : Notice). heardAfter before m heard) e
+  heard-adds n e = ap (λ (m : Notice). heardAfter before m heard) e
 
-  no-cancel : (n : Notice) → (n ≡ Cancel → ⊥) → heardAfter before n heard ≡ before
+  none-heard : (n : Notice) → (n ≡ Cancel → ⊥) → heardAfter before n heard ≡ before
   unfolding heardAfter
-  no-cancel Untold other = refl
-  no-cancel Last other = refl
-  no-cancel (Count count) other = refl
-  no-cancel (Fault status) other = refl
-  no-cancel (Reject status) other = refl
-  no-cancel (Cause cause) other = refl
-  no-cancel Dispatch other = refl
-  no-cancel Cancel other = absurd (other refl)
+  none-heard Untold other = refl
+  none-heard Last other = refl
+  none-heard (Count count) other = refl
+  none-heard (Fault status) other = refl
+  none-heard (Reject status) other = refl
+  none-heard (Cause cause) other = refl
+  none-heard Dispatch other = refl
+  none-heard Cancel other = absurd (other refl)
 
 untold-cancel : (n : Notice) → n ≡ Untold → n ≡ Cancel → ⊥
 untold-cancel n untold cancel =
     let e : noticeKind Untold ≡ noticeKind Cancel = ap noticeKind (sym untold ∙ cancel) in
     omega (arith, e)
 
--- The number of a cancel, and of a cancel_ack, that was taken is the one that it carries.
-module _ (w : World) (p : SentPdu) (lent : Lent) (out : List ℕ) where
-  cancel-carried : answerTo w (OfServer (ArriveOfServer p lent out)) ≡ Done → reading (p .bytes) .header .kind ≡ 8
-      → cancelReading (reading (p .bytes) .little) (bodyOf (p .bytes)) .number ≡ numberCarried (p .bytes)
-  unfolding answerTo happens
-  cancel-carried done typed =
-      let slots = bytesLent lent (w .server .slots) in
-      let formed =
-      taken-formed (w .server .machine) (p .bytes) slots out typed
-      (server-accepted (w .server .machine) (p .bytes) slots out done) in
-      ap (λ (r : CancelReading). r .number) (formed-read (p .bytes) formed)
-      ∙ carried-there (p .bytes) (server-took w p lent out done)
+-- The number of a cancel that is well formed, and of a cancel_ack that was taken, is the one that it carries.
+cancel-carried : (p : SentPdu) → reading (p .bytes) .answer ≡ Done → WellFormed (p .bytes)
+    → cancelOf p ≡ cancelCarried (p .bytes)
+cancel-carried p done formed =
+    ap (λ (r : CancelReading). r .number) (formed-read (p .bytes) formed) ∙ carried-there (p .bytes) done
 
-  ack-carried : answerTo w (OfClient (ArriveOfClient p lent out)) ≡ Done → reading (p .bytes) .header .kind ≡ 10
-      → cancelAckReading (reading (p .bytes) .little) (bodyOf (p .bytes)) .number ≡ numberCarried (p .bytes)
-  unfolding answerTo happens clientEventOf choose
-  ack-carried done typed =
-      let slots = bytesLent lent (w .client .slots) in
-      let formed =
-      acknowledgement-passes (w .client .machine) (lentGround (length slots) (length out)) (reading (p .bytes))
-      (bodyOf (p .bytes)) (client-accepted (w .client .machine) (p .bytes) slots out done) (ap clientEventOf typed)
-      .formed in
-      ap (λ (r : CancelAckReading). r .number) (cancel-ack-read _ (bodyOf (p .bytes)) formed .reading)
-      ∙ carried-there (p .bytes) (client-took w p lent out done)
+ack-carried : (w : World) (p : SentPdu) (lent : Lent) (out : List ℕ)
+    → answerTo w (OfClient (ArriveOfClient p lent out)) ≡ Done → reading (p .bytes) .header .kind ≡ 10
+    → cancelAckReading (reading (p .bytes) .little) (bodyOf (p .bytes)) .number ≡ cancelCarried (p .bytes)
+unfolding answerTo happens clientEventOf choose
+ack-carried w p lent out done typed =
+    let slots = bytesLent lent (w .client .slots) in
+    let formed =
+    acknowledgement-passes (w .client .machine) (lentGround (length slots) (length out)) (reading (p .bytes))
+    (bodyOf (p .bytes)) (arrive-accepted (w .client .machine) (p .bytes) slots out done) (ap clientEventOf typed)
+    .formed in
+    ap (λ (r : CancelAckReading). r .number) (cancel-ack-read _ (bodyOf (p .bytes)) formed .reading)
+    ∙ carried-there (p .bytes) (client-took w p lent out done)
+
+-- A datagram of 88 bytes with version 0 has a well formed cancel.
+well-formed : (s : List ℕ) → reading s .answer ≡ Done → length s ≡ 88 → versionCarried s ≡ 0 → WellFormed s
+unfolding bodyOf
+well-formed s done size version = record {
+  size = omega (arith, length-drop headerSize s, size);
+  version = version-there s done ∙ version;
+}
 
 -- The call of an arrival is that arrival, and no other call is.
 abbrev arrives : Event → Bool
@@ -142,14 +144,14 @@ module _ (p : SentPdu) (lent : Lent) (out : List ℕ) where
       ap (arrivalCall (ToClient (ClientArrive q other lent-out))) is
   arrival-call (ToClient (ClientTimer kind ticket lent-out)) is =
       absurd (no-arrival _
-      (choice-keeps (λ (es : List Event). isArrival es ≡ false) (eqb kind 1) _ _ refl
-      (choice-keeps (λ (es : List Event). isArrival es ≡ false) (eqb kind 2) _ _ refl
-      (choice-keeps (λ (es : List Event). isArrival es ≡ false) (eqb kind 4) _ _ refl refl))) is)
+      (choice-keeps (λ (es : List Event). isArrival es ≡ false) _ _ _ refl
+      (choice-keeps (λ (es : List Event). isArrival es ≡ false) _ _ _ refl
+      (choice-keeps (λ (es : List Event). isArrival es ≡ false) _ _ _ refl refl))) is)
   arrival-call (ToClient (ClientCancel lent-out)) is = absurd (no-arrival _ refl is)
   arrival-call (ToServer (ServerArrive q other lent-out)) is = absurd (no-arrival _ refl is)
   arrival-call (ToServer (ServerTransmit message lent-out)) is = absurd (no-arrival _ refl is)
   arrival-call (ToServer (ServerTimer kind ticket lent-out)) is =
-      absurd (no-arrival _ (choice-keeps (λ (es : List Event). isArrival es ≡ false) (eqb kind 3) _ _ refl refl) is)
+      absurd (no-arrival _ (choice-keeps (λ (es : List Event). isArrival es ≡ false) _ _ _ refl refl) is)
   arrival-call (ToServer (ServerReply n message)) is = absurd (no-arrival _ refl is)
   arrival-call (ToServer (ServerFault status lent-out)) is = absurd (no-arrival _ refl is)
 
@@ -207,14 +209,15 @@ module _ (h : HostWorld) (keeps : Keeps h) where
         out = out;
         arrives = refl;
         cancel = sym (kind-there (p .bytes) (known .comes .read)) ∙ known .comes .typed;
-        heard = heardEntry (h .books .dispatches) (ofArrival (worldOf h) p (t .answer)) (t .machine);
-        added = cancel-adds (h .books .heard) _ (t .notice) cancel;
+        running = runs-there (h .server) (ap runs (known .running));
+        heard = heardEntry (h .books .dispatches) (ofArrival (worldOf h) p (t .answer));
+        added = heard-adds (h .books .heard) _ (t .notice) cancel;
         run = refl;
         ordinal = refl;
-        number =
+        number = cancel-carried p (known .comes .read) (known .formed);
+        seen =
             ap (λ (w : World). w .server .machine .seen) next ∙ known .seen
-            ∙ carried-there (p .bytes) (known .comes .read);
-        seen = refl;
+            ∙ sym (ap (λ (r : CancelReading). r .number) (formed-read (p .bytes) (known .formed)));
         still = runs-there (hostStep h call .server) (ap runs (state ∙ known .running));
       }
 
@@ -230,7 +233,7 @@ module _ (h : HostWorld) (keeps : Keeps h) where
   server-cancel (ServerTimer kind ticket out) small cancel =
       let call = ToServer (ServerTimer kind ticket out) in
       absurd (deaf call (meant call) (told h call keeps small)
-      (choice-keeps Deaf (eqb kind 3) _ [] (timer-deaf _ ticket out .untold) tt) cancel)
+      (choice-keeps Deaf _ _ _ (timer-deaf _ ticket out .untold) tt) cancel)
   server-cancel (ServerReply n message) small cancel =
       let call = ToServer (ServerReply n message) in
       absurd (deaf call (meant call) (told h call keeps small) (reply-deaf _ n .untold) cancel)
@@ -251,7 +254,7 @@ module _ (h : HostWorld) (keeps : Keeps h) where
       stays (ToClient call) other = unfold hostStep in refl
       stays (ToServer call) other =
           let t = serverSeen (h .server) call in
-          unfold hostStep in no-cancel (h .books .heard) _ (t .notice) other
+          unfold hostStep in none-heard (h .books .heard) _ (t .notice) other
 
   -- CANCEL stays armed until its cancel is answered.
   pub stays-read : StaysArmed (worldOf h) → CancelStays h
@@ -263,7 +266,7 @@ module _ (h : HostWorld) (keeps : Keeps h) where
       there = unfold clientIn clientOf fieldsIn in named-cancel _ state
 
       answers : (e : Event) → meant call ≡ e ∷ [] → Tells (worldOf h) (exported h call) (e ∷ [])
-          → Answered (worldOf h) e → AnswersCancel h call
+          → Answered (worldOf h) e → CancelAnswered h call
       answers e is tells a =
           let w = worldOf h in
           let done : answerTo w (OfClient (ArriveOfClient (a .pdu) (a .lent) (a .out))) ≡ Done =
@@ -277,13 +280,14 @@ module _ (h : HostWorld) (keeps : Keeps h) where
                 arrival-call (a .pdu) (a .lent) (a .out) call (is ∙ ap (λ (x : Event). x ∷ []) (a .is));
             taken = tells .answer ∙ a .done;
             cancel-ack = sym (kind-there (a .pdu .bytes) took) ∙ a .kind;
+            call-number = sym (call-there (a .pdu .bytes) took) ∙ a .call;
             number = sym (ack-carried w (a .pdu) (a .lent) (a .out) done (a .kind)) ∙ a .number;
           }
 
       by-answer : (e : Event) → meant call ≡ e ∷ [] → worldOf (hostStep h call) ≡ step (worldOf h) e
           → Tells (worldOf h) (exported h call) (e ∷ [])
           → Answered (worldOf h) e ⊎ (timerIn (step (worldOf h) e) (OnClient CancelKind) ≡ Armed ticket)
-          → AnswersCancel h call ⊎ ArmedWith (hostStep h call) CancelTimer ticket
+          → CancelAnswered h call ⊎ ArmedWith (hostStep h call) CancelTimer ticket
       by-answer e is next tells (inl a) = inl (answers e is tells a)
       by-answer e is next tells (inr still) =
           inr (armed-read (hostStep h call) CancelTimer ticket
@@ -291,7 +295,7 @@ module _ (h : HostWorld) (keeps : Keeps h) where
 
       by-events : (es : List Event) → meant call ≡ es → worldOf (hostStep h call) ≡ run (worldOf h) es
           → Tells (worldOf h) (exported h call) es
-          → AnswersCancel h call ⊎ ArmedWith (hostStep h call) CancelTimer ticket
+          → CancelAnswered h call ⊎ ArmedWith (hostStep h call) CancelTimer ticket
       by-events [] is same undone =
           inr (subst (λ (k : HostWorld). ArmedWith k CancelTimer ticket) (sym (refused-same h call undone)) armed)
       by-events (e ∷ []) is same tells =
@@ -305,17 +309,43 @@ module _ (h : HostWorld) (keeps : Keeps h) where
   unfolding CancelsCounted CancelNumberCounts clientIn clientOf fieldsIn
   counted-read counted other = counted (called-byte _ other)
 
-  -- A cancel that comes in time is told.
+  -- A cancel of the server's call is one in the theorem's world,
+  own-read : (p : SentPdu) (lent : Lent) (out : List ℕ) → OwnCancel h p lent out → ComesOwn (worldOf h) p lent out
+  unfolding serverIn serverOf fieldsIn
+  own-read p lent out own =
+      let s = p .bytes in
+      let took = read-took s (own .header) (own .read) in
+      let b = h .server .machine in
+      let within : 96 + 16 ≤ length b = omega (arith, keeps .server .size) in
+      record {
+        slotted = own .slotted;
+        room = own .room;
+        read = took;
+        kind = kind-there s took ∙ own .cancel;
+        activity = activity-there s took ∙ own .activity ∙ sym (uuid-part b 96 within);
+        call = call-there s took ∙ own .call;
+        formed =
+            ap (λ (r : CancelReading). r .answer)
+            (formed-read s (well-formed s took (own .size) (own .version)));
+      }
+
+  -- and one that comes in time is told.
   pub hears-read : Hears (worldOf h) → CancelsTold h
   unfolding Hears CancelsTold meant
-  hears-read hears p lent out small state done typed above highest =
-      let call = ToServer (ServerArrive p lent out) in
-      let tells = told h call keeps small in
-      let answered : answerTo (worldOf h) (OfServer (ArriveOfServer p lent out)) ≡ Done =
-      sym (tells .answer) ∙ done in
-      let kind : reading (p .bytes) .header .kind ≡ 8 =
-      kind-there (p .bytes) (server-took (worldOf h) p lent out answered) ∙ typed in
-      let number = sym (cancel-carried (worldOf h) p lent out answered kind) in
-      tells .notice
-      ∙ hears p lent out (state-runs h state) answered kind (subst (λ (n : ℕ). 0 < n) number above)
-      (λ heard in-books here. subst (λ (n : ℕ). heard .number < n) number (highest heard in-books here))
+  hears-read hears p lent out small state own above highest =
+      let tells = told h (ToServer (ServerArrive p lent out)) keeps small in
+      let took = read-took (p .bytes) (own .header) (own .read) in
+      let number = sym (cancel-carried p took (well-formed (p .bytes) took (own .size) (own .version))) in
+      let known =
+      hears p lent out (state-runs h state) (own-read p lent out own) (subst (λ (n : ℕ). 0 < n) number above)
+      (λ heard in-books here. subst (λ (n : ℕ). heard .number < n) number (highest heard in-books here)) in
+      (tells .answer ∙ known .0, tells .notice ∙ known .1)
+
+-- The cancels told are those of the theorem's world, so they were asked for, and each is told once in a run.
+pub asked-read : (h : HostWorld) → HeardAskedFor (worldOf h) → CancelsAsked h
+unfolding HeardAskedFor CancelsAsked
+asked-read h asked = asked
+
+pub once-read : (h : HostWorld) → HeardOnce (worldOf h) → CancelsOnce h
+unfolding HeardOnce CancelsOnce
+once-read h once = once

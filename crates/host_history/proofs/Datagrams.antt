@@ -1,7 +1,7 @@
--- What a host reads of a datagram that an arrival took is what the reader gives: its type, and the number of a cancel or
--- a cancel_ack.
+-- What a host reads of a datagram that was taken is what the reader gives: its type, its activity and call number, and
+-- the number of a cancel or a cancel_ack.
 use Prim.Native.Nat.{ℕ, zero, suc, _+_}
-use mathlib.Core.Bool.{Bool, true, false, false≢true}
+use mathlib.Core.Bool.{Bool, true, false}
 use mathlib.Core.List.{List, _∷_}
 use mathlib.Core.Path.{_≡_, refl, sym, ap, _∙_}
 use native.Mathlib.Omega.{arith}
@@ -13,37 +13,45 @@ use Rattle.words.specs.Choice.{choose, either}
 use Rattle.words.specs.Number.{part, value, number}
 use Rattle.words.specs.Sizes.{headerSize}
 use Rattle.words.proofs.Tests.{both-true}
+use Rattle.answers.specs.declared.Answer.{Answer}
 use Rattle.answers.specs.declared.Answer.the-variants.{Done}
+use Rattle.answers.specs.Number.{numberOf}
+use Rattle.pdu.specs.declared.Header.{Header}
 use Rattle.pdu.specs.Header.{headerOf, bodyOf}
 use Rattle.reader.specs.declared.Reading.{Reading}
 use Rattle.reader.specs.Reading.{represents, orderIs, reading}
 use Rattle.writer.proofs.RoundTrip.{accepted-readable, accepted-reading}
 use Rattle.grounds.specs.Entry.{lentGround}
-use Rattle.client.proofs.Accepting.{arrive-accepted as client-accepted}
-use Rattle.client.proofs.Judging.{arrival-passes as client-passes}
-use Rattle.server.proofs.Accepting.{arrive-accepted as server-accepted}
-use Rattle.server.proofs.Judging.{arrival-passes as server-passes}
+use Rattle.record_bytes.proofs.Keeping.{choice-keeps}
+use Rattle.client.proofs.Accepting.{arrive-accepted}
+use Rattle.client.proofs.Judging.{arrival-passes}
 use Rattle.history.specs.World.{SentPdu, World}
-use Rattle.history.specs.Events.{Lent, ClientArrive, ServerArrive, OfClient, OfServer}
+use Rattle.history.specs.Events.{Lent, ClientArrive, OfClient}
 use Rattle.history.specs.Steps.{bytesLent, happens, answerTo}
-use Rattle.host_history.specs.HostReads.{typeByte, numberCarried}
+use Rattle.morphelai.specs.CodecDoor.{Codec, refusingCodec, codecRead}
+use Rattle.host_history.specs.Results.{answerAt}
+use Rattle.host_history.specs.HostReads.{typeByte, isLittle, activityCarried, callCarried, versionCarried, cancelCarried}
+use Rattle.host_history.proofs.Unpacking.{answer-back}
 
--- What is answered 0 was read: at the client,
-module _ (w : World) (p : SentPdu) (lent : Lent) (out : List ℕ) where
-  pub client-took : answerTo w (OfClient (ClientArrive p lent out)) ≡ Done → reading (p .bytes) .answer ≡ Done
-  unfolding answerTo happens
-  client-took done =
-      let slots = bytesLent lent (w .client .slots) in
-      client-passes (w .client .machine) (lentGround (length slots) (length out)) (reading (p .bytes))
-      (bodyOf (p .bytes)) (client-accepted (w .client .machine) (p .bytes) slots out done) .0 .done
+-- What the client answers 0 was read,
+pub client-took : (w : World) (p : SentPdu) (lent : Lent) (out : List ℕ)
+    → answerTo w (OfClient (ClientArrive p lent out)) ≡ Done → reading (p .bytes) .answer ≡ Done
+unfolding answerTo happens
+client-took w p lent out done =
+    let slots = bytesLent lent (w .client .slots) in
+    arrival-passes (w .client .machine) (lentGround (length slots) (length out)) (reading (p .bytes))
+    (bodyOf (p .bytes)) (arrive-accepted (w .client .machine) (p .bytes) slots out done) .0 .done
 
-  -- and at the server.
-  pub server-took : answerTo w (OfServer (ServerArrive p lent out)) ≡ Done → reading (p .bytes) .answer ≡ Done
-  unfolding answerTo happens
-  server-took done =
-      let slots = bytesLent lent (w .server .slots) in
-      server-passes (w .server .machine) (lentGround (length slots) (length out)) (reading (p .bytes))
-      (bodyOf (p .bytes)) (server-accepted (w .server .machine) (p .bytes) slots out done) .0 .done
+-- and so was what morphelai_read answers 0.
+zero-done : (a : Answer) → numberOf a ≡ 0 → a ≡ Done
+unfolding answerAt choose
+zero-done a e = sym (answer-back a) ∙ ap answerAt e
+
+pub read-took : (s header : List ℕ) → codecRead s header .result ≡ 0 → reading s .answer ≡ Done
+unfolding codecRead refusingCodec
+read-took s header =
+    choice-keeps (λ (c : Codec). c .result ≡ 0 → reading s .answer ≡ Done) _ _ (refusingCodec header)
+    (zero-done (reading s .answer)) (λ (never : 1 ≡ 0). absurd (omega (arith, never)))
 
 -- The order of a representation that is known is told by its first byte.
 order-there : (a b c : ℕ) → either (represents 16 a b c) (represents 0 a b c) ≡ true → represents 16 a b c ≡ eqb a 16
@@ -65,16 +73,38 @@ part-drop (suc n) k s at =
     λ i. getD-drop k s at 0 i ∷ rest i
 
 module _ (s : List ℕ) (done : reading s .answer ≡ Done) where
-  -- The type stands at byte 1,
+  -- The sender's order is told by byte 4, and the header is read in it:
+  order-same : orderIs 16 s ≡ isLittle s
+  unfolding orderIs
+  order-same = order-there (getD s 4 0) (getD s 5 0) (getD s 6 0) (accepted-readable s done .known-order)
+
+  little-there : reading s .little ≡ isLittle s
+  little-there = ap (λ (r : Reading). r .little) (accepted-reading s done) ∙ order-same
+
+  header-there : reading s .header ≡ headerOf (isLittle s) s
+  header-there =
+      ap (λ (r : Reading). r .header) (accepted-reading s done) ∙ ap (λ (little : Bool). headerOf little s) order-same
+
+  -- the type stands at 1,
   pub kind-there : reading s .header .kind ≡ typeByte s
   unfolding headerOf
-  kind-there = ap (λ (r : Reading). r .header .kind) (accepted-reading s done)
+  kind-there = ap (λ (h : Header). h .kind) header-there
 
-  -- and the second word of the body at 84.
-  pub carried-there : number 4 (reading s .little) (bodyOf s) 4 ≡ numberCarried s
-  unfolding number bodyOf orderIs
-  carried-there =
-      let little : reading s .little ≡ eqb (getD s 4 0) 16 =
-      ap (λ (r : Reading). r .little) (accepted-reading s done)
-      ∙ order-there (getD s 4 0) (getD s 5 0) (getD s 6 0) (accepted-readable s done .known-order) in
-      λ i. value (little i) (part-drop 4 headerSize s 4 i)
+  -- the activity at 40,
+  pub activity-there : reading s .header .activity ≡ activityCarried s
+  unfolding headerOf
+  activity-there = ap (λ (h : Header). h .activity) header-there
+
+  -- the call number at 64,
+  pub call-there : reading s .header .number ≡ callCarried s
+  unfolding headerOf
+  call-there = ap (λ (h : Header). h .number) header-there
+
+  -- and the first two words of the body at 80 and 84.
+  pub version-there : number 4 (reading s .little) (bodyOf s) 0 ≡ versionCarried s
+  unfolding number bodyOf
+  version-there = λ i. value (little-there i) (part-drop 4 headerSize s 0 i)
+
+  pub carried-there : number 4 (reading s .little) (bodyOf s) 4 ≡ cancelCarried s
+  unfolding number bodyOf
+  carried-there = λ i. value (little-there i) (part-drop 4 headerSize s 4 i)

@@ -18,7 +18,7 @@ use Rattle.host_history.specs.Meaning.{meant, eventsOf, AllFit, FairHost
 use Rattle.host_history.specs.HostClaim.{HostClaim}
 use Rattle.host_history.specs.HandedUp.{clientParts}
 use Rattle.host_history.specs.HostReads.{HasReply, HostTimer, ArmedWith}
-use Rattle.host_history.specs.HostDemand.{DispatchedOnce, DispatchesWhole, Numbers, RepliesDispatched, OneReplyRead, CompletionsWhole, AnsweredWhole, ReplyGrows, TicketsGone, CancelsAsked, CancelsOnce, HostDemand}
+use Rattle.host_history.specs.HostDemand.{DispatchedOnce, DispatchesWhole, Numbers, RepliesDispatched, OneReplyRead, CompletionsWhole, AnsweredWhole, ReplyGrows, TicketsGone, HostDemand}
 use Rattle.host_history.proofs.SameRun.{same-run, keeps-run}
 use Rattle.host_history.proofs.FreshHosts.{fresh-keeps}
 use Rattle.host_history.proofs.HostTheorem.{host-theorem, at-host}
@@ -28,7 +28,7 @@ use Rattle.host_history.proofs.BooksRead.{dispatches-read, completions-
 use Rattle.host_history.proofs.TimersRead.{named, armed-told, armed-read, late-nothing, strange-nothing, acts-read, quiet-read}
 use Rattle.host_history.proofs.WaitRead.{afresh-read}
 use Rattle.host_history.proofs.RunsRead.{running-read, running-alone}
-use Rattle.host_history.proofs.CancelsRead.{cancels-read, stays-read, counted-read, hears-read}
+use Rattle.host_history.proofs.CancelsRead.{cancels-read, stays-read, counted-read, asked-read, once-read, hears-read}
 
 -- The events of calls one behind the other, and the first of calls that fit.
 events-append : (before after : List HostCall) → eventsOf (before ++ after) ≡ eventsOf before ++ eventsOf after
@@ -140,7 +140,7 @@ numbers-read h known = record { starts = known .starts; dispatches = known .disp
 pub host-demanded : (h : HostWorld) → Keeps h → (calls : List HostCall) → AllFit calls → HostClaim h calls
     → HostDemand h calls
 unfolding AtMostOnce DispatchedOnce WholeMessages DispatchesWhole RepliesToDispatches RepliesDispatched
-    WholeReplies CompletionsWhole HeardAskedFor CancelsAsked HeardOnce CancelsOnce
+    WholeReplies CompletionsWhole
 host-demanded h keeps calls small holds =
     let now = hostRun h calls in
     let kept = holds .kept in
@@ -171,8 +171,8 @@ host-demanded h keeps calls small holds =
       quiet = quiet-read now kept (at-host h calls holds Quiet (claim .quiet));
       stays = stays-read now kept (at-host h calls holds StaysArmed (claim .stays));
       counted = counted-read now kept (at-host h calls holds CancelsCounted (claim .counted));
-      asked = at-host h calls holds HeardAskedFor (claim .asked);
-      heard = at-host h calls holds HeardOnce (claim .heard);
+      asked = asked-read now (at-host h calls holds HeardAskedFor (claim .asked));
+      heard = once-read now (at-host h calls holds HeardOnce (claim .heard));
       hears = hears-read now kept (at-host h calls holds Hears (claim .hears));
     }
 

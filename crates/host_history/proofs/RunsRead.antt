@@ -5,7 +5,6 @@ use mathlib.Core.Bool.{true, false, true≢false}
 use mathlib.Core.List.{List, [], _∷_}
 use mathlib.Core.Logic.{_⊎_, inl, inr}
 use mathlib.Core.Path.{_≡_, refl, sym, ap, subst, _∙_}
-use lib.Dec.{eqb}
 use lib.ListN.{take, drop}
 use Rattle.words.specs.Choice.{choose}
 use Rattle.words.specs.Number.{number}
@@ -94,7 +93,7 @@ call-alone : (call : ServerCall) → endsRun (ToServer call) ≡ false → Spare
 unfolding meant
 call-alone (ServerArrive p lent out) other = (refl, tt)
 call-alone (ServerTransmit message out) other = (refl, tt)
-call-alone (ServerTimer kind ticket out) other = choice-keeps Spares (eqb kind 3) _ [] (refl, tt) tt
+call-alone (ServerTimer kind ticket out) other = choice-keeps Spares _ _ _ (refl, tt) tt
 call-alone (ServerReply n message) other = absurd (true≢false other)
 call-alone (ServerFault status out) other = absurd (true≢false other)
 

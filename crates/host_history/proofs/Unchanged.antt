@@ -128,7 +128,7 @@ server-unchanged h call undone =
             completions = h .books .completions;
             cancels = h .books .cancels;
             heard =
-                heardAfter (h .books .heard) (r .untold i) (heardEntry (h .books .dispatches) of (t .machine));
+                heardAfter (h .books .heard) (r .untold i) (heardEntry (h .books .dispatches) of);
             standing = standing-same (worldOf h) call (t .answer) undone i;
           };
     }

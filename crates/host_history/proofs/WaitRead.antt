@@ -21,8 +21,8 @@ use Rattle.record_bytes.proofs.FieldsAgain.{known}
 use Rattle.client_record.specs.declared.TimerKind.the-variants.{Wait}
 use Rattle.client_bytes.specs.Canonical.{Canonical}
 use Rattle.client_bytes.specs.Layout.{clientIn, clientOf}
-use Rattle.history.specs.World.{SentPdu, World}
-use Rattle.history.specs.Events.{Lent, ClientArrive as ArriveOf, OfClient}
+use Rattle.history.specs.World.{World}
+use Rattle.history.specs.Events.{ClientArrive as ArriveOf, OfClient}
 use Rattle.history.specs.Steps.{answerTo, step, run}
 use Rattle.history.specs.Claim.{OnClient, timerIn, Renews, ArmedAfresh}
 use Rattle.host_history.specs.Hosts.{HostWorld, worldOf, ClientArrive, ToClient, hostStep}

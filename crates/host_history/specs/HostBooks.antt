@@ -16,7 +16,7 @@ use Rattle.host_history.specs.Results.{answerIn, noticeIn}
 use Rattle.host_history.specs.Hosts.{HostWorld, HostCall, ClientStart, ClientTransmit, ClientArrive, ClientTimer, ClientCancel, ServerArrive, ServerTransmit, ServerTimer, ServerReply, ServerFault, ToClient, ToServer, callGiven, exported, hostStep}
 use Rattle.host_history.specs.Meaning.{HostFits}
 use Rattle.host_history.specs.HandedUp.{clientParts}
-use Rattle.host_history.specs.HostReads.{InRunning, HasReply, cancelNumber, typeByte, numberCarried, ReadsDispatch}
+use Rattle.host_history.specs.HostReads.{InRunning, HasReply, lastCancel, typeByte, cancelCarried, ReadsDispatch}
 
 -- A start that is answered 0 is one more: with the call data handed in, the message that it is for, and the number at
 -- 16 in the client's bytes after it. Its ordinal is how many came before.
@@ -52,7 +52,7 @@ pub record CancelGiven (before after : HostWorld) : Type 0 where
   pub cancel : Cancelled
   pub added : after .books .cancels ≡ andThen (before .books .cancels) cancel
   pub ordinal : cancel .ordinal ≡ lastStart (before .books .starts)
-  pub number : cancelNumber (after .client) ≡ cancel .number
+  pub number : lastCancel (after .client) ≡ cancel .number
 
 abbrev pub isCancel : HostCall → Bool
 isCancel (ToClient (ClientStart idempotent object interface version operation n message)) = false
@@ -122,21 +122,22 @@ pub record CompletionsRead (h : HostWorld) : Type 0 where
       (call : HostCall) → (noticeIn (exported h call .result) ≡ Last → ⊥)
       → hostStep h call .books .completions ≡ h .books .completions
 
--- The same of "cancel", which only an arriving cancel tells, a PDU of type 8. What is told has the run, which is how
--- many dispatches there are, the start that the PDU is of, and the number that it carries, which then stands at 68 in
--- the server's bytes; the server is in RUNNING still.
+-- The same of "cancel", which only an arriving cancel tells, a PDU of type 8, and only in RUNNING, where the server
+-- stays. What is told has the run, which is how many dispatches there are, the start that the PDU is of, and the
+-- number that it carries, which then stands at 68 in the server's bytes.
 pub record CancelRead (before : HostWorld) (call : HostCall) (after : HostWorld) : Type 0 where
   pub pdu : SentPdu
   pub lent : Lent
   pub out : List ℕ
   pub arrives : call ≡ ToServer (ServerArrive pdu lent out)
   pub cancel : typeByte (pdu .bytes) ≡ 8
+  pub running : InRunning (before .server)
   pub heard : Heard
   pub added : after .books .heard ≡ andThen (before .books .heard) heard
   pub run : heard .run ≡ length (before .books .dispatches)
   pub ordinal : heard .ordinal ≡ pdu .ordinal
-  pub number : heard .number ≡ numberCarried (pdu .bytes)
-  pub seen : cancelNumber (after .server) ≡ heard .number
+  pub number : heard .number ≡ cancelCarried (pdu .bytes)
+  pub seen : lastCancel (after .server) ≡ heard .number
   pub still : InRunning (after .server)
 
 pub record CancelsRead (h : HostWorld) : Type 0 where

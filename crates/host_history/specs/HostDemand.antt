@@ -6,7 +6,8 @@ use mathlib.Core.List.{List, [], _++_}
 use mathlib.Core.Logic.{_⊎_}
 use mathlib.Core.Path.{_≡_}
 use lib.ListN.{length, getD, take, drop}
-use Rattle.words.specs.Number.{number as numberAt}
+use Rattle.words.specs.Number.{part, number as numberAt}
+use Rattle.words.specs.Sizes.{pduSize, slotsSize}
 use Rattle.answers.specs.declared.Answer.the-variants.{Done}
 use Rattle.calls.specs.declared.Notice.{Notice}
 use Rattle.calls.specs.declared.Notice.the-variants.{Nothing as Untold, Cancel}
@@ -15,14 +16,15 @@ use Rattle.fragments.specs.Joined.{Leads}
 use Rattle.history.specs.Lists.{In, andThen}
 use Rattle.history.specs.World.{callNumber, Started, Dispatched, Replied, Completed, Heard, SentPdu}
 use Rattle.history.specs.Events.{Lent}
-use Rattle.history.specs.Steps.{lastStart}
+use Rattle.history.specs.Steps.{bytesLent, lastStart}
 use Rattle.history.specs.Claim.{times, DispatchOf, WholeMessage, WholeReply, timesCancelled, AskedFor, timesHeard}
+use Rattle.morphelai.specs.CodecDoor.{codecRead}
 use Rattle.host_history.specs.Results.{answerIn, noticeIn, sentIn}
 use Rattle.host_history.specs.Hosts.{HostWorld, HostCall, ClientArrive, ClientTimer, ServerArrive, ServerTimer, ToClient, ToServer, exported, hostStep, hostRun}
 use Rattle.host_history.specs.Meaning.{HostFits}
 use Rattle.host_history.specs.Refusal.{bufferLent}
 use Rattle.host_history.specs.HandedUp.{clientParts}
-use Rattle.host_history.specs.HostReads.{stateByte, InRunning, HasReply, NamesWait, NamesAck, NamesCancel, NamesResend, HostTimer, WaitTimer, AckTimer, CancelTimer, ResendTimer, markByte, ArmedWith, timerCall, cancelNumber, typeByte, numberCarried, ReadsDispatch, endsRun}
+use Rattle.host_history.specs.HostReads.{stateByte, InRunning, HasReply, NamesWait, NamesAck, NamesCancel, NamesResend, HostTimer, WaitTimer, AckTimer, CancelTimer, ResendTimer, markByte, ArmedWith, timerCall, lastCancel, lastCall, typeByte, activityCarried, callCarried, versionCarried, cancelCarried, ReadsDispatch, endsRun}
 use Rattle.host_history.specs.HostBooks.{StartsGiven, CancelsGiven, RepliesGiven, DispatchesRead, CompletionsRead, CancelsRead}
 
 -- A start that is not marked idempotent is dispatched at most once.
@@ -178,29 +180,30 @@ pub record QuietBytes (h : HostWorld) : Type 0 where
   pub fault : stateByte (h .client) ≡ 6 → NothingArmed h
   pub idle : stateByte (h .server) ≤ 2 → markByte h ResendTimer ≡ 0
 
--- CANCEL stays armed, with the ticket that it has, while the call is active, in states 1 to 3: nothing disarms it there
--- but an arriving cancel_ack, type 10, that is answered 0 and carries the client's cancel number, and nothing arms it
--- afresh.
-pub record AnswersCancel (h : HostWorld) (call : HostCall) : Type 0 where
+-- CANCEL stays armed, with the ticket that it has, while the call is active, in states 1 to 3: nothing disarms it
+-- there but an arriving cancel_ack, type 10, that is answered 0 and carries the client's call number and cancel number,
+-- and nothing arms it afresh.
+pub record CancelAnswered (h : HostWorld) (call : HostCall) : Type 0 where
   pub pdu : SentPdu
   pub lent : Lent
   pub out : List ℕ
   pub arrives : call ≡ ToClient (ClientArrive pdu lent out)
   pub taken : answerIn (exported h call .result) ≡ Done
   pub cancel-ack : typeByte (pdu .bytes) ≡ 10
-  pub number : numberCarried (pdu .bytes) ≡ cancelNumber (h .client)
+  pub call-number : callCarried (pdu .bytes) ≡ lastCall (h .client)
+  pub number : cancelCarried (pdu .bytes) ≡ lastCancel (h .client)
 
 unfoldable pub CancelStays : HostWorld → Type 0
 CancelStays h =
     (call : HostCall) → HostFits call → (ticket : ℕ) → ArmedWith h CancelTimer ticket
     → NamesCancel (stateByte (hostStep h call .client))
-    → AnswersCancel h call ⊎ ArmedWith (hostStep h call) CancelTimer ticket
+    → CancelAnswered h call ⊎ ArmedWith (hostStep h call) CancelTimer ticket
 
 -- The client's cancel number is how often its last start was cancelled, wherever it has a call: not in QUEUED, 0.
 unfoldable pub CancelNumberCounts : HostWorld → Type 0
 CancelNumberCounts h =
     (stateByte (h .client) ≡ 0 → ⊥)
-    → cancelNumber (h .client) ≡ timesCancelled (lastStart (h .books .starts)) (h .books .cancels)
+    → lastCancel (h .client) ≡ timesCancelled (lastStart (h .books .starts)) (h .books .cancels)
 
 -- A cancel that a host is told was asked for at the client, of that start and with that number, and the run that it is
 -- told of is of that start.
@@ -212,17 +215,28 @@ CancelsAsked h =
 unfoldable pub CancelsOnce : HostWorld → Type 0
 CancelsOnce h = (run number : ℕ) → timesHeard run number (h .books .heard) ≤ 1
 
--- and a cancel, type 8, that arrives in RUNNING, is answered 0 and carries a number above 0 and above all that were
--- told in this run is told.
+-- and a cancel of the server's call that arrives in RUNNING with a number above 0 and above all that were told in this
+-- run is answered 0 and told. Such a cancel has 88 bytes that morphelai_read answers 0, type 8, version 0, and the
+-- server's activity and call number; and the buffers lent for it have their lengths.
+pub record OwnCancel (h : HostWorld) (p : SentPdu) (lent : Lent) (out : List ℕ) : Type 0 where
+  pub slotted : length (bytesLent lent (h .server .slots)) ≡ slotsSize
+  pub room : length out ≡ pduSize
+  pub header : List ℕ
+  pub read : codecRead (p .bytes) header .result ≡ 0
+  pub cancel : typeByte (p .bytes) ≡ 8
+  pub activity : activityCarried (p .bytes) ≡ part 16 (h .server .machine) 96
+  pub call : callCarried (p .bytes) ≡ lastCall (h .server)
+  pub size : length (p .bytes) ≡ 88
+  pub version : versionCarried (p .bytes) ≡ 0
+
 unfoldable pub CancelsTold : HostWorld → Type 0
 CancelsTold h =
     (p : SentPdu) (lent : Lent) (out : List ℕ)
     → let call = ToServer (ServerArrive p lent out) in
-    HostFits call → InRunning (h .server) → answerIn (exported h call .result) ≡ Done → typeByte (p .bytes) ≡ 8
-    → 0 < numberCarried (p .bytes)
+    HostFits call → InRunning (h .server) → OwnCancel h p lent out → 0 < cancelCarried (p .bytes)
     → ((heard : Heard) → In heard (h .books .heard) → heard .run ≡ length (h .books .dispatches)
-    → heard .number < numberCarried (p .bytes))
-    → noticeIn (exported h call .result) ≡ Cancel
+    → heard .number < cancelCarried (p .bytes))
+    → (answerIn (exported h call .result) ≡ Done) × (noticeIn (exported h call .result) ≡ Cancel)
 
 -- All of it, of what a host keeps after a list of calls. It holds after every beginning of the list too
 -- (`always-demanded`), so of each of the calls.

@@ -8,6 +8,7 @@ use mathlib.Core.Path.{_≡_}
 use lib.Dec.{eqb}
 use lib.ListN.{getD}
 use Rattle.words.specs.Number.{part, number as numberAt}
+use Rattle.pdu.specs.Header.{uuidAt}
 use Rattle.history.specs.World.{Dispatched, Side}
 use Rattle.host_history.specs.Hosts.{HostWorld, ClientTimer, HostCall, ServerArrive, ServerTransmit, ServerTimer, ServerReply, ServerFault, ToClient, ToServer}
 use Rattle.host_history.specs.HandedUp.{serverParts}
@@ -72,21 +73,38 @@ timerCall CancelTimer ticket out = ToClient (ClientTimer 4 ticket out)
 timerCall ResendTimer ticket out = ToServer (ServerTimer 3 ticket out)
 
 -- The cancel number of four bytes stands at 68: of the client that of its last cancel, of the server the last seen.
-abbrev pub cancelNumber : Side (List ℕ) → ℕ
-cancelNumber side = numberAt 4 true (side .machine) 68
+abbrev pub lastCancel : Side (List ℕ) → ℕ
+lastCancel side = numberAt 4 true (side .machine) 68
 
--- Of a datagram its type stands at 1, and 16 at 4 where its sender is little-endian. A cancel and a cancel_ack have
--- their cancel number of four bytes at 84, in the sender's order.
+-- The call number of four bytes stands at 16.
+abbrev pub lastCall : Side (List ℕ) → ℕ
+lastCall side = numberAt 4 true (side .machine) 16
+
+-- Of a datagram its type stands at 1, and 16 at 4 where its sender is little-endian. In the sender's order stand its
+-- activity at 40 and its call number of four bytes at 64,
 abbrev pub typeByte : List ℕ → ℕ
 typeByte datagram = getD datagram 1 0
 
-abbrev pub numberCarried : List ℕ → ℕ
-numberCarried datagram = numberAt 4 (eqb (getD datagram 4 0) 16) datagram 84
+abbrev pub isLittle : List ℕ → Bool
+isLittle datagram = eqb (getD datagram 4 0) 16
+
+abbrev pub activityCarried : List ℕ → List ℕ
+activityCarried datagram = uuidAt (isLittle datagram) datagram 40
+
+abbrev pub callCarried : List ℕ → ℕ
+callCarried datagram = numberAt 4 (isLittle datagram) datagram 64
+
+-- and in the body of a cancel or a cancel_ack its version of four bytes at 80 and its cancel number of four at 84.
+abbrev pub versionCarried : List ℕ → ℕ
+versionCarried datagram = numberAt 4 (isLittle datagram) datagram 80
+
+abbrev pub cancelCarried : List ℕ → ℕ
+cancelCarried datagram = numberAt 4 (isLittle datagram) datagram 84
 
 -- A dispatch is what a host reads of the server: the parts of the message, and the call data in the record's bytes.
 pub record ReadsDispatch (server : Side (List ℕ)) (d : Dispatched) : Type 0 where
   pub parts : serverParts server ≡ d .bytes
-  pub number : numberAt 4 true (server .machine) 16 ≡ d .number
+  pub number : lastCall server ≡ d .number
   pub operation : numberAt 2 true (server .machine) 14 ≡ d .call .operation
   pub version : numberAt 4 true (server .machine) 20 ≡ d .call .version
   pub object : part 16 (server .machine) 112 ≡ d .call .object

@@ -10,27 +10,28 @@ use Rattle.words.specs.Choice.{choose, markOf}
 use Rattle.words.proofs.Tests.{choose-true, both-hold}
 use Rattle.answers.specs.Number.{numberOf}
 use Rattle.calls.specs.declared.Call.{Call}
+use Rattle.calls.specs.declared.Notice.{Notice}
 use Rattle.record_bytes.specs.Fits.{Uuid, FitsCall}
 use Rattle.record_bytes.proofs.PartLaws.{mark-back, mark-readable, mark-small}
 use Rattle.client_record.specs.declared.State.{State as ClientState}
-use Rattle.client_record.specs.declared.TimerKind.the-variants.{Wait, Ack}
+use Rattle.client_record.specs.declared.TimerKind.the-variants.{Wait, Ack, Cancel}
+use Rattle.timers.specs.declared.Timer.{Timer}
 use Rattle.server_record.specs.declared.State.{State as ServerState}
-use Rattle.history.specs.World.{Dispatched, Completed, SentPdu, World}
-use Rattle.history.specs.Events.{Event, Start, ClientTransmit, ClientArrive, ClientTimer, ServerArrive, ServerTransmit, ServerTimer, Reply, Fault, OfClient, OfServer}
-use Rattle.history.specs.Steps.{answerTo, step, run}
+use Rattle.history.specs.World.{Dispatched, Completed, Cancelled, Heard, SentPdu, World}
+use Rattle.history.specs.Events.{Event, Start, ClientTransmit, ClientArrive, ClientTimer, ClientCancel, ServerArrive, ServerTransmit, ServerTimer, Reply, Fault, OfClient, OfServer}
+use Rattle.history.specs.Steps.{step, run}
 use Rattle.history.specs.Fairness.{Fair}
 use Rattle.history.specs.Claim.{replyHandedUp}
 use Rattle.history.proofs.ListLaws.{All}
 use Rattle.host_history.specs.Arguments.{EventFits}
-use Rattle.host_history.specs.Results.{answerIn}
-use Rattle.host_history.specs.Hosts.{HostWorld, worldOf, callGiven, exported, hostStep, hostRun}
+use Rattle.host_history.specs.Hosts.{HostWorld, worldOf, HostCall, callGiven, exported, hostStep, hostRun}
 use Rattle.host_history.specs.Meaning.{startable, meant, eventsOf, HostFits, AllFit, Keeps, TellsOf, Tells, FreshHost}
 use Rattle.host_history.proofs.SameRun.{same-step, keeps-step, told, same-run, keeps-run}
 use Rattle.host_history.proofs.FreshHosts.{client-begins, server-begins, client-begun, server-begun, fresh-keeps}
 use Rattle.host_history.proofs.HostTheorem.{host-fair}
 use Rattle.host_history.proofs.Handing.{client-parts}
-use Rattle.runs.specs.Runs.{Story, eventsOf as storyEvents, numbersOf, answersTo, Ran, activity, before}
-use Rattle.host_runs.specs.HostRuns.{beginning, callFor, callsFor, answersRead, HostRan}
+use Rattle.runs.specs.Runs.{Story, eventsOf as storyEvents, numbersOf, answersTo, noticesTo, Ran, Told, activity, before}
+use Rattle.host_runs.specs.HostRuns.{beginning, callFor, callsFor, answersRead, noticesRead, HostRan, HostTold}
 
 -- The call of an event that fits is within C's types,
 call-fits : (e : Event) → EventFits e → HostFits (callFor e)
@@ -46,6 +47,8 @@ call-fits (OfClient (ClientTransmit message out)) fits = fits
 call-fits (OfClient (ClientArrive p lent out)) fits = fits
 call-fits (OfClient (ClientTimer Wait ticket out)) fits = (omega arith, fits .0, fits .1)
 call-fits (OfClient (ClientTimer Ack ticket out)) fits = (omega arith, fits .0, fits .1)
+call-fits (OfClient (ClientTimer Cancel ticket out)) fits = (omega arith, fits .0, fits .1)
+call-fits (OfClient (ClientCancel out)) fits = fits
 call-fits (OfServer (ServerArrive p lent out)) fits = fits
 call-fits (OfServer (ServerTransmit message out)) fits = fits
 call-fits (OfServer (ServerTimer ticket out)) fits = (omega arith, fits .0, fits .1)
@@ -81,6 +84,8 @@ call-meant (OfClient (ClientTransmit message out)) fits = refl
 call-meant (OfClient (ClientArrive p lent out)) fits = refl
 call-meant (OfClient (ClientTimer Wait ticket out)) fits = refl
 call-meant (OfClient (ClientTimer Ack ticket out)) fits = refl
+call-meant (OfClient (ClientTimer Cancel ticket out)) fits = refl
+call-meant (OfClient (ClientCancel out)) fits = refl
 call-meant (OfServer (ServerArrive p lent out)) fits = refl
 call-meant (OfServer (ServerTransmit message out)) fits = refl
 call-meant (OfServer (ServerTimer ticket out)) fits = refl
@@ -97,54 +102,83 @@ unfolding eventsOf
 calls-meant [] fits = refl
 calls-meant (e ∷ es) fits = λ i. call-meant e (fits .0) i ++ calls-meant es (fits .1) i
 
--- The answers that a host reads are the answers to the events.
-answer-read : (h : HostWorld) (e : Event) → Keeps h → EventFits e
-    → answerIn (exported h (callFor e) .result) ≡ answerTo (worldOf h) e
-answer-read h e keeps fits =
-    let tells : TellsOf (worldOf h) (exported h (callFor e)) e =
-    subst (Tells (worldOf h) (exported h (callFor e))) (call-meant e fits)
-    (told h (callFor e) keeps (call-fits e fits)) in
-    tells .answer
+-- What a host reads of a call, and keeps after it, is what its event tells and makes.
+module _ (h : HostWorld) (e : Event) (keeps : Keeps h) (fits : EventFits e) where
+  tells-read : TellsOf (worldOf h) (exported h (callFor e)) e
+  tells-read =
+      subst (Tells (worldOf h) (exported h (callFor e))) (call-meant e fits)
+      (told h (callFor e) keeps (call-fits e fits))
 
+  steps-there : worldOf (hostStep h (callFor e)) ≡ step (worldOf h) e
+  unfolding run
+  steps-there = same-step h (callFor e) keeps (call-fits e fits) ∙ ap (run (worldOf h)) (call-meant e fits)
+
+  keeps-there : Keeps (hostStep h (callFor e))
+  keeps-there = keeps-step h (callFor e) keeps (call-fits e fits)
+
+-- So the answers and the notices that it reads are those of the events.
 answers-read : (h : HostWorld) (es : List Event) → Keeps h → All EventFits es
     → answersRead h (callsFor es) ≡ answersTo (worldOf h) es
-unfolding run
 answers-read h [] keeps fits = refl
 answers-read h (e ∷ es) keeps fits =
-    let small = call-fits e (fits .0) in
-    let next : worldOf (hostStep h (callFor e)) ≡ step (worldOf h) e =
-    same-step h (callFor e) keeps small ∙ ap (run (worldOf h)) (call-meant e (fits .0)) in
     let rest =
-    answers-read (hostStep h (callFor e)) es (keeps-step h (callFor e) keeps small) (fits .1)
-    ∙ ap (λ (w : World). answersTo w es) next in
-    λ i. numberOf (answer-read h e keeps (fits .0) i) ∷ rest i
+    answers-read (hostStep h (callFor e)) es (keeps-there h e keeps (fits .0)) (fits .1)
+    ∙ ap (λ (w : World). answersTo w es) (steps-there h e keeps (fits .0)) in
+    λ i. numberOf (tells-read h e keeps (fits .0) .answer i) ∷ rest i
+
+notices-read : (h : HostWorld) (es : List Event) → Keeps h → All EventFits es
+    → noticesRead h (callsFor es) ≡ noticesTo (worldOf h) es
+notices-read h [] keeps fits = refl
+notices-read h (e ∷ es) keeps fits =
+    let rest =
+    notices-read (hostStep h (callFor e)) es (keeps-there h e keeps (fits .0)) (fits .1)
+    ∙ ap (λ (w : World). noticesTo w es) (steps-there h e keeps (fits .0)) in
+    λ i. tells-read h e keeps (fits .0) .notice i ∷ rest i
 
 -- A run of events that fit is a run of calls.
-pub host-ran : (h : HostWorld) (w : World) (story : Story) (clientPdus serverPdus : List SentPdu)
-    (client : ClientState) (server : ServerState) (dispatches : List Dispatched) (completions : List Completed)
-    (handed : List ℕ) → FreshHost h → worldOf h ≡ w → All EventFits (storyEvents story)
-    → Ran w story clientPdus serverPdus client server dispatches completions handed
-    → HostRan h (callsFor (storyEvents story)) (numbersOf story) clientPdus serverPdus dispatches completions handed
-host-ran h w story clientPdus serverPdus client server dispatches completions handed fresh is fits ran =
-    let es = storyEvents story in
-    let calls = callsFor es in
-    let keeps = fresh-keeps h fresh in
-    let small = calls-fit es fits in
-    let ends : worldOf (hostRun h calls) ≡ run w es =
-    same-run h calls keeps small ∙ (λ i. run (is i) (calls-meant es fits i)) in
-    record {
-      fresh = fresh;
-      small = small;
-      fair = host-fair h calls keeps small (subst (Fair (worldOf h)) (sym (calls-meant es fits))
-          (subst (λ (v : World). Fair v es) (sym is) (ran .fair)));
-      answers = answers-read h es keeps fits ∙ ap (λ (v : World). answersTo v es) is ∙ ran .answers;
-      client-sends = ap (λ (v : World). v .client .sent) ends ∙ ran .client-sends;
-      server-sends = ap (λ (v : World). v .server .sent) ends ∙ ran .server-sends;
-      dispatched = ap (λ (v : World). v .books .dispatches) ends ∙ ran .dispatched;
-      completed = ap (λ (v : World). v .books .completions) ends ∙ ran .completed;
-      reads =
-          client-parts (hostRun h calls) (keeps-run h calls keeps small) ∙ ap replyHandedUp ends ∙ ran .hands-up;
-    }
+module _ (h : HostWorld) (w : World) (story : Story) (fresh : FreshHost h) (is : worldOf h ≡ w)
+    (fits : All EventFits (storyEvents story)) where
+  abbrev events : List Event
+  events = storyEvents story
+
+  abbrev calls : List HostCall
+  calls = callsFor events
+
+  kept : Keeps h
+  kept = fresh-keeps h fresh
+
+  small : AllFit calls
+  small = calls-fit events fits
+
+  ends : worldOf (hostRun h calls) ≡ run w events
+  ends = same-run h calls kept small ∙ (λ i. run (is i) (calls-meant events fits i))
+
+  pub host-ran : (clientPdus serverPdus : List SentPdu) (client : ClientState) (server : ServerState)
+      (dispatches : List Dispatched) (completions : List Completed) (handed : List ℕ)
+      → Ran w story clientPdus serverPdus client server dispatches completions handed
+      → HostRan h calls (numbersOf story) clientPdus serverPdus dispatches completions handed
+  host-ran clientPdus serverPdus client server dispatches completions handed ran = record {
+    fresh = fresh;
+    small = small;
+    fair = host-fair h calls kept small (subst (Fair (worldOf h)) (sym (calls-meant events fits))
+        (subst (λ (v : World). Fair v events) (sym is) (ran .fair)));
+    answers = answers-read h events kept fits ∙ ap (λ (v : World). answersTo v events) is ∙ ran .answers;
+    client-sends = ap (λ (v : World). v .client .sent) ends ∙ ran .client-sends;
+    server-sends = ap (λ (v : World). v .server .sent) ends ∙ ran .server-sends;
+    dispatched = ap (λ (v : World). v .books .dispatches) ends ∙ ran .dispatched;
+    completed = ap (λ (v : World). v .books .completions) ends ∙ ran .completed;
+    reads =
+        client-parts (hostRun h calls) (keeps-run h calls kept small) ∙ ap replyHandedUp ends ∙ ran .hands-up;
+  }
+
+  -- and what it tells is told at the door.
+  pub host-told : (notices : List Notice) (timers : List Timer) (cancels : List Cancelled) (heard : List Heard)
+      → Told w story notices timers cancels heard → HostTold h calls notices cancels heard
+  host-told notices timers cancels heard shown = record {
+    tells = notices-read h events kept fits ∙ ap (λ (v : World). noticesTo v events) is ∙ shown .tells;
+    cancelled = ap (λ (v : World). v .books .cancels) ends ∙ shown .cancelled;
+    hears = ap (λ (v : World). v .books .heard) ends ∙ shown .hears;
+  }
 
 -- The beginning of the runs is what both fresh exports make of any memory of 272 bytes.
 activity-fits : Uuid activity
@@ -161,7 +195,15 @@ module _ (clientMemory serverMemory clientSlots serverSlots : List ℕ) (clientW
     server = server-begins serverMemory activity 7 100 serverWhole activity-fits (omega arith) (omega arith);
     client-unsent = refl;
     server-unsent = refl;
-    books = record { starts = refl; dispatches = refl; replies = refl; completions = refl };
+    books =
+        record {
+          starts = refl;
+          dispatches = refl;
+          replies = refl;
+          completions = refl;
+          cancels = refl;
+          heard = refl;
+        };
   }
 
   pub begins-there : worldOf host ≡ before clientSlots serverSlots
@@ -178,5 +220,14 @@ module _ (clientMemory serverMemory clientSlots serverSlots : List ℕ) (clientW
           slots = serverSlots;
           sent = [];
         };
-    books = record { starts = []; dispatches = []; replies = []; completions = []; standing = 0 };
+    books =
+        record {
+          starts = [];
+          dispatches = [];
+          replies = [];
+          completions = [];
+          cancels = [];
+          heard = [];
+          standing = 0;
+        };
   }

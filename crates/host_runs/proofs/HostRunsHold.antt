@@ -10,12 +10,12 @@ use Rattle.record_bytes.specs.Fits.{Octets}
 use Rattle.record_bytes.proofs.ByteLaws.{octets-three}
 use Rattle.host_history.specs.HostDemand.{HostDemand}
 use Rattle.host_history.proofs.HostDemanded.{host-demand}
-use Rattle.runs.specs.Runs.{eventsOf, numbersOf, called, lossy, lossyClientPdus, lossyServerPdus, exampleMessage, exampleReply, zeros}
-use Rattle.runs.proofs.RunsHold.{lossy-ran}
-use Rattle.host_runs.specs.HostRuns.{beginning, callsFor, HostRan}
+use Rattle.runs.specs.Runs.{eventsOf, numbersOf, called, lossy, lossyClientPdus, lossyServerPdus, lossyNotices, exampleMessage, exampleReply, zeros}
+use Rattle.runs.proofs.RunsHold.{lossy-ran, lossy-told}
+use Rattle.host_runs.specs.HostRuns.{beginning, callsFor, HostRan, HostTold}
 use Rattle.host_runs.proofs.PduOctets.{octets-same}
 use Rattle.host_runs.proofs.LossyFits.{lossy-fits}
-use Rattle.host_runs.proofs.AtTheDoor.{host-ran, begins, begins-there}
+use Rattle.host_runs.proofs.AtTheDoor.{host-ran, host-told, begins, begins-there}
 
 -- A host that begins with fresh records and makes the calls of the first run keeps every premise. It sends the PDUs of
 -- that run, facks among them, sees one dispatch, of the whole request, is told complete once, and reads the whole reply.
@@ -30,18 +30,33 @@ pub host-lossy : (message reply clientMemory serverMemory clientSlots serverSlot
     (record { ordinal = 0; bytes = reply } ∷ []) reply
 host-lossy message reply clientMemory serverMemory clientSlots serverSlots out asks replies clientWhole serverWhole
     clientRoom serverRoom room askedBytes repliedBytes outBytes =
-    host-ran (beginning clientMemory serverMemory clientSlots serverSlots) _ (lossy message reply out) _ _ _ _ _ _ reply
+    host-ran (beginning clientMemory serverMemory clientSlots serverSlots) _ (lossy message reply out)
     (begins clientMemory serverMemory clientSlots serverSlots clientWhole serverWhole)
     (begins-there clientMemory serverMemory clientSlots serverSlots clientWhole serverWhole)
-    (lossy-fits message reply out askedBytes repliedBytes outBytes)
+    (lossy-fits message reply out askedBytes repliedBytes outBytes) _ _ _ _ _ _ reply
     (lossy-ran message reply clientSlots serverSlots out asks replies clientRoom serverRoom room)
 
+-- It reads the notices of that run, and no cancel is called for or told.
+pub host-lossy-told : (message reply clientMemory serverMemory clientSlots serverSlots out : List ℕ)
+    → length message ≡ 2785 → length reply ≡ 2786 → length clientMemory ≡ 272 → length serverMemory ≡ 272
+    → length clientSlots ≡ slotsSize → length serverSlots ≡ slotsSize → length out ≡ pduSize
+    → Octets message → Octets reply → Octets out
+    → HostTold (beginning clientMemory serverMemory clientSlots serverSlots)
+    (callsFor (eventsOf (lossy message reply out))) lossyNotices [] []
+host-lossy-told message reply clientMemory serverMemory clientSlots serverSlots out asks replies clientWhole serverWhole
+    clientRoom serverRoom room askedBytes repliedBytes outBytes =
+    host-told (beginning clientMemory serverMemory clientSlots serverSlots) _ (lossy message reply out)
+    (begins clientMemory serverMemory clientSlots serverSlots clientWhole serverWhole)
+    (begins-there clientMemory serverMemory clientSlots serverSlots clientWhole serverWhole)
+    (lossy-fits message reply out askedBytes repliedBytes outBytes) _ _ _ _
+    (lossy-told message reply clientSlots serverSlots out asks replies clientRoom serverRoom room)
+
 -- So it is of the bytes written out in crate runs, and of memory that holds zeros.
-zeros-long : (n : ℕ) → length (zeros n) ≡ n
+pub zeros-long : (n : ℕ) → length (zeros n) ≡ n
 unfolding zeros
 zeros-long n = length-replicate n 0
 
-zeros-octets : (n : ℕ) → Octets (zeros n)
+pub zeros-octets : (n : ℕ) → Octets (zeros n)
 unfolding zeros
 zeros-octets n = octets-same n 0 (omega arith)
 

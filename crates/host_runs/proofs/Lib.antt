@@ -2,4 +2,6 @@
 pub mod AtTheDoor
 pub mod PduOctets
 pub mod LossyFits
+pub mod StopFits
 pub mod HostRunsHold
+pub mod HostStopsHold

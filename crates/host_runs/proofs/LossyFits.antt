@@ -20,19 +20,19 @@ use Rattle.runs.specs.Runs.{Story, eventsOf, activity, clientGets, serverGets, 
 use Rattle.host_runs.proofs.PduOctets.{fragment-octets, pdu-octets}
 
 -- Every event of a story fits.
-abbrev StoryFits : Story → Type 0
+abbrev pub StoryFits : Story → Type 0
 StoryFits story = All (λ (t : Event × ℕ). EventFits (t .0)) story
 
-story-joined : (one two : Story) → StoryFits one → StoryFits two → StoryFits (one ++ two)
+pub story-joined : (one two : Story) → StoryFits one → StoryFits two → StoryFits (one ++ two)
 story-joined [] two first second = second
 story-joined (t ∷ ts) two first second = (first .0, story-joined ts two (first .1) second)
 
-story-events : (story : Story) → StoryFits story → All EventFits (eventsOf story)
+pub story-events : (story : Story) → StoryFits story → All EventFits (eventsOf story)
 story-events [] fits = tt
 story-events (t ∷ ts) fits = (fits .0, story-events ts (fits .1))
 
 -- The call's data, and the run's PDUs.
-called-fits : FitsCall called
+pub called-fits : FitsCall called
 called-fits = record {
   object = record { size = refl; octets = omega arith };
   interface = record { size = refl; octets = omega arith };

@@ -178,7 +178,7 @@ pub extern "C" fn morphelai_client_timer(
     crate::result::other_timer(client_record::is_sound(c), out.len())
 }
 
-// Local cancel: the console gives the call up.
+// Local cancel: the client's user asks that the call be stopped; the call goes on.
 #[no_mangle]
 pub extern "C" fn morphelai_client_cancel(bytes: &mut [u8], out: &mut [u8]) -> u64
     ensures { λ r. ⌜

@@ -1,11 +1,11 @@
 -- What the bytes of a record hold, as bytes and back, is what it was; and those bytes are 272, and readable.
 use Prim.Native.Nat.{ℕ}
 use mathlib.Core.Bool.{true}
-use mathlib.Core.List.{List, _∷_, _++_}
+use mathlib.Core.List.{List, _++_}
 use mathlib.Core.Path.{_≡_, subst}
 use native.Mathlib.Omega.{arith}
 use lib.ListN.{length, drop, replicate}
-use Rattle.words.specs.Choice.{choose, both, markOf}
+use Rattle.words.specs.Choice.{choose, both}
 use Rattle.words.specs.Number.{digits, part, number}
 use Rattle.words.proofs.Number.{value-bytes, part-all}
 use Rattle.words.proofs.Tests.{both-hold}

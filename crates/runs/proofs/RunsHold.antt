@@ -15,7 +15,7 @@ use Rattle.history.specs.World.{World}
 use Rattle.history.specs.Freshness.{Fresh}
 use Rattle.history.specs.Claim.{replyHandedUp}
 use Rattle.history.proofs.Beginning.{client-record-fresh, server-record-fresh}
-use Rattle.runs.specs.Runs.{Story, Ran, Told, timersIn, activity, called, asking, before, lossy, lossyNotices, lossyClientPdus, lossyServerPdus, twice, twiceNotices, twiceClientPdus, twiceServerPdus, twiceAndNext, twiceAndNextNotices, twiceAndNextClientPdus, twiceAndNextServerPdus, question, secondReply, nextReply, exampleMessage, exampleReply, zeros}
+use Rattle.runs.specs.Runs.{Story, Ran, Told, timersIn, activity, called, asking, before, lossy, lossyNotices, lossyClientPdus, lossyServerPdus, twice, twiceClientPdus, twiceServerPdus, twiceAndNext, twiceAndNextNotices, twiceAndNextClientPdus, twiceAndNextServerPdus, question, secondReply, nextReply, exampleMessage, exampleReply, zeros}
 use Rattle.runs.specs.Stops.{stopped, unanswered, stoppedNotices, unansweredNotices, stopClientPdus, stoppedServerPdus, unansweredServerPdus, stopCancels, toldOf}
 use Rattle.runs.proofs.Stories.{Plays}
 use Rattle.runs.proofs.Lossy.{reply-whole as lossy-reply, plays-lossy}
@@ -32,7 +32,7 @@ before-fresh clientSlots serverSlots = record {
   books = record { starts = refl; dispatches = refl; replies = refl; completions = refl; cancels = refl; heard = refl };
 }
 
--- What a story that was played shows.
+-- What a story that was played shows,
 ran : {w after : World} {story : Story} {notices : List Notice} {handed : List ℕ} → Fresh w → Plays w story notices after → replyHandedUp after ≡ handed
     → Ran w story (after .client .sent) (after .server .sent) (after .client .machine .state) (after .server .machine .state)
     (after .books .dispatches) (after .books .completions) handed
@@ -49,6 +49,7 @@ ran fresh plays handed = record {
   hands-up = ap replyHandedUp (plays .ends) ∙ handed;
 }
 
+-- and what is told in it.
 shown : {w after : World} {story : Story} {notices : List Notice} → Plays w story notices after
     → Told w story notices (timersIn after) (after .books .cancels) (after .books .heard)
 shown plays = record {
@@ -68,7 +69,7 @@ lossy-ran message reply clientSlots serverSlots out asks replies clientRoom serv
     ran (before-fresh clientSlots serverSlots) (plays-lossy message reply clientSlots serverSlots out asks replies clientRoom serverRoom room)
     (lossy-reply message reply clientSlots serverSlots out asks replies clientRoom serverRoom room)
 
--- The stubs are told of it once and nothing is left armed.
+-- The stubs are told this, no cancel among it, and nothing is left armed.
 pub lossy-told : (message reply clientSlots serverSlots out : List ℕ) → length message ≡ 2785 → length reply ≡ 2786 → length clientSlots ≡ slotsSize
     → length serverSlots ≡ slotsSize → length out ≡ pduSize
     → Told (before clientSlots serverSlots) (lossy message reply out) lossyNotices (Off ∷ Off ∷ Off ∷ Off ∷ []) [] []
@@ -110,7 +111,7 @@ twice-and-next-ran clientSlots serverSlots out clientRoom serverRoom room =
     ran (before-fresh clientSlots serverSlots) (plays-twice-and-next clientSlots serverSlots out clientRoom serverRoom room)
     (next-reply clientSlots serverSlots out clientRoom serverRoom room)
 
--- What the stubs are told in both: RESEND of the second call is left armed, and its ACK.
+-- The stubs are told this, and ACK and RESEND of the next call are left armed.
 pub twice-and-next-told : (clientSlots serverSlots out : List ℕ) → length clientSlots ≡ slotsSize → length serverSlots ≡ slotsSize → length out ≡ pduSize
     → Told (before clientSlots serverSlots) (twiceAndNext out) twiceAndNextNotices (Off ∷ Armed 10 ∷ Off ∷ Armed 101 ∷ []) [] []
 twice-and-next-told clientSlots serverSlots out clientRoom serverRoom room =
@@ -125,8 +126,7 @@ stopped-ran clientSlots serverSlots out clientRoom serverRoom room =
     ran (before-fresh clientSlots serverSlots) (plays-stopped clientSlots serverSlots out clientRoom serverRoom room)
     (nothing-whole clientSlots serverSlots out clientRoom serverRoom room)
 
--- Of both local cancels the stub is told, of each once, though the first came twice and the second late again; only RESEND is
--- left armed.
+-- Of both local cancels the stub is told, of each once, though each came twice; only RESEND is left armed.
 pub stopped-told : (clientSlots serverSlots out : List ℕ) → length clientSlots ≡ slotsSize → length serverSlots ≡ slotsSize → length out ≡ pduSize
     → Told (before clientSlots serverSlots) (stopped out) stoppedNotices (Off ∷ Off ∷ Off ∷ Armed 101 ∷ []) stopCancels
     (toldOf 1 ∷ toldOf 2 ∷ [])

@@ -7,8 +7,10 @@ use lib.ListN.{length}
 use Rattle.words.specs.Sizes.{bodySize, pduSize, slotsSize}
 use Rattle.answers.specs.declared.Answer.{Answer}
 use Rattle.answers.specs.Number.{numberOf}
+use Rattle.bodies.specs.Cancel.{cancelReading}
 use Rattle.pdu.specs.declared.Header.{Header}
 use Rattle.pdu.specs.Header.{datagram, blank}
+use Rattle.reader.specs.declared.Reading.{Reading}
 use Rattle.writer.proofs.RoundTrip.{accepted, read-written, body-written}
 use Rattle.grounds.specs.Entry.{lentGround}
 use Rattle.server_record.specs.declared.Server.{Server}
@@ -73,9 +75,14 @@ serverFault s status = faultPlan (faultGround s pduSize) s status
 abbrev pub serverArrival : Server → Header → List ℕ → Plan
 serverArrival s h body = planOf s (lentGround slotsSize pduSize) (accepted h) body
 
--- What the arrival of a PDU with that header is of.
-abbrev ofHeader : World → ℕ → Header → Answer → Subject
-ofHeader w o h answer = record { ordinal = o; number = h .number; standing = standingAfter (w .books .standing) answer (h .kind) o }
+-- What the arrival of a PDU is of, by what was read.
+abbrev ofReading : World → ℕ → Reading → List ℕ → Answer → Subject
+ofReading w o r body answer = record {
+  ordinal = o;
+  number = r .header .number;
+  cancel = cancelReading (r .little) body .number;
+  standing = standingAfter (w .books .standing) answer (r .header .kind) o;
+}
 
 module _ (w : World) (out : List ℕ) (room : length out ≡ pduSize) where
   -- A transmit, of a message of n bytes;
@@ -127,7 +134,7 @@ module _ (w : World) (out : List ℕ) (room : length out ≡ pduSize) where
       → Makes w (OfServer (ServerArrive (pduOf o (datagram h body)) Own out)) (numberOf (serverArrival (w .server .machine) h body .answer))
       (serverArrival (w .server .machine) h body .notice)
       (serverLeft w (serverArrival (w .server .machine) h body) h [] (storing (serverArrival (w .server .machine) h body .put) (h .fragment) body (w .server .slots))
-      (ofHeader w o h (serverArrival (w .server .machine) h body .answer)))
+      (ofReading w o (accepted h) body (serverArrival (w .server .machine) h body .answer)))
   unfolding step answerTo noticeOf happens arriving acted sending outcomeOf bytesLent ownAfter echoed
   server-arrives {h} {body} {o} c whole z =
       let read = read-written h body (c .fits) (c .known) (c .plain) (c .short) in
@@ -139,9 +146,9 @@ module _ (w : World) (out : List ℕ) (room : length out ≡ pduSize) where
         leaves =
             (λ i. serverDone w (planOf (w .server .machine) (lentGround (whole i) (room i)) (read i) (rest i)) (read i .header) [] out
             (storing (planOf (w .server .machine) (lentGround (whole i) (room i)) (read i) (rest i) .put) (read i .header .fragment) (rest i) (w .server .slots))
-            (ofHeader w o (read i .header) (planOf (w .server .machine) (lentGround (whole i) (room i)) (read i) (rest i) .answer)))
+            (ofReading w o (read i) (rest i) (planOf (w .server .machine) (lentGround (whole i) (room i)) (read i) (rest i) .answer)))
             ∙ server-left w (serverArrival (w .server .machine) h body) h [] out
             (storing (serverArrival (w .server .machine) h body .put) (h .fragment) body (w .server .slots))
-            (ofHeader w o h (serverArrival (w .server .machine) h body .answer)) z
+            (ofReading w o (accepted h) body (serverArrival (w .server .machine) h body .answer)) z
             (record { activity-16 = z .activity-16; object-16 = sized .object; interface-16 = sized .interface }) (omega arith) room;
       }

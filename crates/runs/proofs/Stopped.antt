@@ -1,12 +1,12 @@
 -- The two runs with cancels, event by event.
-use Prim.Native.Nat.{ℕ, _<_, _≤_}
+use Prim.Native.Nat.{ℕ}
 use mathlib.Core.Bool.{Bool, true}
 use mathlib.Core.List.{List, [], _∷_, _++_}
 use mathlib.Core.Path.{_≡_, refl, _∙_}
 use native.Mathlib.Omega.{arith}
 use lib.ListN.{length, take}
 use Rattle.words.specs.Number.{number}
-use Rattle.words.specs.Sizes.{bodySize, pduSize, slotsSize}
+use Rattle.words.specs.Sizes.{pduSize, slotsSize}
 use Rattle.bodies.specs.Cancel.{cancelBytes, cancelAckBytes}
 use Rattle.bodies.specs.Status.{statusBytes}
 use Rattle.calls.specs.declared.Notice.the-variants.{Nothing as Untold, Dispatch as DispatchTold, Cancel as CancelTold, Fault as FaultTold, Cause}
@@ -64,14 +64,15 @@ cancel-came n = carried 8 0 1 activity 0 0 called 0 (cancelBytes n) typed refl (
 -- a cancel_ack,
 ack-came : (n : ℕ) (accepts : Bool) → Carried (sentHeader 10 0 0 activity 7 0 called 0) (cancelAckBytes n accepts)
 unfolding cancelAckBytes
-ack-came n accepts = carried 10 0 0 activity 7 0 called 0 (cancelAckBytes n accepts) typed refl (omega arith) (omega arith)
+ack-came n accepts =
+    carried 10 0 0 activity 7 0 called 0 (cancelAckBytes n accepts) typed refl (omega arith) (omega arith)
 
 -- and the fault.
 fault-came : (status : ℕ) → Carried (sentHeader 3 0 0 activity 7 0 called 0) (statusBytes status)
 fault-came status = carried 3 0 0 activity 7 0 called 0 (statusBytes status) typed refl (omega arith) (omega arith)
 
-module _ (clientSlots serverSlots out : List ℕ) (clientRoom : length clientSlots ≡ slotsSize) (serverRoom : length serverSlots ≡ slotsSize)
-    (room : length out ≡ pduSize) where
+module _ (clientSlots serverSlots out : List ℕ) (clientRoom : length clientSlots ≡ slotsSize)
+    (serverRoom : length serverSlots ≡ slotsSize) (room : length out ≡ pduSize) where
   -- The server's slot buffer after the put.
   abbrev v1 : List ℕ
   v1 = filled 0 question serverSlots
@@ -79,7 +80,8 @@ module _ (clientSlots serverSlots out : List ℕ) (clientRoom : length clientSlo
   v1-long : length v1 ≡ slotsSize
   v1-long = filled-length 0 question serverSlots ∙ serverRoom
 
-  -- The client's side: state, fragments sent, serial, cancel number, tickets, WAIT, CANCEL, and how many PDUs it has sent.
+  -- The client's side: state, fragments sent, serial, cancel number, tickets, WAIT, CANCEL, and how many PDUs it has
+  -- sent.
   abbrev clientAt : ClientState → ℕ → ℕ → ℕ → ℕ → Timer → Timer → ℕ → Side Client
   clientAt state sent serial cancels tickets wait cancel pdus = record {
     machine = clientWith 0 called state (sends 3 1 sent 0 serial) nothing 0 0 cancels tickets wait Off cancel;
@@ -165,7 +167,8 @@ module _ (clientSlots serverSlots out : List ℕ) (clientRoom : length clientSlo
 
   -- and then so many local cancels and these cancels told: the first cancel,
   abbrev cancelledBooks : ℕ → List Heard → Books
-  cancelledBooks cancels heard = onBooksWith 0 (b1 .starts) (b2 question .dispatches) [] [] (take cancels stopCancels) heard
+  cancelledBooks cancels heard =
+      onBooksWith 0 (b1 .starts) (b2 question .dispatches) [] [] (take cancels stopCancels) heard
 
   abbrev b3 : Books
   b3 = cancelledBooks 1 []
@@ -193,7 +196,8 @@ module _ (clientSlots serverSlots out : List ℕ) (clientRoom : length clientSlo
   question-whole =
       parts-joined (serverSound (s1 .machine)) one v1 refl
       ∙ holding-whole one v1 question
-      (put question 3 0 refl cleared serverSlots 0 (empty-holding cleared serverSlots question serverRoom cleared-empty) refl
+      (put question 3 0 refl cleared serverSlots 0
+      (empty-holding cleared serverSlots question serverRoom cleared-empty) refl
       (record { number = omega arith; new = refl; fits = refl }) (omega arith) refl)
       refl refl
 
@@ -206,7 +210,8 @@ module _ (clientSlots serverSlots out : List ℕ) (clientRoom : length clientSlo
   plays-pressed : Plays (world k0 s0 b0) (pressed out) (untold 2 ++ (DispatchTold ∷ Untold ∷ [])) (world k3 s1 b3)
   unfolding opened fragmentOf
   plays-pressed =
-      then {next = world k1 s0 b1} (record { answered = refl; tells = refl; leaves = refl }) (record { typed = typed; whole = refl })
+      then {next = world k1 s0 b1} (record { answered = refl; tells = refl; leaves = refl })
+      (record { typed = typed; whole = refl })
       (then {next = world k2 s0 b1} (client-transmits _ out room question 3 refl uuids) refl
       (then {next = world k2 s1 (b2 question)}
       (told (λ (bytes : List ℕ). world k2 s1 (b2 bytes)) question-whole

@@ -1,5 +1,6 @@
--- Two runs more, in which a fitter presses stop, so the theorem's parts on cancels speak of something: in the first the stub
--- hears of both cancels and gives the call up by a fault; in the second no cancel_ack comes, and the client gives it up.
+-- Two runs more, in which a fitter presses stop, so the theorem's parts on cancels speak of something: in the first the
+-- stub hears of both cancels and gives the call up by a fault; in the second no cancel_ack comes, and the client gives it
+-- up.
 use Prim.Native.Nat.{ℕ}
 use mathlib.Core.Bool.{Bool, true, false}
 use mathlib.Core.List.{List, [], _∷_, _++_}
@@ -108,7 +109,8 @@ module _ (out : List ℕ) where
   abbrev pub unanswered : Story
   unanswered = pressed ++ unheard
 
--- What the stubs are told in each: the server's to execute the call, once, and of cancels; the client's how the call ended.
+-- What the stubs are told in each: the server's to execute the call, once, and of cancels; the client's how the call
+-- ended.
 abbrev pub stoppedNotices : List Notice
 stoppedNotices =
     untold 2 ++ (Dispatch ∷ Untold ∷ CancelTold ∷ untold 3 ++ (CancelTold ∷ untold 4 ++ (FaultTold 23 ∷ untold 4)))
@@ -123,7 +125,8 @@ stopClientPdus = ofStart 0 (stopRequest ∷ cancelPdu 1 ∷ cancelPdu 2 ∷ [])
 -- and the server.
 abbrev pub stoppedServerPdus : List SentPdu
 stoppedServerPdus =
-    ofStart 0 (cancelAckPdu 1 true ∷ cancelAckPdu 1 true ∷ cancelAckPdu 2 true ∷ faultPdu 23 ∷ cancelAckPdu 2 false ∷ [])
+    ofStart 0
+    (cancelAckPdu 1 true ∷ cancelAckPdu 1 true ∷ cancelAckPdu 2 true ∷ faultPdu 23 ∷ cancelAckPdu 2 false ∷ [])
 
 abbrev pub unansweredServerPdus : List SentPdu
 unansweredServerPdus = ofStart 0 (cancelAckPdu 2 true ∷ [])

@@ -213,8 +213,14 @@ module _ (s : Server) (datagram slots out : List ℕ) where
         row-plan row (own-cancel-passes s datagram slots out c f equal busy) (own-cancel-row s datagram slots out c f equal busy)
         ∙ ap (λ (n : ℕ). arrivalRow row s h size n) (number-read f)
 
-    -- It is answered Done. The PDU that goes out tells the cancel's call, its cancel number, and that the server accepts
-    -- cancels exactly where it is in RUNNING.
+    -- It is answered Done.
+    pub cancel-taken : arriving s datagram slots out .outcome .answer ≡ Done
+    unfolding arriving acted sending outcomeOf
+    cancel-taken =
+        ap (λ (p : Plan). p .answer) own-plan ∙ own-sends s (cancelNumber datagram) (isRunning (s .state)) h size .0
+
+    -- The PDU that goes out tells the cancel's call, its cancel number, and that the server accepts cancels exactly where it
+    -- is in RUNNING.
     pub cancel-answered : Fits (echoHeader 10 0 s h) → cancelNumber datagram < 4294967296
         → (arriving s datagram slots out .outcome .answer ≡ Done)
         × AnswersCancel s h (cancelNumber datagram) (isRunning (s .state))
@@ -228,7 +234,7 @@ module _ (s : Server) (datagram slots out : List ℕ) where
         ap (λ (x : Send). sentOut x (plan .server) h [] out) (ap (λ (p : Plan). p .send) own-plan ∙ told .1) in
         let header : echoHeader 10 0 (plan .server) h ≡ echoHeader 10 0 s h =
         ap (λ (p : Plan). echoHeader 10 0 (p .server) h) own-plan ∙ own-header s n runs h size in (
-          ap (λ (p : Plan). p .answer) own-plan ∙ told .0,
+          cancel-taken,
           sent-tells s h n runs small fits _ out (c .room)
               (posted ∙ cancel-ack-whole (plan .server) out (c .room) n runs h
               ∙ ap (λ (x : Header). whole x (cancelAckBytes n runs) out) header),

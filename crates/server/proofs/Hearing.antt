@@ -10,7 +10,7 @@ use lib.ListN.{length}
 use borrow.Author.Tests.{ltb-true}
 use Rattle.words.specs.Choice.{choose}
 use Rattle.words.specs.Sizes.{retryLimit}
-use Rattle.answers.specs.declared.Answer.the-variants.{Done, OldCall, NoRow}
+use Rattle.answers.specs.declared.Answer.the-variants.{Done}
 use Rattle.answers.specs.declared.Ground.{Ground}
 use Rattle.answers.specs.declared.Ground.the-variants.{Pass, Refuse}
 use Rattle.bodies.specs.declared.CancelReading.{CancelReading}
@@ -18,15 +18,14 @@ use Rattle.bodies.specs.Cancel.{cancelReading}
 use Rattle.calls.specs.declared.Notice.{Notice}
 use Rattle.calls.specs.declared.Notice.the-variants.{Nothing as Untold, Last, Count, Fault as FaultNotice, Reject, Cause, Dispatch, Cancel as CancelNotice}
 use Rattle.flags.specs.Flags.{idempotent, hasFlag}
-use Rattle.outgoing.specs.Sending.{afterSend, sendsLast}
+use Rattle.outgoing.specs.Sending.{sendsLast}
 use Rattle.pdu.specs.declared.Header.{Header}
 use Rattle.pdu.specs.Header.{bodyOf}
 use Rattle.reader.specs.Reading.{reading}
 use Rattle.grounds.specs.Entry.{lentGround}
 use Rattle.grounds.specs.Fragment.{bodyLength}
-use Rattle.grounds.proofs.PassLaws.{refusal-stops}
 use Rattle.grounds.proofs.GroundLaws.{lent-passes}
-use Rattle.server_record.specs.declared.Idle.the-variants.{Spent, Repeatable}
+use Rattle.server_record.specs.declared.Idle.the-variants.{Repeatable}
 use Rattle.server_record.specs.declared.Reply.{Reply}
 use Rattle.server_record.specs.declared.Reply.the-variants.{Data, Fault as HeldFault}
 use Rattle.server_record.specs.declared.State.{State}
@@ -34,28 +33,27 @@ use Rattle.server_record.specs.declared.State.the-variants.{Idle as IdleState, 
 use Rattle.server_record.specs.declared.Server.{Server}
 use Rattle.server_record.specs.States.{neverCalled, isFresh, isIdle, isRunning}
 use Rattle.server_record.specs.Record.{holding, unarmed, withOutgoing, withIncoming, withResends, withSeen}
-use Rattle.server_record.specs.Arming.{runsAgain}
 use Rattle.server_rows.specs.declared.Event.the-variants.{Request, Cancel}
 use Rattle.server_rows.specs.declared.Order.{Order}
-use Rattle.server_rows.specs.declared.Order.the-variants.{Equal, Newer}
+use Rattle.server_rows.specs.declared.Order.the-variants.{Equal}
 use Rattle.server_rows.specs.declared.Row.{Row}
 use Rattle.server_rows.specs.declared.Row.the-variants.{Old, Missing, Repeat, Begin, Put, Working, Nocall, Replay, Acknowledge, Finish, AcceptCancel, DeclineCancel}
 use Rattle.server_rows.specs.Events.{clientEvent, eventOf}
-use Rattle.server_rows.specs.Table.{requestNewer, requestAgain, requestIdle, requestEqual, requestRow, rowOf}
+use Rattle.server_rows.specs.Table.{rowOf}
 use Rattle.server_rows.specs.Rows.{orderFor, rowFor}
 use Rattle.server_rows.proofs.EventLaws.{kind-told}
-use Rattle.server_rows.proofs.TableLaws.{newer-told, equal-told, newer-ordered, equal-ordered, begin-told, accept-told}
-use Rattle.server_table.specs.Arrival.{oldGround, rowGround, arrivalGround}
+use Rattle.server_rows.proofs.TableLaws.{equal-told, newer-ordered, equal-ordered, newer-begins, again-begins, accept-told}
+use Rattle.server_table.specs.Arrival.{arrivalGround}
 use Rattle.server_table.specs.Local.{transmitGround, timerGround, replyGround, faultGround}
 use Rattle.server_steps.specs.declared.Plan.{Plan}
-use Rattle.server_steps.specs.declared.Send.the-variants.{Nothing, CancelAck}
+use Rattle.server_steps.specs.declared.Send.the-variants.{CancelAck}
 use Rattle.server_steps.specs.Plan.{accepted, refused}
 use Rattle.server_steps.specs.Rows.{answered, replyPlan, settled, transmitted, transmitPlan, faultPlan, rewinding, replayHeld, replayPlan, resendHeld, resendRow, timerRow, timerPlan}
 use Rattle.server_arrivals.specs.Rows.{begun, putNotice, putPlan, requestPlan, beginPlan, workingPlan, nocallPlan, fackPlan, ackPlan, declinePlan, heardPlan, acceptPlan}
 use Rattle.server_arrivals.specs.Table.{arrivalRow, arrivalPlan}
 use Rattle.server.specs.Machine.{outcomeOf, replying, sending, transmitting, timing, faulting, planOf, acted, arriving}
-use Rattle.server.proofs.Judging.{CanArrive, arrival-passes}
-use Rattle.server.proofs.Accepting.{arrive-accepted, arrive-row}
+use Rattle.server.proofs.Judging.{arrival-passes}
+use Rattle.server.proofs.Accepting.{arrive-row}
 use Rattle.server.proofs.CancelAnswers.{CancelComes, WellFormed, cancelNumber, formed-read, taken-formed}
 use Rattle.server.proofs.Cancels.{cancel-heard}
 
@@ -89,7 +87,7 @@ unfolding transmitting sending outcomeOf transmitPlan accepted refused transmitt
 transmit-deaf s message out = by-ground (transmitGround s (length message) (length out))
   where
     by-last : (t : Bool) → transmitted t s .seen ≡ s .seen
-    by-last true = settled-seen (runsAgain (s .call .idempotent) (s .outgoing)) (withOutgoing s (afterSend (s .outgoing))) Data
+    by-last true = settled-seen _ _ _
     by-last false = refl
 
     by-ground : (g : Ground) → DeafPlan s (transmitPlan g s)
@@ -104,7 +102,7 @@ fault-deaf s status out = by-ground (faultGround s (length out))
   where
     by-ground : (g : Ground) → DeafPlan s (faultPlan g s status)
     by-ground (Refuse a) = record { untold = refl; seen = refl }
-    by-ground Pass = record { untold = refl; seen = settled-seen (s .call .idempotent) s (HeldFault status) }
+    by-ground Pass = record { untold = refl; seen = settled-seen _ _ _ }
 
 -- and the timer.
 pub timer-deaf : (s : Server) (ticket : ℕ) (out : List ℕ)
@@ -112,17 +110,17 @@ pub timer-deaf : (s : Server) (ticket : ℕ) (out : List ℕ)
 unfolding timing sending outcomeOf timerPlan timerRow resendRow resendHeld rewinding holding withResends withOutgoing unarmed accepted refused choose
 timer-deaf s ticket out = by-ground (timerGround s ticket (length out))
   where
-    by-count : (t : Bool) (reply : Reply) → DeafPlan s (choose t (resendHeld s reply) (accepted (unarmed s (IdleState Spent)) Nothing))
-    by-count true Data = record { untold = refl; seen = refl }
-    by-count true (HeldFault status) = record { untold = refl; seen = refl }
-    by-count false reply = record { untold = refl; seen = refl }
+    by-count : (t : Bool) (reply : Reply) (last : Plan) → DeafPlan s last → DeafPlan s (choose t (resendHeld s reply) last)
+    by-count true Data last deaf = record { untold = refl; seen = refl }
+    by-count true (HeldFault status) last deaf = record { untold = refl; seen = refl }
+    by-count false reply last deaf = deaf
 
     by-state : (state : State) → DeafPlan s (timerRow state s)
     by-state (IdleState idle) = record { untold = refl; seen = refl }
     by-state Collect = record { untold = refl; seen = refl }
     by-state Running = record { untold = refl; seen = refl }
     by-state Replying = record { untold = refl; seen = refl }
-    by-state (Held reply) = by-count (ltb (s .resends) retryLimit) reply
+    by-state (Held reply) = by-count (ltb (s .resends) retryLimit) reply _ (record { untold = refl; seen = refl })
 
     by-ground : (g : Ground) → DeafPlan s (timerPlan g s)
     by-ground (Refuse a) = record { untold = refl; seen = refl }
@@ -138,12 +136,6 @@ isCancel (Reject status) = false
 isCancel (Cause cause) = false
 isCancel Dispatch = false
 isCancel CancelNotice = true
-
--- A request that begins a call: of a newer number, or to a fresh server, or of the same number in IDLE repeatable.
-pub Begins : Server → Header → Type 0
-Begins s h =
-    (h .kind ≡ 0)
-    × (((isFresh (s .state) ≡ true) ⊎ (s .number < h .number)) ⊎ ((s .state ≡ IdleState Repeatable) × (s .number ≡ h .number)))
 
 module _ (s : Server) (datagram slots out : List ℕ) where
   abbrev h : Header
@@ -250,61 +242,30 @@ module _ (s : Server) (datagram slots out : List ℕ) where
                 cancel-heard s datagram slots out comes formed own (unfold isIdle in ap isIdle (is .2)) (ap isRunning (is .2)) above .1;
           }
 
-  -- A request that is taken and begins has the row of a begin:
-  begins-row : CanArrive s h → Begins s h → rowFor s h ≡ Begin
-  unfolding Begins rowFor orderFor rowOf requestRow requestEqual requestIdle requestNewer requestAgain rowGround oldGround eventOf clientEvent choose isFresh neverCalled
-  begins-row j (typed, how) = by-number how
-    where
-      -- of a newer number, because in RUNNING there is none,
-      by-state : (state : State) → rowGround (requestNewer state) ≡ Pass → requestNewer state ≡ Begin
-      by-state (IdleState idle) e = refl
-      by-state Collect e = refl
-      by-state Running e = absurd (refusal-stops NoRow e)
-      by-state Replying e = refl
-      by-state (Held reply) e = refl
+  -- A request of a newer number, or to a fresh server, begins a call but in RUNNING; one of the same number with the bit
+  -- set does in IDLE repeatable.
+  pub request-begins : h .kind ≡ 0
+      → (((isFresh (s .state) ≡ true) ⊎ (s .number < h .number)) × (isRunning (s .state) ≡ false))
+      ⊎ ((s .state ≡ IdleState Repeatable) × (s .number ≡ h .number) × (hasFlag idempotent (h .flags1) ≡ true))
+      → rowFor s h ≡ Begin
+  unfolding rowFor orderFor eventOf clientEvent choose isFresh neverCalled
+  request-begins typed (inl newer) =
+      ap (λ (kind : ℕ). rowOf (eventOf kind) (orderFor s h) (s .state) bit (s .call .idempotent)) typed
+      ∙ ap (λ (x : Order). rowOf Request x (s .state) bit (s .call .idempotent))
+      (newer-ordered (isFresh (s .state)) (s .number) (h .number) (newer .0))
+      ∙ newer-begins (s .state) bit (s .call .idempotent) (newer .1)
+  request-begins typed (inr again) =
+      ap (λ (kind : ℕ). rowOf (eventOf kind) (orderFor s h) (s .state) bit (s .call .idempotent)) typed
+      ∙ ap (λ (x : Order). rowOf Request x (s .state) bit (s .call .idempotent))
+      (equal-ordered (isFresh (s .state)) (s .number) (h .number) (ap isFresh (again .0)) (again .1))
+      ∙ (λ i. rowOf Request Equal (again .0 i) (again .2 i) (s .call .idempotent))
+      ∙ again-begins (s .call .idempotent)
 
-      -- of the same number, because without the bit the call is old.
-      by-bit : (t : Bool) → oldGround (requestAgain t) ≡ Pass → requestAgain t ≡ Begin
-      by-bit true e = refl
-      by-bit false e = absurd (refusal-stops OldCall e)
-
-      as-request : rowFor s h ≡ requestRow (orderFor s h) (s .state) bit
-      as-request = ap (λ (kind : ℕ). rowOf (eventOf kind) (orderFor s h) (s .state) bit (s .call .idempotent)) typed
-
-      by-number : ((isFresh (s .state) ≡ true) ⊎ (s .number < h .number)) ⊎ ((s .state ≡ IdleState Repeatable) × (s .number ≡ h .number))
-          → rowFor s h ≡ Begin
-      by-number (inl newer) =
-          let row : rowFor s h ≡ requestNewer (s .state) =
-          as-request ∙ ap (λ (x : Order). requestRow x (s .state) bit) (newer-ordered (isFresh (s .state)) (s .number) (h .number) newer) in
-          row ∙ by-state (s .state) (subst (λ (r : Row). rowGround r ≡ Pass) row (j .row))
-      by-number (inr again) =
-          let row : rowFor s h ≡ requestAgain bit =
-          as-request
-          ∙ ap (λ (x : Order). requestRow x (s .state) bit)
-          (equal-ordered (isFresh (s .state)) (s .number) (h .number) (ap isFresh (again .0)) (again .1))
-          ∙ ap (λ (x : State). requestEqual x bit) (again .0) in
-          row ∙ by-bit bit (subst (λ (r : Row). oldGround r ≡ Pass) row (j .old))
-
-  -- the number last seen is 0 then.
-  pub begin-forgets-seen : arriving s datagram slots out .outcome .answer ≡ Done → Begins s h → after .seen ≡ 0
+  -- A request that is taken and begins a call leaves 0 as the number last seen,
+  pub begin-forgets-seen : arriving s datagram slots out .outcome .answer ≡ Done → rowFor s h ≡ Begin → after .seen ≡ 0
   unfolding arriving acted sending outcomeOf arrivalRow beginPlan requestPlan putPlan begun withIncoming unarmed
-  begin-forgets-seen done begins =
-      let j = arrival-passes s (lentGround (length slots) (length out)) (reading datagram) (bodyOf datagram) (arrive-accepted s datagram slots out done) in
-      ap (λ (p : Plan). p .server .seen)
-      (arrive-row s datagram slots out done ∙ ap (λ (r : Row). arrivalRow r s h size cancel) (begins-row (j .1) begins))
-
-  -- What has the row of a begin is such a request,
-  row-begins : rowFor s h ≡ Begin → Begins s h
-  unfolding Begins rowFor orderFor
-  row-begins is =
-      let told = begin-told (eventOf (h .kind)) (orderFor s h) (s .state) bit (s .call .idempotent) is in
-      (kind-told (h .kind) Request (told .0), by-order (told .1))
-    where
-      by-order : ((orderFor s h ≡ Newer) × (isRunning (s .state) ≡ false))
-          ⊎ ((orderFor s h ≡ Equal) × (s .state ≡ IdleState Repeatable) × (bit ≡ true))
-          → ((isFresh (s .state) ≡ true) ⊎ (s .number < h .number)) ⊎ ((s .state ≡ IdleState Repeatable) × (s .number ≡ h .number))
-      by-order (inl newer) = inl (newer-told (isFresh (s .state)) (s .number) (h .number) (newer .0))
-      by-order (inr again) = inr (again .1, equal-told (isFresh (s .state)) (s .number) (h .number) (again .0) .1)
+  begin-forgets-seen done is =
+      ap (λ (p : Plan). p .server .seen) (arrive-row s datagram slots out done ∙ ap (λ (r : Row). arrivalRow r s h size cancel) is)
 
   -- and every other row leaves it as it was or raises it:
   accept-raises : s .seen ≤ acceptPlan s cancel .server .seen
@@ -340,10 +301,10 @@ module _ (s : Server) (datagram slots out : List ℕ) where
   row-raises DeclineCancel other = omega arith
 
   -- so at any other datagram, taken or refused, it does not go down.
-  pub else-seen-stays : (Begins s h → ⊥) → s .seen ≤ after .seen
+  pub else-seen-stays : (rowFor s h ≡ Begin → ⊥) → s .seen ≤ after .seen
   unfolding arriving acted sending outcomeOf planOf arrivalPlan refused
   else-seen-stays other = by-ground ground
     where
       by-ground : (g : Ground) → s .seen ≤ arrivalPlan g s h size cancel .server .seen
       by-ground (Refuse a) = omega arith
-      by-ground Pass = row-raises (rowFor s h) (λ is. other (row-begins is))
+      by-ground Pass = row-raises (rowFor s h) other

@@ -34,7 +34,8 @@ callOf h = record {
   operation = h .operation;
 }
 
--- Begin: the request's number and call; serial, all counts, slots and known last reset; COLLECT, nothing armed.
+-- Begin: the request's number and call; serial, all counts, slots, known last and the cancel number last seen reset;
+-- COLLECT, nothing armed.
 unfoldable pub begun : Server → Header → Server
 begun s h = withCall s Collect (h .number) (callOf h)
 

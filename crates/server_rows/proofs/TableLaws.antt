@@ -1,6 +1,6 @@
 -- What the order of an arriving PDU's number and its row tell.
 use Prim.Native.Nat.{ℕ, _<_}
-use mathlib.Core.Bool.{Bool, true, false}
+use mathlib.Core.Bool.{Bool, true, false, true≢false}
 use mathlib.Core.Logic.{_⊎_, inl, inr}
 use mathlib.Core.Path.{_≡_, refl, ap, subst, _∙_}
 use native.Mathlib.Omega.{arith}
@@ -170,6 +170,20 @@ row-tells Ack order state bit mark = ack-tells bit mark order state
 row-tells Cancel order state bit mark = cancel-tells bit mark order state
 row-tells Fack order state bit mark = fack-tells bit mark order state
 row-tells Foreign order state bit mark = tt
+
+-- A newer request begins but in RUNNING,
+pub newer-begins : (state : State) (bit mark : Bool) → isRunning state ≡ false → rowOf Request Newer state bit mark ≡ Begin
+unfolding rowOf requestRow requestNewer isRunning
+newer-begins (IdleState idle) bit mark e = refl
+newer-begins Collect bit mark e = refl
+newer-begins Running bit mark e = absurd (true≢false e)
+newer-begins Replying bit mark e = refl
+newer-begins (Held reply) bit mark e = refl
+
+-- and one of an equal number with the bit set does in IDLE repeatable.
+pub again-begins : (mark : Bool) → rowOf Request Equal (IdleState Repeatable) true mark ≡ Begin
+unfolding rowOf requestRow requestEqual requestIdle requestAgain choose
+again-begins mark = refl
 
 module _ (event : Event) (order : Order) (state : State) (bit mark : Bool) where
   -- Begin: a newer request, not in RUNNING, or an equal one with the bit set in IDLE repeatable.

@@ -4,8 +4,11 @@ use borrow.Author.Needs.{needs}
 use Rattle.bodies.proofs.read_cancel.Statement.{statement}
 use Rattle.bodies.proofs.read_cancel.Tie as tie
 
-pub read-cancel-spec : {M : Type 1} → statement M
+returns : tie.Need-returns
 unfolding cancelReading
+returns c = rw (c .cancel-where .ensures, c .before .is-cancel-formed .ensures, c .before .before .number322 .ensures, c .before .before .before .number32 .ensures)
+
+pub read-cancel-spec : {M : Type 1} → statement M
 read-cancel-spec =
     tie.close
     (tie.spec
@@ -13,4 +16,4 @@ read-cancel-spec =
     (λ c κs. search needs)
     (λ c κs. search needs)
     (λ c κs. search needs)
-    (λ c. rw (c .cancel-where .ensures, c .before .is-cancel-formed .ensures, c .before .before .number322 .ensures, c .before .before .before .number32 .ensures)))
+    returns)

@@ -4,8 +4,11 @@ use borrow.Author.Needs.{needs}
 use Rattle.bodies.proofs.read_cancel_ack.Statement.{statement}
 use Rattle.bodies.proofs.read_cancel_ack.Tie as tie
 
-pub read-cancel-ack-spec : {M : Type 1} → statement M
+returns : tie.Need-returns
 unfolding cancelAckReading
+returns c = rw (c .cancel-ack-where .ensures, c .before .is-cancel-ack-formed .ensures, c .before .before .number323 .ensures, c .before .before .before .number322 .ensures, c .before .before .before .before .number32 .ensures)
+
+pub read-cancel-ack-spec : {M : Type 1} → statement M
 read-cancel-ack-spec =
     tie.close
     (tie.spec
@@ -14,4 +17,4 @@ read-cancel-ack-spec =
     (λ c κs. search needs)
     (λ c κs. search needs)
     (λ c κs. search needs)
-    (λ c. rw (c .cancel-ack-where .ensures, c .before .is-cancel-ack-formed .ensures, c .before .before .number323 .ensures, c .before .before .before .number322 .ensures, c .before .before .before .before .number32 .ensures)))
+    returns)

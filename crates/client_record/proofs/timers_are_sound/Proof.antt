@@ -25,4 +25,5 @@ timers-are-sound-spec =
       c .before .before .before .before .is-sound-where2 .ensures,
       c .before .before .before .before .before .is-ack-pending .ensures,
       c .before .before .before .before .before .before .is-sound-where .ensures,
-      c .before .before .before .before .before .before .before .is-waiting .ensures)))
+      c .before .before .before .before .before .before .before .is-waiting .ensures,
+    )))

@@ -5,8 +5,15 @@ use borrow.Author.Needs.{needs}
 use Rattle.client_steps.proofs.cancel.Statement.{statement}
 use Rattle.client_steps.proofs.cancel.Tie as tie
 
-pub cancel-spec : {M : Type 1} → statement M
+returns : tie.Need-returns
 unfolding cancelPlan cancelled withCancels
+returns c = rw (c .before .before .ground .given .1, c .refused .ensures)
+
+returns-2 : tie.Need-returns-2
+unfolding cancelPlan cancelled withCancels
+returns-2 c = rw (c .before .before .enum-told .given .1, c .accepted .ensures, c .before .cancelled .ensures)
+
+pub cancel-spec : {M : Type 1} → statement M
 cancel-spec =
     tie.close
     (tie.spec
@@ -15,5 +22,5 @@ cancel-spec =
     (λ c. search needs)
     (λ c κs. search needs)
     (λ c κs. search needs)
-    (λ c. rw (c .before .before .ground .given .1, c .refused .ensures))
-    (λ c. rw (c .before .before .enum-told .given .1, c .accepted .ensures, c .before .cancelled .ensures)))
+    returns
+    returns-2)

@@ -5,8 +5,11 @@ use borrow.Author.Needs.{needs}
 use Rattle.client_table.proofs.arrival.Statement.{statement}
 use Rattle.client_table.proofs.arrival.Tie as tie
 
-pub arrival-spec : {M : Type 1} → statement M
+returns : tie.Need-returns
 unfolding arrivalGround cancelAckBodyGround
+returns c = rw (c .first-of2 .ensures, c .before .first-of .ensures, c .before .before .table-ground .ensures, c .before .before .before .body-length .ensures, c .before .before .before .before .is-current .ensures, c .before .before .before .before .before .pdu-ground .ensures, c .before .before .before .before .before .before .of-answer .ensures, c .before .before .before .before .before .before .before .read-cancel-ack .ensures, c .before .before .before .before .before .before .before .before .number .ensures, c .before .before .before .before .before .before .before .before .before .event-of .ensures, c .before .before .before .before .before .before .before .before .before .before .entry .ensures, c .before .before .before .before .before .before .before .before .before .before .before .is-sound .ensures)
+
+pub arrival-spec : {M : Type 1} → statement M
 arrival-spec =
     tie.close
     (tie.spec
@@ -22,4 +25,4 @@ arrival-spec =
     (λ c κs. search needs)
     (λ c κs. search needs)
     (λ c κs. search needs)
-    (λ c. rw (c .first-of2 .ensures, c .before .first-of .ensures, c .before .before .table-ground .ensures, c .before .before .before .body-length .ensures, c .before .before .before .before .is-current .ensures, c .before .before .before .before .before .pdu-ground .ensures, c .before .before .before .before .before .before .of-answer .ensures, c .before .before .before .before .before .before .before .read-cancel-ack .ensures, c .before .before .before .before .before .before .before .before .number .ensures, c .before .before .before .before .before .before .before .before .before .event-of .ensures, c .before .before .before .before .before .before .before .before .before .before .entry .ensures, c .before .before .before .before .before .before .before .before .before .before .before .is-sound .ensures)))
+    returns)

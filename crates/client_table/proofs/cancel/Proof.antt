@@ -4,8 +4,11 @@ use borrow.Author.Needs.{needs}
 use Rattle.client_table.proofs.cancel.Statement.{statement}
 use Rattle.client_table.proofs.cancel.Tie as tie
 
-pub cancel-spec : {M : Type 1} → statement M
+returns : tie.Need-returns
 unfolding cancelGround
+returns c = rw (c .first-of3 .ensures, c .before .first-of2 .ensures, c .before .before .first-of .ensures, c .before .before .before .tickets .ensures, c .before .before .before .before .is-off .ensures, c .before .before .before .before .before .refuse-if3 .ensures, c .before .before .before .before .before .before .may-cancel .ensures, c .before .before .before .before .before .before .before .refuse-if2 .ensures, c .before .before .before .before .before .before .before .before .is-sound .ensures, c .before .before .before .before .before .before .before .before .before .refuse-if .ensures)
+
+pub cancel-spec : {M : Type 1} → statement M
 cancel-spec =
     tie.close
     (tie.spec
@@ -19,4 +22,4 @@ cancel-spec =
     (λ c κs. search needs)
     (λ c κs. search needs)
     (λ c κs. search needs)
-    (λ c. rw (c .first-of3 .ensures, c .before .first-of2 .ensures, c .before .before .first-of .ensures, c .before .before .before .tickets .ensures, c .before .before .before .before .is-off .ensures, c .before .before .before .before .before .refuse-if3 .ensures, c .before .before .before .before .before .before .may-cancel .ensures, c .before .before .before .before .before .before .before .refuse-if2 .ensures, c .before .before .before .before .before .before .before .before .is-sound .ensures, c .before .before .before .before .before .before .before .before .before .refuse-if .ensures)))
+    returns)
