@@ -19,7 +19,7 @@ use Rattle.answers.specs.Number.{numberOf, answerOf}
 use Rattle.bodies.specs.declared.CancelAckReading.{CancelAckReading}
 use Rattle.bodies.specs.Cancel.{cancelAckFormed, cancelAckWhere, cancelAckReading}
 use Rattle.bodies.specs.Status.{statusReading}
-use Rattle.calls.specs.declared.Notice.the-variants.{Nothing as Untold, Cause}
+use Rattle.calls.specs.declared.Notice.the-variants.{Cause}
 use Rattle.calls.specs.declared.Sent.the-variants.{Nothing as Unsent}
 use Rattle.fragments.specs.Slots.{storing}
 use Rattle.pdu.specs.declared.Header.{Header}
@@ -49,6 +49,8 @@ use Rattle.client_table.specs.Events.{serverEvent, eventOf, byEvent, sideGround
 use Rattle.client_table.specs.Arrival.{numberGround, isCurrent, pduGround, rowGround, tableGround, arrivalGround}
 use Rattle.client_table.specs.Local.{timerGround, mayCancel, cancelGround}
 use Rattle.client_steps.specs.declared.Plan.{Plan}
+use Rattle.client_steps.specs.declared.Send.{Send}
+use Rattle.client_steps.specs.declared.Send.the-variants.{Nothing}
 use Rattle.client_steps.specs.Plan.{refused, accepted, failed}
 use Rattle.client_steps.specs.Rows.{cancelTimerPlan, timerRow, timerPlan}
 use Rattle.client_steps.proofs.PlanLaws.{timer-answers, cancel-answers}
@@ -57,6 +59,7 @@ use Rattle.client_arrivals.specs.Table.{arrivalRow, arrivalPlan}
 use Rattle.client.specs.Sending.{sentOut}
 use Rattle.client.specs.Machine.{outcomeOf, sending, planOf, acted, timing, cancelling, arriving}
 use Rattle.client.proofs.Accepting.{timer-accepted, arrive-row}
+use Rattle.client.proofs.Refusals.{ArrivalUntouched}
 
 -- The three active states, by their names.
 abbrev pub Active : State → Type 0
@@ -163,6 +166,11 @@ either-right false b e = e
 neither : (a b : Bool) → a ≡ false → b ≡ false → either a b ≡ false
 unfolding either choose
 neither a b e f = ap (λ (x : Bool). either x b) e ∙ f
+
+-- Where a row sends nothing, nothing is sent, and the PDU buffer is as it was.
+silent : (send : Send) (c : Client) (out : List ℕ) → send ≡ Nothing → (sentOut send c [] out .sent ≡ Unsent) × (sentOut send c [] out .out ≡ out)
+unfolding sentOut
+silent send c out e = (ap (λ (x : Send). sentOut x c [] out .sent) e, ap (λ (x : Send). sentOut x c [] out .out) e)
 
 same-self : (a : List ℕ) → same a a ≡ true
 same-self [] = refl
@@ -317,8 +325,8 @@ module _ (c : Client) (ticket : ℕ) (out : List ℕ) where
 
       -- nothing is sent, and the PDU buffer is as it was,
       pub own-timer-unsent : (timing c Cancel ticket out .outcome .sent ≡ Unsent) × (timing c Cancel ticket out .out ≡ out)
-      unfolding timing sending outcomeOf cancelTimerPlan failed accepted sentOut
-      own-timer-unsent = (ap (λ (p : Plan). sending p [] out .outcome .sent) acts, ap (λ (p : Plan). sending p [] out .out) acts)
+      unfolding timing sending outcomeOf cancelTimerPlan failed accepted
+      own-timer-unsent = silent _ _ out (ap (λ (p : Plan). p .send) acts)
 
       -- and the call is given up.
       pub own-timer-leaves : GivenUp c (timing c Cancel ticket out .outcome .client)
@@ -548,18 +556,16 @@ module _ (c : Client) (datagram slots out : List ℕ) where
               (λ (x : Event). arrivalRow x c h (bodyLength (bodyOf datagram)) (statusReading (reading datagram .little) (bodyOf datagram) .status))
               (ap eventOf (comes .typed))
 
-          -- nothing is sent and nothing is told,
-          pub own-ack-silent : (arriving c datagram slots out .outcome .sent ≡ Unsent) × (arriving c datagram slots out .outcome .notice ≡ Untold)
-          unfolding arriving acted sending outcomeOf cancelAckPlan accepted sentOut
-          own-ack-silent = (ap (λ (p : Plan). sending p [] out .outcome .sent) row, ap (λ (p : Plan). p .notice) row)
-
-          -- slots and PDU buffer are as they were,
-          pub own-ack-buffers : (arriving c datagram slots out .slots ≡ slots) × (arriving c datagram slots out .out ≡ out)
-          unfolding arriving acted sending cancelAckPlan accepted sentOut storing choose
-          own-ack-buffers = (
-            ap (λ (p : Plan). storing (p .put) (h .fragment) (bodyOf datagram) slots) row,
-            ap (λ (p : Plan). sending p [] out .out) row,
-          )
+          -- nothing is sent, nothing is told, slots and PDU buffer are as they were,
+          pub own-ack-silent : ArrivalUntouched (arriving c datagram slots out .outcome .client) slots out (arriving c datagram slots out)
+          unfolding arriving acted sending outcomeOf cancelAckPlan accepted storing choose
+          own-ack-silent =
+              let quiet = ap (λ (p : Plan). p .send) row in
+              record {
+                outcome = record { client = refl; sent = silent _ _ out quiet .0; notice = ap (λ (p : Plan). p .notice) row };
+                stored = ap (λ (p : Plan). storing (p .put) (h .fragment) (bodyOf datagram) slots) row;
+                buffer = silent _ _ out quiet .1;
+              }
 
           -- and CANCEL is disarmed, whether or not the server accepts cancels.
           pub own-ack-leaves : OnlyDisarmed c (arriving c datagram slots out .outcome .client)
