@@ -60,6 +60,7 @@ use Rattle.client.specs.Sending.{sentOut}
 use Rattle.client.specs.Machine.{outcomeOf, sending, planOf, acted, timing, cancelling, arriving}
 use Rattle.client.proofs.Accepting.{timer-accepted, arrive-row}
 use Rattle.client.proofs.Refusals.{ArrivalUntouched}
+use Rattle.client.proofs.Cancels.{cancel-ack-disarms}
 
 -- The three active states, by their names.
 abbrev pub Active : State → Type 0
@@ -569,19 +570,21 @@ module _ (c : Client) (datagram slots out : List ℕ) where
 
           -- and CANCEL is disarmed, whether or not the server accepts cancels.
           pub own-ack-leaves : OnlyDisarmed c (arriving c datagram slots out .outcome .client)
-          unfolding arriving acted sending outcomeOf cancelAckPlan accepted cancelDisarmed
-          own-ack-leaves = record {
-            cancel = ap (λ (p : Plan). p .client .cancel) row;
-            state = ap (λ (p : Plan). p .client .state) row;
-            activity = ap (λ (p : Plan). p .client .activity) row;
-            number = ap (λ (p : Plan). p .client .number) row;
-            call = ap (λ (p : Plan). p .client .call) row;
-            outgoing = ap (λ (p : Plan). p .client .outgoing) row;
-            incoming = ap (λ (p : Plan). p .client .incoming) row;
-            waits = ap (λ (p : Plan). p .client .waits) row;
-            resends = ap (λ (p : Plan). p .client .resends) row;
-            cancels = ap (λ (p : Plan). p .client .cancels) row;
-            tickets = ap (λ (p : Plan). p .client .tickets) row;
-            wait = ap (λ (p : Plan). p .client .wait) row;
-            ack = ap (λ (p : Plan). p .client .ack) row;
-          }
+          unfolding cancelDisarmed
+          own-ack-leaves =
+              let disarmed = cancel-ack-disarms c datagram slots out own-ack (comes .typed) in
+              record {
+                cancel = ap (λ (d : Client). d .cancel) disarmed;
+                state = ap (λ (d : Client). d .state) disarmed;
+                activity = ap (λ (d : Client). d .activity) disarmed;
+                number = ap (λ (d : Client). d .number) disarmed;
+                call = ap (λ (d : Client). d .call) disarmed;
+                outgoing = ap (λ (d : Client). d .outgoing) disarmed;
+                incoming = ap (λ (d : Client). d .incoming) disarmed;
+                waits = ap (λ (d : Client). d .waits) disarmed;
+                resends = ap (λ (d : Client). d .resends) disarmed;
+                cancels = ap (λ (d : Client). d .cancels) disarmed;
+                tickets = ap (λ (d : Client). d .tickets) disarmed;
+                wait = ap (λ (d : Client). d .wait) disarmed;
+                ack = ap (λ (d : Client). d .ack) disarmed;
+              }
