@@ -28,7 +28,6 @@ use Rattle.reader.specs.Reading.{reading}
 use Rattle.timers.specs.declared.Timer.{Timer}
 use Rattle.timers.specs.declared.Timer.the-variants.{Off, Armed}
 use Rattle.timers.specs.Tickets.{usedUp, off, armedWith}
-use Rattle.timers.proofs.TimerLaws.{off-has-none}
 use Rattle.grounds.specs.Order.{first, refuseIf, groundOf}
 use Rattle.grounds.specs.Entry.{same, lentGround, entryGround}
 use Rattle.grounds.specs.Fragment.{bodyLength}
@@ -42,7 +41,6 @@ use Rattle.client_record.specs.States.{isQueued, isActive}
 use Rattle.client_record.specs.Rules.{sound}
 use Rattle.client_record.specs.Record.{unarmed, cancelDisarmed}
 use Rattle.client_record.specs.Arming.{namedTimer, namedBy, pings}
-use Rattle.client_record.proofs.RuleLaws.{cancel-off}
 use Rattle.client_table.specs.declared.Event.{Event}
 use Rattle.client_table.specs.declared.Event.the-variants.{CancelAck, Foreign}
 use Rattle.client_table.specs.Events.{serverEvent, eventOf, byEvent, sideGround, hasRow, arms}
@@ -95,14 +93,6 @@ unqueued ReceiveFrags other = refl
 unqueued AckPending other = refl
 unqueued Complete other = refl
 unqueued Fault other = refl
-
--- In a record that keeps its rules CANCEL is armed only in the three.
-armed-active : (c : Client) (ticket : ℕ) → sound c ≡ true → c .cancel ≡ Armed ticket → isActive (c .state) ≡ true
-armed-active c ticket kept armed = by-state (isActive (c .state)) refl
-  where
-    by-state : (t : Bool) → isActive (c .state) ≡ t → t ≡ true
-    by-state true is = refl
-    by-state false is = absurd (off-has-none ticket (sym (cancel-off c kept is) ∙ armed))
 
 -- A timer is armed with a ticket, or it is not.
 armed-with : (timer : Timer) (ticket : ℕ) → timer ≡ Armed ticket → armedWith timer ticket ≡ true
@@ -303,8 +293,8 @@ module _ (c : Client) (ticket : ℕ) (out : List ℕ) where
         ∙ passed _ BrokenRecord _ kept
         ∙ stopped _ NoRow _ (inactive (c .state) other)))
 
-    module _ (armed : c .cancel ≡ Armed ticket) where
-      -- where CANCEL is armed with its ticket, it is taken,
+    module _ (three : Active (c .state)) (armed : c .cancel ≡ Armed ticket) where
+      -- in them, where CANCEL is armed with its ticket, it is taken,
       pub own-timer : timed ≡ Done
       unfolding timerGround namedBy namedTimer lateGround ticketGround pings both choose refuseIf
       own-timer =
@@ -312,7 +302,7 @@ module _ (c : Client) (ticket : ℕ) (out : List ℕ) where
           (ap answerOf
           (passed _ WrongLength _ (eq-eqb _ pduSize sized)
           ∙ passed _ BrokenRecord _ kept
-          ∙ passed _ NoRow _ (armed-active c ticket kept armed)
+          ∙ passed _ NoRow _ (active (c .state) three)
           ∙ passed _ LateTimer _ (armed-with (c .cancel) ticket armed)))
 
       acts : timerPlan (timerGround c Cancel ticket (length out)) Cancel c ≡ cancelTimerPlan c
@@ -348,7 +338,7 @@ module _ (c : Client) (ticket : ℕ) (out : List ℕ) where
         tickets = ap (λ (p : Plan). p .client .tickets) acts;
       }
 
-    -- In the three, with any other ticket or CANCEL not armed, it is 18.
+    -- With any other ticket, or CANCEL not armed, it is 18 in them.
     pub late-timer : Active (c .state) → (c .cancel ≡ Armed ticket → ⊥) → timed ≡ LateTimer
     unfolding timerGround namedBy namedTimer lateGround
     late-timer three other =
