@@ -19,7 +19,7 @@ use Rattle.answers.specs.Number.{numberOf, answerOf}
 use Rattle.bodies.specs.declared.CancelAckReading.{CancelAckReading}
 use Rattle.bodies.specs.Cancel.{cancelAckFormed, cancelAckWhere, cancelAckReading}
 use Rattle.bodies.specs.Status.{statusReading}
-use Rattle.calls.specs.declared.Notice.the-variants.{Nothing as Untold, Cause}
+use Rattle.calls.specs.declared.Notice.the-variants.{Cause}
 use Rattle.calls.specs.declared.Sent.the-variants.{Nothing as Unsent}
 use Rattle.fragments.specs.Slots.{storing}
 use Rattle.pdu.specs.declared.Header.{Header}
@@ -47,6 +47,8 @@ use Rattle.client_table.specs.Events.{serverEvent, eventOf, byEvent, sideGround
 use Rattle.client_table.specs.Arrival.{numberGround, isCurrent, pduGround, rowGround, tableGround, arrivalGround}
 use Rattle.client_table.specs.Local.{timerGround, mayCancel, cancelGround}
 use Rattle.client_steps.specs.declared.Plan.{Plan}
+use Rattle.client_steps.specs.declared.Send.{Send}
+use Rattle.client_steps.specs.declared.Send.the-variants.{Nothing}
 use Rattle.client_steps.specs.Plan.{refused, accepted, failed}
 use Rattle.client_steps.specs.Rows.{cancelTimerPlan, timerRow, timerPlan}
 use Rattle.client_steps.proofs.PlanLaws.{timer-answers, cancel-answers}
@@ -55,7 +57,8 @@ use Rattle.client_arrivals.specs.Table.{arrivalRow, arrivalPlan}
 use Rattle.client.specs.Sending.{sentOut}
 use Rattle.client.specs.Machine.{outcomeOf, sending, planOf, acted, timing, cancelling, arriving}
 use Rattle.client.proofs.Accepting.{timer-accepted, arrive-row}
-use Rattle.client.proofs.Cancels.{armed-active}
+use Rattle.client.proofs.Refusals.{ArrivalUntouched}
+use Rattle.client.proofs.Cancels.{cancel-ack-disarms}
 
 -- The three active states, by their names.
 abbrev pub Active : State → Type 0
@@ -154,6 +157,11 @@ either-right false b e = e
 neither : (a b : Bool) → a ≡ false → b ≡ false → either a b ≡ false
 unfolding either choose
 neither a b e f = ap (λ (x : Bool). either x b) e ∙ f
+
+-- Where a row sends nothing, nothing is sent, and the PDU buffer is as it was.
+silent : (send : Send) (c : Client) (out : List ℕ) → send ≡ Nothing → (sentOut send c [] out .sent ≡ Unsent) × (sentOut send c [] out .out ≡ out)
+unfolding sentOut
+silent send c out e = (ap (λ (x : Send). sentOut x c [] out .sent) e, ap (λ (x : Send). sentOut x c [] out .out) e)
 
 same-self : (a : List ℕ) → same a a ≡ true
 same-self [] = refl
@@ -285,8 +293,8 @@ module _ (c : Client) (ticket : ℕ) (out : List ℕ) where
         ∙ passed _ BrokenRecord _ kept
         ∙ stopped _ NoRow _ (inactive (c .state) other)))
 
-    module _ (armed : c .cancel ≡ Armed ticket) where
-      -- where CANCEL is armed with its ticket, it is taken,
+    module _ (three : Active (c .state)) (armed : c .cancel ≡ Armed ticket) where
+      -- in them, where CANCEL is armed with its ticket, it is taken,
       pub own-timer : timed ≡ Done
       unfolding timerGround namedBy namedTimer lateGround ticketGround pings both choose refuseIf
       own-timer =
@@ -294,7 +302,7 @@ module _ (c : Client) (ticket : ℕ) (out : List ℕ) where
           (ap answerOf
           (passed _ WrongLength _ (eq-eqb _ pduSize sized)
           ∙ passed _ BrokenRecord _ kept
-          ∙ passed _ NoRow _ (armed-active c ticket kept armed)
+          ∙ passed _ NoRow _ (active (c .state) three)
           ∙ passed _ LateTimer _ (armed-with (c .cancel) ticket armed)))
 
       acts : timerPlan (timerGround c Cancel ticket (length out)) Cancel c ≡ cancelTimerPlan c
@@ -308,8 +316,8 @@ module _ (c : Client) (ticket : ℕ) (out : List ℕ) where
 
       -- nothing is sent, and the PDU buffer is as it was,
       pub own-timer-unsent : (timing c Cancel ticket out .outcome .sent ≡ Unsent) × (timing c Cancel ticket out .out ≡ out)
-      unfolding timing sending outcomeOf cancelTimerPlan failed accepted sentOut
-      own-timer-unsent = (ap (λ (p : Plan). sending p [] out .outcome .sent) acts, ap (λ (p : Plan). sending p [] out .out) acts)
+      unfolding timing sending outcomeOf cancelTimerPlan failed accepted
+      own-timer-unsent = silent _ _ out (ap (λ (p : Plan). p .send) acts)
 
       -- and the call is given up.
       pub own-timer-leaves : GivenUp c (timing c Cancel ticket out .outcome .client)
@@ -330,7 +338,7 @@ module _ (c : Client) (ticket : ℕ) (out : List ℕ) where
         tickets = ap (λ (p : Plan). p .client .tickets) acts;
       }
 
-    -- In the three, with any other ticket or CANCEL not armed, it is 18.
+    -- With any other ticket, or CANCEL not armed, it is 18 in them.
     pub late-timer : Active (c .state) → (c .cancel ≡ Armed ticket → ⊥) → timed ≡ LateTimer
     unfolding timerGround namedBy namedTimer lateGround
     late-timer three other =
@@ -539,34 +547,34 @@ module _ (c : Client) (datagram slots out : List ℕ) where
               (λ (x : Event). arrivalRow x c h (bodyLength (bodyOf datagram)) (statusReading (reading datagram .little) (bodyOf datagram) .status))
               (ap eventOf (comes .typed))
 
-          -- nothing is sent and nothing is told,
-          pub own-ack-silent : (arriving c datagram slots out .outcome .sent ≡ Unsent) × (arriving c datagram slots out .outcome .notice ≡ Untold)
-          unfolding arriving acted sending outcomeOf cancelAckPlan accepted sentOut
-          own-ack-silent = (ap (λ (p : Plan). sending p [] out .outcome .sent) row, ap (λ (p : Plan). p .notice) row)
-
-          -- slots and PDU buffer are as they were,
-          pub own-ack-buffers : (arriving c datagram slots out .slots ≡ slots) × (arriving c datagram slots out .out ≡ out)
-          unfolding arriving acted sending cancelAckPlan accepted sentOut storing choose
-          own-ack-buffers = (
-            ap (λ (p : Plan). storing (p .put) (h .fragment) (bodyOf datagram) slots) row,
-            ap (λ (p : Plan). sending p [] out .out) row,
-          )
+          -- nothing is sent, nothing is told, slots and PDU buffer are as they were,
+          pub own-ack-silent : ArrivalUntouched (arriving c datagram slots out .outcome .client) slots out (arriving c datagram slots out)
+          unfolding arriving acted sending outcomeOf cancelAckPlan accepted storing choose
+          own-ack-silent =
+              let quiet = ap (λ (p : Plan). p .send) row in
+              record {
+                outcome = record { client = refl; sent = silent _ _ out quiet .0; notice = ap (λ (p : Plan). p .notice) row };
+                stored = ap (λ (p : Plan). storing (p .put) (h .fragment) (bodyOf datagram) slots) row;
+                buffer = silent _ _ out quiet .1;
+              }
 
           -- and CANCEL is disarmed, whether or not the server accepts cancels.
           pub own-ack-leaves : OnlyDisarmed c (arriving c datagram slots out .outcome .client)
-          unfolding arriving acted sending outcomeOf cancelAckPlan accepted cancelDisarmed
-          own-ack-leaves = record {
-            cancel = ap (λ (p : Plan). p .client .cancel) row;
-            state = ap (λ (p : Plan). p .client .state) row;
-            activity = ap (λ (p : Plan). p .client .activity) row;
-            number = ap (λ (p : Plan). p .client .number) row;
-            call = ap (λ (p : Plan). p .client .call) row;
-            outgoing = ap (λ (p : Plan). p .client .outgoing) row;
-            incoming = ap (λ (p : Plan). p .client .incoming) row;
-            waits = ap (λ (p : Plan). p .client .waits) row;
-            resends = ap (λ (p : Plan). p .client .resends) row;
-            cancels = ap (λ (p : Plan). p .client .cancels) row;
-            tickets = ap (λ (p : Plan). p .client .tickets) row;
-            wait = ap (λ (p : Plan). p .client .wait) row;
-            ack = ap (λ (p : Plan). p .client .ack) row;
-          }
+          unfolding cancelDisarmed
+          own-ack-leaves =
+              let disarmed = cancel-ack-disarms c datagram slots out own-ack (comes .typed) in
+              record {
+                cancel = ap (λ (d : Client). d .cancel) disarmed;
+                state = ap (λ (d : Client). d .state) disarmed;
+                activity = ap (λ (d : Client). d .activity) disarmed;
+                number = ap (λ (d : Client). d .number) disarmed;
+                call = ap (λ (d : Client). d .call) disarmed;
+                outgoing = ap (λ (d : Client). d .outgoing) disarmed;
+                incoming = ap (λ (d : Client). d .incoming) disarmed;
+                waits = ap (λ (d : Client). d .waits) disarmed;
+                resends = ap (λ (d : Client). d .resends) disarmed;
+                cancels = ap (λ (d : Client). d .cancels) disarmed;
+                tickets = ap (λ (d : Client). d .tickets) disarmed;
+                wait = ap (λ (d : Client). d .wait) disarmed;
+                ack = ap (λ (d : Client). d .ack) disarmed;
+              }

@@ -66,7 +66,7 @@ use Rattle.client.proofs.Accepting.{start-accepted, cancel-accepted, ar
 use Rattle.client.proofs.Sends.{cancel-whole}
 
 -- A call whose CANCEL is armed is active,
-pub armed-active : (c : Client) (ticket : ℕ) → sound c ≡ true → c .cancel ≡ Armed ticket → isActive (c .state) ≡ true
+armed-active : (c : Client) (ticket : ℕ) → sound c ≡ true → c .cancel ≡ Armed ticket → isActive (c .state) ≡ true
 armed-active c ticket kept armed = by-state (isActive (c .state)) refl
   where
     by-state : (t : Bool) → isActive (c .state) ≡ t → t ≡ true
