@@ -31,7 +31,7 @@ use Rattle.server_record.specs.Rules.{outgoingSound as serverOutgoing, idleRule
 use Rattle.server_record.proofs.RuleLaws.{rules-hold as server-rules}
 use Rattle.history.specs.Lists.{In}
 use Rattle.history.specs.World.{Started, Dispatched, Replied, World}
-use Rattle.history.specs.Claim.{hasReply}
+use Rattle.history.specs.Replies.{hasReply}
 use Rattle.history.specs.Freshness.{NothingSent, FreshClient, FreshServer, Fresh}
 use Rattle.history.proofs.Holding.{none-sound, none-unheld}
 use Rattle.history.proofs.Invariant.{ClientInv, unanswered, hasData, ServerInv, CallInv, Inv}

@@ -13,7 +13,7 @@ use Rattle.words.proofs.Tests.{both-true}
 use Rattle.history.specs.Lists.{In, andThen}
 use Rattle.history.specs.World.{Dispatched, Cancelled, Heard}
 use Rattle.history.specs.Steps.{lastDispatched}
-use Rattle.history.specs.Claim.{timesCancelled, timesHeard, RunOf, AskedFor}
+use Rattle.history.specs.Cancels.{timesCancelled, timesHeard, RunOf, AskedFor}
 use Rattle.history.proofs.ListLaws.{counts, counts-not, counts-none}
 
 -- One more cancel of a start counts once,

@@ -46,7 +46,8 @@ use Rattle.history.specs.Events.{Lent, ClientEvent, ServerEvent, Event, 
 use Rattle.history.specs.Steps.{bytesLent, ownAfter, lastStart, cancelOf, ofRecord, ofArrival, happens, answerTo, noticeOf, step, run}
 use Rattle.history.specs.Fairness.{Premise, ServerPremise, Fair}
 use Rattle.history.specs.Freshness.{Fresh}
-use Rattle.history.specs.Claim.{runs, HeardAskedFor, HeardOnce, HeardRunning, Hears}
+use Rattle.history.specs.Dispatches.{runs}
+use Rattle.history.specs.Cancels.{HeardAskedFor, HeardOnce, HeardRunning, Hears}
 use Rattle.history.proofs.ListLaws.{within-grown}
 use Rattle.history.proofs.Invariant.{Inv}
 use Rattle.history.proofs.Refused.{refused-same}

@@ -33,7 +33,8 @@ use Rattle.client.proofs.Cancels.{CancelAfter, cancel-arms}
 use Rattle.client.proofs.CancelAnswers.{Active, first-cancel, further-cancel}
 use Rattle.history.specs.World.{World}
 use Rattle.history.specs.Steps.{lastStart, clientTurnOf, sideAfter, happens, answerTo, step}
-use Rattle.history.specs.Claim.{namesCancel, Asked, CancelsSent, CancelsTaken}
+use Rattle.history.specs.Timers.{namesCancel}
+use Rattle.history.specs.Cancels.{Asked, CancelsSent, CancelsTaken}
 use Rattle.history.proofs.Network.{pduOf, Uuids, read-little, call-sized}
 use Rattle.history.proofs.Invariant.{Inv}
 use Rattle.client_record.proofs.StateLaws.{active-state}

@@ -22,7 +22,8 @@ use Rattle.history.specs.Lists.{In, andThen}
 use Rattle.history.specs.World.{Started, Cancelled, World}
 use Rattle.history.specs.Events.{Lent, ClientEvent, Start, ClientTransmit, ClientArrive, ClientTimer, ClientCancel, OfClient, OfServer}
 use Rattle.history.specs.Steps.{bytesLent, lastStart, clientTurnOf, clientTurn, cancelledAfter, happens, answerTo, step}
-use Rattle.history.specs.Claim.{timesCancelled, namesCancel, timerIn, Answered, StaysArmed}
+use Rattle.history.specs.Timers.{namesCancel, timerIn}
+use Rattle.history.specs.Cancels.{timesCancelled, Answered, StaysArmed}
 use Rattle.history.proofs.ListLaws.{in-grown}
 use Rattle.history.proofs.CancelLists.{cancelled-same, cancelled-none}
 use Rattle.history.proofs.Invariant.{Inv}

@@ -47,7 +47,7 @@ use Rattle.client.proofs.Keeping.{row-sound}
 use Rattle.history.specs.Lists.{In}
 use Rattle.history.specs.World.{Started, Completed, Replied, SentPdu, World}
 use Rattle.history.specs.Steps.{lastStart, completionsAfter, completionEntry}
-use Rattle.history.specs.Claim.{WholeReply, hasReply}
+use Rattle.history.specs.Replies.{WholeReply, hasReply}
 use Rattle.history.proofs.Holding.{Buffer, Short, PartOf, unheld-unfinished, holding-whole, Holding, Single, empty-holding, put-holding, other-empty}
 use Rattle.history.proofs.Types.{IsResponse}
 use Rattle.history.proofs.Network.{Request, Response}

@@ -27,7 +27,7 @@ use Rattle.client.specs.Machine.{outcomeOf, starting, sending, transmitting, ti
 use Rattle.history.specs.World.{Side}
 use Rattle.history.specs.Events.{ClientEvent, Start, ClientTransmit, ClientArrive, ClientTimer, ClientCancel}
 use Rattle.history.specs.Steps.{clientTurn}
-use Rattle.history.specs.Claim.{hasReply}
+use Rattle.history.specs.Replies.{hasReply}
 
 -- What it may tell in that state.
 abbrev pub ClientTells : State → Notice → Type 0

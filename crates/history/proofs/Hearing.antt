@@ -46,7 +46,7 @@ use Rattle.server.proofs.Hearing.{only-cancel-heard}
 use Rattle.history.specs.Lists.{In, andThen}
 use Rattle.history.specs.World.{Dispatched, Cancelled, Heard, SentPdu, World}
 use Rattle.history.specs.Steps.{lastStart, dispatchesAfter, heardAfter, Subject, cancelOf, ofArrival, heardEntry}
-use Rattle.history.specs.Claim.{timesHeard, AskedFor, RunOf}
+use Rattle.history.specs.Cancels.{timesHeard, AskedFor, RunOf}
 use Rattle.history.proofs.ListLaws.{in-grown, in-added}
 use Rattle.history.proofs.CancelLists.{heard-once, last-run, run-more, asked-more}
 use Rattle.history.proofs.Ordinals.{equal-start}

@@ -19,7 +19,7 @@ use Rattle.history.specs.World.{Started, World}
 use Rattle.history.specs.Events.{Lent, ClientEvent, ServerEvent, Event, Start, ClientTransmit, ClientArrive, ClientTimer, ClientCancel, ServerArrive, ServerTransmit, ServerTimer, Reply, Fault, OfClient, OfServer}
 use Rattle.history.specs.Steps.{isDone, bytesLent, ownAfter, happens, answerTo, step, run}
 use Rattle.history.specs.Fairness.{ClientPremise, ServerPremise, Premise, Fair}
-use Rattle.history.specs.Claim.{replyHandedUp}
+use Rattle.history.specs.Replies.{replyHandedUp}
 use Rattle.history.proofs.Invariant.{Inv, startStep}
 use Rattle.history.proofs.Refused.{refused-same}
 use Rattle.history.proofs.ClientEvents.{client-transmit-inv, client-timer-inv, client-cancel-inv}

@@ -29,7 +29,8 @@ use Rattle.history.specs.Lists.{In, OfLast}
 use Rattle.history.specs.World.{callNumber, Started, Dispatched, Replied, Completed, Cancelled, SentPdu, World}
 use Rattle.history.specs.Steps.{dispatchEntry, lastStart, lastDispatched, clientTurnOf, serverTurnOf, startedAfter, cancelledAfter, repliedAfter, Subject, ofRecord, clientWorld, serverWorld}
 use Rattle.history.specs.Fairness.{OfLastStart, OfLastReply, Typed}
-use Rattle.history.specs.Claim.{times, DispatchOf, WholeReply, hasReply}
+use Rattle.history.specs.Dispatches.{times, DispatchOf}
+use Rattle.history.specs.Replies.{WholeReply, hasReply}
 use Rattle.history.proofs.Holding.{Unheld, Holding, Empty, Single}
 use Rattle.history.proofs.Types.{IsRequest, IsAck, IsCancel, IsResponse}
 use Rattle.history.proofs.Network.{Request, Response, Known}

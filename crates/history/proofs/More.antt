@@ -8,7 +8,8 @@ use Rattle.pdu.specs.declared.Header.{Header}
 use Rattle.client_record.specs.declared.Client.{Client}
 use Rattle.server_record.specs.declared.Server.{Server}
 use Rattle.history.specs.World.{Started, Dispatched, Replied, Completed}
-use Rattle.history.specs.Claim.{DispatchOf, WholeReply}
+use Rattle.history.specs.Dispatches.{DispatchOf}
+use Rattle.history.specs.Replies.{WholeReply}
 use Rattle.history.proofs.ListLaws.{Within}
 use Rattle.history.proofs.Network.{Request, Response}
 use Rattle.history.proofs.Invariant.{CurrentStart, ClientHolds, nothing, fragments-of, ClientInv, CalledStart, Collecting, Open, NewTo, ServerInv, DispatchedStart}

@@ -35,7 +35,7 @@ use Rattle.history.specs.World.{Started, Cancelled, Side, Books, World}
 use Rattle.history.specs.Events.{Lent, Own, Other, ClientEvent, ServerEvent, Event, Start, ClientTransmit, ClientArrive, ClientTimer, ClientCancel, ServerArrive, ServerTransmit, ServerTimer, Reply, Fault, OfClient, OfServer}
 use Rattle.history.specs.Steps.{isDone, bytesLent, ownAfter, sentAfter, lastStart, dispatchesAfter, completionsAfter, lastDispatched, Turn, clientStepped, clientTurn, serverStepped, serverTurn, sideAfter, startsAfter, cancelsAfter, repliesAfter, subjectOf, completionEntry, dispatchEntry, heardAfter, heardEntry, happens, answerTo, noticeOf, leftIn, step}
 use Rattle.history.specs.Lists.{andThen}
-use Rattle.history.specs.Claim.{TimerOf, OnClient, OnServer, timerIn, timerEvent, ChangesNothing}
+use Rattle.history.specs.Timers.{TimerOf, OnClient, OnServer, timerIn, timerEvent, ChangesNothing}
 
 -- An answer that is not Done is not 0.
 not-zero : (a : Answer) → (a ≡ Done → ⊥) → isDone a ≡ false

@@ -37,7 +37,7 @@ use Rattle.server.specs.Machine.{outcomeOf, replying, sending, transmitting, ti
 use Rattle.server.proofs.Judging.{CanReply, reply-passes, transmit-passes, fault-passes, timer-passes}
 use Rattle.server.proofs.Accepting.{reply-accepted, transmit-accepted, fault-accepted, timer-accepted}
 use Rattle.history.specs.Lists.{In, andThen}
-use Rattle.history.specs.Claim.{DispatchOf}
+use Rattle.history.specs.Dispatches.{DispatchOf}
 use Rattle.history.specs.World.{Replied, World}
 use Rattle.history.specs.Steps.{lastDispatched, sentAfter, dispatchesAfter, ofRecord}
 use Rattle.history.specs.Fairness.{OfLastReply}

@@ -39,7 +39,7 @@ use Rattle.server_steps.specs.declared.Send.{Send}
 use Rattle.history.specs.Lists.{In, andThen}
 use Rattle.history.specs.World.{callNumber, Started, Dispatched, Replied, World}
 use Rattle.history.specs.Steps.{dispatchesAfter, Subject, dispatchEntry}
-use Rattle.history.specs.Claim.{times}
+use Rattle.history.specs.Dispatches.{times}
 use Rattle.history.proofs.ListLaws.{within-grown, added-last, in-added, all-grown, last-dispatched, times-same, times-other, times-none}
 use Rattle.history.proofs.Holding.{Buffer, Short, cleared-empty, PartOf, Holding, Single, empty-holding, put-holding, holding-whole}
 use Rattle.history.proofs.Network.{Request, Response, Known}

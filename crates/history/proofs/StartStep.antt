@@ -26,7 +26,7 @@ use Rattle.history.specs.Lists.{In, andThen}
 use Rattle.history.specs.World.{callNumber, Started, Dispatched, Replied, World}
 use Rattle.history.specs.Steps.{lastStart, sentAfter, completionsAfter}
 use Rattle.history.specs.Fairness.{FairStart}
-use Rattle.history.specs.Claim.{times}
+use Rattle.history.specs.Dispatches.{times}
 use Rattle.history.proofs.ListLaws.{within-grown, in-added, in-grown, all-grown, last-added, times-none}
 use Rattle.history.proofs.Holding.{cleared-empty}
 use Rattle.history.proofs.Network.{Request, more-known}

@@ -29,7 +29,12 @@ use Rattle.history.specs.Events.{Event}
 use Rattle.history.specs.Steps.{lastStart, run}
 use Rattle.history.specs.Fairness.{Fair}
 use Rattle.history.specs.Freshness.{Fresh}
-use Rattle.history.specs.Claim.{times, AtMostOnce, WholeMessages, replyHandedUp, RepliesToDispatches, LeadsReply, OneReply, WholeReplies, WholeWhereAnswered, OnlyGrows, TimerOf, OnClient, OnServer, timerIn, LateTimers, GoneTickets, namesWait, namesAck, namesResend, Quiet, CancelsCounted, WholeWhereRunning, clientCalls, serverCalled, Numbered, Claim}
+use Rattle.history.specs.Dispatches.{times, AtMostOnce, WholeMessages, WholeWhereRunning}
+use Rattle.history.specs.Replies.{replyHandedUp, RepliesToDispatches, LeadsReply, OneReply, WholeReplies, WholeWhereAnswered, OnlyGrows}
+use Rattle.history.specs.Timers.{TimerOf, OnClient, OnServer, timerIn, LateTimers, GoneTickets, namesWait, namesAck, namesResend, Quiet}
+use Rattle.history.specs.Numbers.{clientCalls, serverCalled, Numbered}
+use Rattle.history.specs.Cancels.{CancelsCounted}
+use Rattle.history.specs.Claim.{Claim}
 use Rattle.history.proofs.Holding.{unheld-joined, holding-leads}
 use Rattle.history.proofs.Network.{Known}
 use Rattle.history.proofs.Types.{IsAck}

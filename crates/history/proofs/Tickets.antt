@@ -19,7 +19,7 @@ use Rattle.server.proofs.TicketLaws.{ServerMoved, reply-moves, transmit-moves a
 use Rattle.history.specs.World.{Side, World}
 use Rattle.history.specs.Events.{ClientEvent, ServerEvent, Event, Start, ClientTransmit, ClientArrive, ClientTimer, ClientCancel, ServerArrive, ServerTransmit, ServerTimer, Reply, Fault, OfClient, OfServer}
 use Rattle.history.specs.Steps.{bytesLent, clientTurn, serverTurn, happens, answerTo, step, run}
-use Rattle.history.specs.Claim.{TimerOf, OnClient, OnServer, timerIn, timerEvent, ActsOnce, Renews, ArmedAfresh}
+use Rattle.history.specs.Timers.{TimerOf, OnClient, OnServer, timerIn, timerEvent, ActsOnce, Renews, ArmedAfresh}
 
 -- The ticket counter of a timer's side.
 abbrev pub counterOf : World → TimerOf → ℕ

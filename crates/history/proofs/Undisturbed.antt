@@ -45,7 +45,7 @@ use Rattle.server.proofs.Accepting.{transmit-accepted, timer-accepted}
 use Rattle.history.specs.World.{SentPdu, World}
 use Rattle.history.specs.Events.{Lent, ServerArrive, ServerTransmit, ServerTimer, Reply, Fault, OfClient, OfServer}
 use Rattle.history.specs.Steps.{bytesLent, happens, answerTo, noticeOf, step}
-use Rattle.history.specs.Claim.{runs, RaisesSeen, LeftAlone, RunsUndisturbed}
+use Rattle.history.specs.Dispatches.{runs, RaisesSeen, LeftAlone, RunsUndisturbed}
 use Rattle.history.proofs.Refused.{same-own, refused-same}
 use Rattle.history.proofs.ServerSends.{tellsDispatch, none-dispatched}
 

@@ -5,4 +5,9 @@ pub mod Events
 pub mod Steps
 pub mod Fairness
 pub mod Freshness
+pub mod Dispatches
+pub mod Replies
+pub mod Timers
+pub mod Numbers
+pub mod Cancels
 pub mod Claim

@@ -23,7 +23,8 @@ use Rattle.history.specs.Lists.{andThen}
 use Rattle.history.specs.World.{Dispatched, Completed, Side}
 use Rattle.history.specs.Events.{Event, OfClient, OfServer}
 use Rattle.history.specs.Steps.{dispatchesAfter, completionsAfter, Turn, Subject, completionEntry, dispatchEntry, serverTurn}
-use Rattle.history.specs.Claim.{runs, hasReply}
+use Rattle.history.specs.Dispatches.{runs}
+use Rattle.history.specs.Replies.{hasReply}
 use Rattle.host_history.specs.Results.{noticeIn}
 use Rattle.host_history.specs.Hosts.{HostWorld, worldOf, ClientCall, ServerCall, HostCall, ToClient, ToServer, clientExport, serverExport, exported, clientSeen, serverSeen, startsSeen, subjectSeen, hostStep}
 use Rattle.host_history.specs.Meaning.{meantToClient, meantToServer, ClientCallFits, ServerCallFits, HostFits, Keeps}

@@ -40,7 +40,10 @@ use Rattle.history.specs.Lists.{andThen}
 use Rattle.history.specs.World.{Heard, SentPdu, World}
 use Rattle.history.specs.Events.{Lent, Event, Start, ClientTransmit as TransmitOfClient, ClientArrive as ArriveOfClient, ClientTimer as TimerOfClient, ClientCancel as CancelOfClient, ServerArrive as ArriveOfServer, OfClient, OfServer}
 use Rattle.history.specs.Steps.{bytesLent, heardAfter, cancelOf, ofArrival, heardEntry, happens, answerTo, noticeOf, step, run}
-use Rattle.history.specs.Claim.{runs, OnClient, timerIn, namesCancel, clientCalls, Answered, StaysArmed, CancelsTaken as Taken, Asked, CancelsSent as Sent, CancelsCounted, HeardAskedFor, HeardOnce, OwnCancel as ComesOwn, Hears}
+use Rattle.history.specs.Dispatches.{runs}
+use Rattle.history.specs.Timers.{OnClient, timerIn, namesCancel}
+use Rattle.history.specs.Numbers.{clientCalls}
+use Rattle.history.specs.Cancels.{Answered, StaysArmed, CancelsTaken as Taken, Asked, CancelsSent as Sent, CancelsCounted, HeardAskedFor, HeardOnce, OwnCancel as ComesOwn, Hears}
 use Rattle.morphelai.specs.Result.{noticeKind}
 use Rattle.host_history.specs.Results.{noticeIn}
 use Rattle.host_history.specs.Hosts.{HostWorld, worldOf, ServerCall, HostCall, ClientStart, ClientTransmit, ClientArrive, ClientTimer, ClientCancel, ServerArrive, ServerTransmit, ServerTimer, ServerReply, ServerFault, ToClient, ToServer, exported, serverSeen, hostStep}

@@ -12,7 +12,11 @@ use Rattle.client_bytes.specs.Layout.{stateOf, clientOf, clientIn}
 use Rattle.history.specs.World.{World}
 use Rattle.history.specs.Events.{Event}
 use Rattle.history.specs.Steps.{run}
-use Rattle.history.specs.Claim.{AtMostOnce, WholeMessages, WholeWhereRunning, RunsUndisturbed, RepliesToDispatches, replyHandedUp, OneReply, WholeReplies, hasReply, WholeWhereAnswered, OnlyGrows, timerIn, LateTimers, GoneTickets, ActsOnce, ArmedAfresh, Quiet, StaysArmed, CancelsTaken as Taken, CancelsSent as Sent, CancelsCounted, HeardAskedFor, HeardOnce, Hears, Numbered}
+use Rattle.history.specs.Dispatches.{AtMostOnce, WholeMessages, WholeWhereRunning, RunsUndisturbed}
+use Rattle.history.specs.Replies.{RepliesToDispatches, replyHandedUp, OneReply, WholeReplies, hasReply, WholeWhereAnswered, OnlyGrows}
+use Rattle.history.specs.Timers.{timerIn, LateTimers, GoneTickets, ActsOnce, ArmedAfresh, Quiet}
+use Rattle.history.specs.Numbers.{Numbered}
+use Rattle.history.specs.Cancels.{StaysArmed, CancelsTaken as Taken, CancelsSent as Sent, CancelsCounted, HeardAskedFor, HeardOnce, Hears}
 use Rattle.host_history.specs.Hosts.{HostWorld, worldOf, HostCall, hostStep, hostRun}
 use Rattle.host_history.specs.Meaning.{meant, eventsOf, AllFit, FairHost, Keeps, FreshHost}
 use Rattle.host_history.specs.HostClaim.{HostClaim}

@@ -33,7 +33,7 @@ use Rattle.server.specs.Machine.{outcomeOf, replying, sending, transmitting, ti
 use Rattle.history.specs.World.{World}
 use Rattle.history.specs.Events.{ServerEvent, ServerArrive, ServerTransmit, ServerTimer, Reply, Fault}
 use Rattle.history.specs.Steps.{serverTurn, subjectOf}
-use Rattle.history.specs.Claim.{runs}
+use Rattle.history.specs.Dispatches.{runs}
 
 -- The server tells nothing, "cancel" or, with a record of that number and in RUNNING, "dispatch".
 pub record Dispatches (asked kept : ℕ) (state : State) : Type 0 where

@@ -21,7 +21,7 @@ use Rattle.history.specs.Lists.{In, andThen, OfLast}
 use Rattle.history.specs.World.{World}
 use Rattle.history.specs.Events.{Event}
 use Rattle.history.specs.Steps.{ofRecord, step, run}
-use Rattle.history.specs.Claim.{runs, WholeWhereRunning, endsRun as eventEnds, RaisesSeen, LeftAlone, RunsUndisturbed}
+use Rattle.history.specs.Dispatches.{runs, WholeWhereRunning, endsRun as eventEnds, RaisesSeen, LeftAlone, RunsUndisturbed}
 use Rattle.history.proofs.ListLaws.{in-added}
 use Rattle.morphelai.specs.Export.{Export}
 use Rattle.host_history.specs.Results.{noticeIn}

@@ -26,7 +26,7 @@ use Rattle.server_bytes.specs.Layout.{stateOf as serverState, readable as serve
 use Rattle.server_bytes.specs.Canonical.{Canonical as ServerCanonical}
 use Rattle.history.specs.World.{World}
 use Rattle.history.specs.Steps.{answerTo, step, run}
-use Rattle.history.specs.Claim.{TimerOf, OnClient, OnServer, timerIn, timerEvent, LateTimers, ActsOnce, namesWait, namesAck, namesCancel, namesResend, Quiet}
+use Rattle.history.specs.Timers.{TimerOf, OnClient, OnServer, timerIn, timerEvent, LateTimers, ActsOnce, namesWait, namesAck, namesCancel, namesResend, Quiet}
 use Rattle.host_history.specs.Results.{answerIn}
 use Rattle.host_history.specs.Hosts.{HostWorld, worldOf, HostCall, ClientTimer, ServerTimer, ToClient, ToServer, exported, hostStep}
 use Rattle.host_history.specs.Meaning.{meant, HostFits, Keeps, TellsOf, Tells}

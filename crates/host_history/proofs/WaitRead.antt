@@ -24,7 +24,7 @@ use Rattle.client_bytes.specs.Layout.{clientIn, clientOf}
 use Rattle.history.specs.World.{World}
 use Rattle.history.specs.Events.{ClientArrive as ArriveOf, OfClient}
 use Rattle.history.specs.Steps.{answerTo, step, run}
-use Rattle.history.specs.Claim.{OnClient, timerIn, Renews, ArmedAfresh}
+use Rattle.history.specs.Timers.{OnClient, timerIn, Renews, ArmedAfresh}
 use Rattle.host_history.specs.Hosts.{HostWorld, worldOf, ClientArrive, ToClient, hostStep}
 use Rattle.host_history.specs.Meaning.{meant, Keeps}
 use Rattle.host_history.specs.HostReads.{WaitTimer, typeByte}

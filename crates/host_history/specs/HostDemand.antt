@@ -17,7 +17,9 @@ use Rattle.history.specs.Lists.{In, andThen}
 use Rattle.history.specs.World.{callNumber, Started, Dispatched, Replied, Completed, Heard, SentPdu}
 use Rattle.history.specs.Events.{Lent}
 use Rattle.history.specs.Steps.{bytesLent, lastStart}
-use Rattle.history.specs.Claim.{times, DispatchOf, WholeMessage, WholeReply, timesCancelled, AskedFor, timesHeard}
+use Rattle.history.specs.Dispatches.{times, DispatchOf, WholeMessage}
+use Rattle.history.specs.Replies.{WholeReply}
+use Rattle.history.specs.Cancels.{timesCancelled, AskedFor, timesHeard}
 use Rattle.morphelai.specs.CodecDoor.{codecRead}
 use Rattle.host_history.specs.Results.{answerIn, noticeIn, sentIn}
 use Rattle.host_history.specs.Hosts.{HostWorld, HostCall, ClientArrive, ClientTimer, ClientCancel, ServerArrive, ServerTimer, ToClient, ToServer, exported, hostStep, hostRun}

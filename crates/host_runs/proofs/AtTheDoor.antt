@@ -21,7 +21,7 @@ use Rattle.history.specs.World.{Dispatched, Completed, Cancelled, Heard, SentPd
 use Rattle.history.specs.Events.{Event, Start, ClientTransmit, ClientArrive, ClientTimer, ClientCancel, ServerArrive, ServerTransmit, ServerTimer, Reply, Fault, OfClient, OfServer}
 use Rattle.history.specs.Steps.{step, run}
 use Rattle.history.specs.Fairness.{Fair}
-use Rattle.history.specs.Claim.{replyHandedUp}
+use Rattle.history.specs.Replies.{replyHandedUp}
 use Rattle.history.proofs.ListLaws.{All}
 use Rattle.host_history.specs.Arguments.{EventFits}
 use Rattle.host_history.specs.Hosts.{HostWorld, worldOf, HostCall, callGiven, exported, hostStep, hostRun}

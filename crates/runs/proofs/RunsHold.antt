@@ -13,7 +13,7 @@ use Rattle.server_record.specs.declared.Reply.the-variants.{Data, Fault as Faul
 use Rattle.server_record.specs.declared.State.the-variants.{Idle, Running, Held}
 use Rattle.history.specs.World.{World}
 use Rattle.history.specs.Freshness.{Fresh}
-use Rattle.history.specs.Claim.{replyHandedUp}
+use Rattle.history.specs.Replies.{replyHandedUp}
 use Rattle.history.proofs.Beginning.{client-record-fresh, server-record-fresh}
 use Rattle.runs.specs.Runs.{Story, Ran, Told, timersIn, activity, called, asking, before, lossy, lossyNotices, lossyClientPdus, lossyServerPdus, twice, twiceClientPdus, twiceServerPdus, twiceAndNext, twiceAndNextNotices, twiceAndNextClientPdus, twiceAndNextServerPdus, question, secondReply, nextReply, exampleMessage, exampleReply, zeros}
 use Rattle.runs.specs.Stops.{stopped, unanswered, stoppedNotices, unansweredNotices, stopClientPdus, stoppedServerPdus, unansweredServerPdus, stopCancels, toldOf}
