@@ -433,6 +433,11 @@ module _ (c : Client) (out : List ℕ) (done : cancelling c out .outcome .answer
         ack = refl;
       })
 
+  -- The stub is told nothing.
+  pub cancel-untold : cancelling c out .outcome .notice ≡ Untold
+  unfolding cancelling sending outcomeOf cancelPlan accepted
+  cancel-untold = subst (λ (g : Ground). cancelPlan g c .notice ≡ Untold) (sym (cancel-accepted c out done)) refl
+
 -- A cancel_ack, type 10, that is taken has the record's cancel number; CANCEL was armed and is off then, and nothing else of
 -- the record changes.
 module _ (c : Client) (datagram slots out : List ℕ) (done : arriving c datagram slots out .outcome .answer ≡ Done)
