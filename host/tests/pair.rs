@@ -169,6 +169,17 @@ impl Storm {
             self.to_client.extend(pdus);
         }
     }
+
+    /// One call, not idempotent: the notice that ends it, and how often it was dispatched.
+    fn call(&mut self, client: &mut Client, server: &mut Server, request: &[u8]) -> (Option<Notice>, u32) {
+        let before = self.dispatches;
+        assert_eq!(client.start(&call(false), request).refusal(), None);
+        let end = (0..10_000).find_map(|_| {
+            self.server_turn(server);
+            self.client_turn(client).filter(|notice| !matches!(notice, Notice::Count(_)))
+        });
+        (end, self.dispatches - before)
+    }
 }
 
 #[test]
@@ -179,17 +190,12 @@ fn over_a_bad_network_every_call_ends_and_is_executed_at_most_once() {
         let mut storm = Storm::new(seed, false);
         for size in [0, 1, 1393, 5000] {
             let request = Random::new(seed + size as u64).bytes(size);
-            let before = storm.dispatches;
-            assert_eq!(client.start(&call(false), &request).refusal(), None);
-            let end = (0..10_000).find_map(|_| {
-                storm.server_turn(&mut server);
-                storm.client_turn(&mut client).filter(|notice| !matches!(notice, Notice::Count(_)))
-            });
-            assert!(storm.dispatches <= before + 1, "seed {seed}: executed twice");
+            let (end, dispatches) = storm.call(&mut client, &mut server, &request);
+            assert!(dispatches <= 1, "seed {seed}: executed twice");
             match end {
                 Some(Notice::Last) => {
                     assert!(client.message() == request, "seed {seed}: another reply");
-                    assert_eq!(storm.dispatches, before + 1, "seed {seed}: a reply without an execution");
+                    assert_eq!(dispatches, 1, "seed {seed}: a reply without an execution");
                     good += 1;
                 }
                 Some(Notice::Cause(_)) => failed += 1,
@@ -209,13 +215,7 @@ fn over_a_bad_network_a_cancelled_call_ends_and_is_executed_at_most_once() {
         let mut storm = Storm::new(seed, true);
         for size in [0, 1, 1393, 5000] {
             let request = Random::new(seed + size as u64).bytes(size);
-            let before = storm.dispatches;
-            assert_eq!(client.start(&call(false), &request).refusal(), None);
-            let end = (0..10_000).find_map(|_| {
-                storm.server_turn(&mut server);
-                storm.client_turn(&mut client).filter(|notice| !matches!(notice, Notice::Count(_)))
-            });
-            let dispatches = storm.dispatches - before;
+            let (end, dispatches) = storm.call(&mut client, &mut server, &request);
             match end {
                 Some(Notice::Last) => {
                     assert!(client.message() == request, "seed {seed}: another reply");
