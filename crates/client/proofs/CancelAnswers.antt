@@ -33,27 +33,27 @@ use Rattle.grounds.specs.Entry.{same, lentGround, entryGround}
 use Rattle.grounds.specs.Fragment.{bodyLength}
 use Rattle.grounds.specs.Cancel.{cancelAckBodyGround}
 use Rattle.grounds.specs.Timing.{lateGround, ticketGround}
-use Rattle.client_record.specs.declared.State.{State}
-use Rattle.client_record.specs.declared.State.the-variants.{Queued, SendFrags, Dispatched, ReceiveFrags, AckPending, Complete, Fault}
-use Rattle.client_record.specs.declared.Client.{Client}
-use Rattle.client_record.specs.declared.TimerKind.the-variants.{Cancel}
-use Rattle.client_record.specs.States.{isQueued, isActive}
-use Rattle.client_record.specs.Rules.{sound}
-use Rattle.client_record.specs.Record.{unarmed, cancelDisarmed}
-use Rattle.client_record.specs.Arming.{namedTimer, namedBy, pings}
-use Rattle.client_table.specs.declared.Event.{Event}
-use Rattle.client_table.specs.declared.Event.the-variants.{CancelAck, Foreign}
-use Rattle.client_table.specs.Events.{serverEvent, eventOf, byEvent, sideGround, hasRow, arms}
-use Rattle.client_table.specs.Arrival.{numberGround, isCurrent, pduGround, rowGround, tableGround, arrivalGround}
-use Rattle.client_table.specs.Local.{timerGround, mayCancel, cancelGround}
-use Rattle.client_steps.specs.declared.Plan.{Plan}
-use Rattle.client_steps.specs.declared.Send.{Send}
-use Rattle.client_steps.specs.declared.Send.the-variants.{Nothing}
-use Rattle.client_steps.specs.Plan.{refused, accepted, failed}
-use Rattle.client_steps.specs.Rows.{cancelTimerPlan, timerRow, timerPlan}
-use Rattle.client_steps.proofs.PlanLaws.{timer-answers, cancel-answers}
-use Rattle.client_arrivals.specs.Rows.{cancelAckPlan}
-use Rattle.client_arrivals.specs.Table.{arrivalRow, arrivalPlan}
+use Rattle.client.specs.declared.records.State.{State}
+use Rattle.client.specs.declared.records.State.the-variants.{Queued, SendFrags, Dispatched, ReceiveFrags, AckPending, Complete, Fault}
+use Rattle.client.specs.declared.records.Client.{Client}
+use Rattle.client.specs.declared.records.TimerKind.the-variants.{Cancel}
+use Rattle.client.specs.records.States.{isQueued, isActive}
+use Rattle.client.specs.records.Rules.{sound}
+use Rattle.client.specs.records.Record.{unarmed, cancelDisarmed}
+use Rattle.client.specs.records.Arming.{namedTimer, namedBy, pings}
+use Rattle.client.specs.declared.judge.Event.{Event}
+use Rattle.client.specs.declared.judge.Event.the-variants.{CancelAck, Foreign}
+use Rattle.client.specs.judge.Events.{serverEvent, eventOf, byEvent, sideGround, hasRow, arms}
+use Rattle.client.specs.judge.Arrival.{numberGround, isCurrent, pduGround, rowGround, tableGround, arrivalGround}
+use Rattle.client.specs.judge.Local.{timerGround, mayCancel, cancelGround}
+use Rattle.client.specs.declared.step.Plan.{Plan}
+use Rattle.client.specs.declared.step.Send.{Send}
+use Rattle.client.specs.declared.step.Send.the-variants.{Nothing}
+use Rattle.client.specs.step.Plan.{refused, accepted, failed}
+use Rattle.client.specs.step.Rows.{cancelTimerPlan, timerRow, timerPlan}
+use Rattle.client.proofs.PlanLaws.{timer-answers, cancel-answers}
+use Rattle.client.specs.arrivals.Rows.{cancelAckPlan}
+use Rattle.client.specs.arrivals.Table.{arrivalRow, arrivalPlan}
 use Rattle.client.specs.Sending.{sentOut}
 use Rattle.client.specs.Machine.{outcomeOf, sending, planOf, acted, timing, cancelling, arriving}
 use Rattle.client.proofs.Accepting.{timer-accepted, arrive-row}

@@ -37,28 +37,28 @@ use Rattle.timers.specs.Tickets.{usedUp, armedAfresh, armedIfOff, ticketsIfOff,
 use Rattle.timers.proofs.TimerLaws.{next-is, off-has-none}
 use Rattle.grounds.specs.Entry.{lentGround}
 use Rattle.grounds.specs.Fragment.{isLast, bodyLength}
-use Rattle.client_record.specs.declared.State.{State}
-use Rattle.client_record.specs.declared.State.the-variants.{Queued, SendFrags, Dispatched, ReceiveFrags, AckPending, Complete, Fault as FaultState}
-use Rattle.client_record.specs.declared.Client.{Client}
-use Rattle.client_record.specs.States.{mayStart, isActive}
-use Rattle.client_record.specs.Rules.{sound}
-use Rattle.client_record.specs.Record.{waiting, sending as sendsAgain, ackPending, unarmed, cancelArmed, cancelDisarmed, withOutgoing, withIncoming, withWaits, withResends, withCancels}
-use Rattle.client_record.proofs.RuleLaws.{cancel-off}
-use Rattle.client_record.specs.declared.TimerKind.{TimerKind}
-use Rattle.client_record.specs.declared.TimerKind.the-variants.{Wait, Ack, Cancel}
-use Rattle.client_table.specs.declared.Event.{Event}
-use Rattle.client_table.specs.declared.Event.the-variants.{Response, Fault, Reject, Working, Nocall, Fack, CancelAck, Foreign}
-use Rattle.client_table.specs.Events.{serverEvent, eventOf}
-use Rattle.client_table.specs.Arrival.{arrivalGround}
-use Rattle.client_table.specs.Local.{startGround, transmitGround, timerGround, cancelGround}
-use Rattle.client_table.proofs.EventLaws.{cancel-ack-kind}
-use Rattle.client_steps.specs.declared.Plan.{Plan}
-use Rattle.client_steps.specs.declared.Send.the-variants.{Nothing, Ping}
-use Rattle.client_steps.specs.Plan.{refused, accepted, failed}
-use Rattle.client_steps.specs.Rows.{started, startPlan, transmitted, transmitPlan, pinged, waitPlan, ackPlan, cancelTimerPlan, timerRow, timerPlan, cancelled, cancelPlan}
-use Rattle.client_steps.proofs.StepLaws.{next-cancel}
-use Rattle.client_arrivals.specs.Rows.{acknowledged, fackPlan, putRecord, putPlan, responsePlan, workingPlan, resent, nocallPlan, cancelAckPlan, received}
-use Rattle.client_arrivals.specs.Table.{arrivalRow, arrivalPlan}
+use Rattle.client.specs.declared.records.State.{State}
+use Rattle.client.specs.declared.records.State.the-variants.{Queued, SendFrags, Dispatched, ReceiveFrags, AckPending, Complete, Fault as FaultState}
+use Rattle.client.specs.declared.records.Client.{Client}
+use Rattle.client.specs.records.States.{mayStart, isActive}
+use Rattle.client.specs.records.Rules.{sound}
+use Rattle.client.specs.records.Record.{waiting, sending as sendsAgain, ackPending, unarmed, cancelArmed, cancelDisarmed, withOutgoing, withIncoming, withWaits, withResends, withCancels}
+use Rattle.client.proofs.RuleLaws.{cancel-off}
+use Rattle.client.specs.declared.records.TimerKind.{TimerKind}
+use Rattle.client.specs.declared.records.TimerKind.the-variants.{Wait, Ack, Cancel}
+use Rattle.client.specs.declared.judge.Event.{Event}
+use Rattle.client.specs.declared.judge.Event.the-variants.{Response, Fault, Reject, Working, Nocall, Fack, CancelAck, Foreign}
+use Rattle.client.specs.judge.Events.{serverEvent, eventOf}
+use Rattle.client.specs.judge.Arrival.{arrivalGround}
+use Rattle.client.specs.judge.Local.{startGround, transmitGround, timerGround, cancelGround}
+use Rattle.client.proofs.EventLaws.{cancel-ack-kind}
+use Rattle.client.specs.declared.step.Plan.{Plan}
+use Rattle.client.specs.declared.step.Send.the-variants.{Nothing, Ping}
+use Rattle.client.specs.step.Plan.{refused, accepted, failed}
+use Rattle.client.specs.step.Rows.{started, startPlan, transmitted, transmitPlan, pinged, waitPlan, ackPlan, cancelTimerPlan, timerRow, timerPlan, cancelled, cancelPlan}
+use Rattle.client.proofs.StepLaws.{next-cancel}
+use Rattle.client.specs.arrivals.Rows.{acknowledged, fackPlan, putRecord, putPlan, responsePlan, workingPlan, resent, nocallPlan, cancelAckPlan, received}
+use Rattle.client.specs.arrivals.Table.{arrivalRow, arrivalPlan}
 use Rattle.client.specs.Sending.{pduHeader, sentOut}
 use Rattle.client.specs.Machine.{outcomeOf, sending, planOf, acted, starting, transmitting, timing, cancelling, arriving}
 use Rattle.client.proofs.Judging.{start-passes, cancel-passes, arrival-passes, acknowledgement-passes}

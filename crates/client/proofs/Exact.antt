@@ -33,22 +33,22 @@ use Rattle.grounds.specs.Entry.{lentGround}
 use Rattle.grounds.specs.Fragment.{isLast, bodyLength}
 use Rattle.grounds.specs.Fack.{acknowledgedBy}
 use Rattle.grounds.proofs.GroundLaws.{lent-passes, body-length, fack-passes}
-use Rattle.client_record.specs.declared.Client.{Client}
-use Rattle.client_record.specs.States.{isQueued}
-use Rattle.client_record.specs.Rules.{sound}
-use Rattle.client_record.specs.Record.{withOutgoing, withIncoming, withWaits, withCancels}
-use Rattle.client_record.proofs.StateLaws.{active-state}
-use Rattle.client_record.proofs.RecordLaws.{untimed-told}
-use Rattle.client_record.proofs.RuleLaws.{rules-told}
-use Rattle.client_table.specs.declared.Event.{Event}
-use Rattle.client_table.specs.declared.Event.the-variants.{Response, Fack}
-use Rattle.client_table.specs.Events.{serverEvent, eventOf, byEvent, hasRow}
-use Rattle.client_steps.specs.declared.Plan.{Plan}
-use Rattle.client_steps.specs.Plan.{accepted}
-use Rattle.client_steps.specs.Rows.{started, startPlan, transmitPlan, cancelled, cancelPlan}
-use Rattle.client_steps.proofs.StepLaws.{next-number, next-cancel, transmitted-one-more}
-use Rattle.client_arrivals.specs.Rows.{acknowledged, fackPlan, putPlan, responsePlan}
-use Rattle.client_arrivals.specs.Table.{arrivalRow}
+use Rattle.client.specs.declared.records.Client.{Client}
+use Rattle.client.specs.records.States.{isQueued}
+use Rattle.client.specs.records.Rules.{sound}
+use Rattle.client.specs.records.Record.{withOutgoing, withIncoming, withWaits, withCancels}
+use Rattle.client.proofs.StateLaws.{active-state}
+use Rattle.client.proofs.RecordLaws.{untimed-told}
+use Rattle.client.proofs.RuleLaws.{rules-told}
+use Rattle.client.specs.declared.judge.Event.{Event}
+use Rattle.client.specs.declared.judge.Event.the-variants.{Response, Fack}
+use Rattle.client.specs.judge.Events.{serverEvent, eventOf, byEvent, hasRow}
+use Rattle.client.specs.declared.step.Plan.{Plan}
+use Rattle.client.specs.step.Plan.{accepted}
+use Rattle.client.specs.step.Rows.{started, startPlan, transmitPlan, cancelled, cancelPlan}
+use Rattle.client.proofs.StepLaws.{next-number, next-cancel, transmitted-one-more}
+use Rattle.client.specs.arrivals.Rows.{acknowledged, fackPlan, putPlan, responsePlan}
+use Rattle.client.specs.arrivals.Table.{arrivalRow}
 use Rattle.client.specs.Machine.{outcomeOf, sending, acted, starting, transmitting, cancelling, arriving}
 use Rattle.client.proofs.Judging.{CanArrive, response-can, start-passes, transmit-passes, cancel-passes, arrival-passes}
 use Rattle.client.proofs.Accepting.{start-accepted, transmit-accepted, cancel-accepted, arrive-accepted, arrive-row}

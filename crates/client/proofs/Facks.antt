@@ -32,19 +32,19 @@ use Rattle.writer.proofs.RoundTrip.{Fits}
 use Rattle.grounds.specs.Entry.{lentGround}
 use Rattle.grounds.specs.Fragment.{isLast, wantsFack, bodyLength}
 use Rattle.grounds.proofs.GroundLaws.{fack-asked, fack-unasked}
-use Rattle.client_record.specs.declared.Client.{Client}
-use Rattle.client_record.specs.Record.{waiting, ackPending, unarmed, withIncoming, withWaits}
-use Rattle.client_record.proofs.RuleLaws.{rules-told}
-use Rattle.client_table.specs.declared.Event.{Event}
-use Rattle.client_table.specs.declared.Event.the-variants.{Response, Fault, Reject, Working, Nocall, Fack, CancelAck, Foreign}
-use Rattle.client_table.specs.Events.{serverEvent, eventOf}
-use Rattle.client_table.proofs.EventLaws.{response-kind}
-use Rattle.client_steps.specs.declared.Plan.{Plan}
-use Rattle.client_steps.specs.declared.Send.{Send}
-use Rattle.client_steps.specs.declared.Send.the-variants.{Nothing, Fack as SendFack}
-use Rattle.client_steps.specs.Plan.{accepted, failed, refused}
-use Rattle.client_arrivals.specs.Rows.{putRecord, received, fackFor, putPlan, responsePlan, workingPlan, resent, nocallPlan, fackPlan, cancelAckPlan}
-use Rattle.client_arrivals.specs.Table.{arrivalRow}
+use Rattle.client.specs.declared.records.Client.{Client}
+use Rattle.client.specs.records.Record.{waiting, ackPending, unarmed, withIncoming, withWaits}
+use Rattle.client.proofs.RuleLaws.{rules-told}
+use Rattle.client.specs.declared.judge.Event.{Event}
+use Rattle.client.specs.declared.judge.Event.the-variants.{Response, Fault, Reject, Working, Nocall, Fack, CancelAck, Foreign}
+use Rattle.client.specs.judge.Events.{serverEvent, eventOf}
+use Rattle.client.proofs.EventLaws.{response-kind}
+use Rattle.client.specs.declared.step.Plan.{Plan}
+use Rattle.client.specs.declared.step.Send.{Send}
+use Rattle.client.specs.declared.step.Send.the-variants.{Nothing, Fack as SendFack}
+use Rattle.client.specs.step.Plan.{accepted, failed, refused}
+use Rattle.client.specs.arrivals.Rows.{putRecord, received, fackFor, putPlan, responsePlan, workingPlan, resent, nocallPlan, fackPlan, cancelAckPlan}
+use Rattle.client.specs.arrivals.Table.{arrivalRow}
 use Rattle.client.specs.Sending.{pduHeader, sentOut}
 use Rattle.client.specs.Machine.{outcomeOf, sending, planOf, acted, arriving}
 use Rattle.client.proofs.Accepting.{arrive-row, arrive-room}

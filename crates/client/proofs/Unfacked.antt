@@ -24,14 +24,14 @@ use Rattle.outgoing.proofs.OutgoingLaws.{fragment-most}
 use Rattle.facks.specs.Telling.{Unfacked}
 use Rattle.facks.proofs.TellingLaws.{sent-other}
 use Rattle.writer.proofs.Returns.{Sized}
-use Rattle.client_record.specs.declared.Client.{Client}
-use Rattle.client_record.specs.declared.TimerKind.{TimerKind}
-use Rattle.client_record.specs.declared.TimerKind.the-variants.{Wait, Ack, Cancel}
-use Rattle.client_table.specs.Local.{transmitGround, timerGround, cancelGround}
-use Rattle.client_steps.specs.declared.Send.{Send}
-use Rattle.client_steps.specs.declared.Send.the-variants.{Nothing, Request, Ping, Ack as SendAck, Fack as SendFack, Cancel as SendCancel}
-use Rattle.client_steps.specs.Plan.{accepted, failed, refused}
-use Rattle.client_steps.specs.Rows.{transmitPlan, pinged, waitPlan, ackPlan, cancelTimerPlan, timerRow, timerPlan, cancelPlan}
+use Rattle.client.specs.declared.records.Client.{Client}
+use Rattle.client.specs.declared.records.TimerKind.{TimerKind}
+use Rattle.client.specs.declared.records.TimerKind.the-variants.{Wait, Ack, Cancel}
+use Rattle.client.specs.judge.Local.{transmitGround, timerGround, cancelGround}
+use Rattle.client.specs.declared.step.Send.{Send}
+use Rattle.client.specs.declared.step.Send.the-variants.{Nothing, Request, Ping, Ack as SendAck, Fack as SendFack, Cancel as SendCancel}
+use Rattle.client.specs.step.Plan.{accepted, failed, refused}
+use Rattle.client.specs.step.Rows.{transmitPlan, pinged, waitPlan, ackPlan, cancelTimerPlan, timerRow, timerPlan, cancelPlan}
 use Rattle.client.specs.Sending.{pduHeader, requestSent, sentOut}
 use Rattle.client.specs.Machine.{outcomeOf, starting, sending, transmitting, timing, cancelling}
 use Rattle.client.proofs.Judging.{transmit-passes, timer-passes, cancel-passes}

@@ -1,14 +1,25 @@
 // The client call machine: a console's side of an activity. Each event takes the record by value and
 // the lent memory, judges, steps and only then acts.
+mod arrivals;
+mod judge;
+mod records;
+mod step;
+
+pub use records::Client;
+pub use records::State;
+pub use records::TimerKind;
+pub use records::fresh;
+pub use records::is_queued;
+pub use records::is_sending;
+pub use records::is_sound;
+
 use answers::Answer;
 use answers::Ground;
 use calls::Call;
 use calls::Notice;
 use calls::Sent;
-use client_record::Client;
-use client_record::TimerKind;
-use client_steps::Plan;
-use client_steps::Send;
+use step::Plan;
+use step::Send;
 use pdu::Header;
 use reader::Reading;
 ghost use mathlib.Core.Path.{_≡_};
@@ -116,16 +127,16 @@ fn outcome_of(plan: Plan, sent: Sent) -> Outcome
 pub fn start(c: Client, call: Call, length: u32) -> Outcome
     ensures { λ r. ⌜ r ≡ starting c call length ⌝ }
 {
-    let ground = client_table::start(c, length);
-    outcome_of(client_steps::start(ground, c, call, length), Sent::Nothing)
+    let ground = judge::start(c, length);
+    outcome_of(step::start(ground, c, call, length), Sent::Nothing)
 }
 
 // Transmit: the next fragment of the lent message.
 pub fn transmit(c: Client, message: &[u8], out: &mut [u8]) -> Outcome
     ensures { λ r. ⌜ Stepped (transmitting c (now (message .entry)) (now (out .entry))) r (now (out .exit)) ⌝ }
 {
-    let ground = client_table::transmit(c, message.len(), out.len());
-    let plan = client_steps::transmit(ground, c);
+    let ground = judge::transmit(c, message.len(), out.len());
+    let plan = step::transmit(ground, c);
     let client = plan.client;
     let send = plan.send;
     let o = c.outgoing;
@@ -137,8 +148,8 @@ pub fn transmit(c: Client, message: &[u8], out: &mut [u8]) -> Outcome
 pub fn timer(c: Client, kind: TimerKind, ticket: u64, out: &mut [u8]) -> Outcome
     ensures { λ r. ⌜ Stepped (timing c kind ticket (now (out .entry))) r (now (out .exit)) ⌝ }
 {
-    let ground = client_table::timer(c, kind, ticket, out.len());
-    let plan = client_steps::timer(ground, kind, c);
+    let ground = judge::timer(c, kind, ticket, out.len());
+    let plan = step::timer(ground, kind, c);
     let client = plan.client;
     let send = plan.send;
     let none: [u8; 0] = [];
@@ -149,8 +160,8 @@ pub fn timer(c: Client, kind: TimerKind, ticket: u64, out: &mut [u8]) -> Outcome
 pub fn cancel(c: Client, out: &mut [u8]) -> Outcome
     ensures { λ r. ⌜ Stepped (cancelling c (now (out .entry))) r (now (out .exit)) ⌝ }
 {
-    let ground = client_table::cancel(c, out.len());
-    let plan = client_steps::cancel(ground, c);
+    let ground = judge::cancel(c, out.len());
+    let plan = step::cancel(ground, c);
     let client = plan.client;
     let send = plan.send;
     let none: [u8; 0] = [];
@@ -162,10 +173,10 @@ fn plan_arrival(c: Client, lent: Ground, reading: Reading, body: &[u8]) -> Plan
     ensures { λ r. ⌜ r ≡ planOf c lent reading (now (body .entry)) ⌝ }
 {
     let h = reading.header;
-    let ground = client_table::arrival(c, lent, reading, body);
+    let ground = judge::arrival(c, lent, reading, body);
     let status = bodies::read_status(body, reading.little);
     let length = grounds::body_length(body.len());
-    client_arrivals::arrive(ground, c, h, length, status.status)
+    arrivals::arrive(ground, c, h, length, status.status)
 }
 
 // Acts on the plan of an arriving PDU.
@@ -197,6 +208,6 @@ pub fn hand_up(c: Client, f: u16, slots: &[u8]) -> &[u8]
     ensures { λ r. ⌜ now r ≡ handedUpOf c f (now (slots .entry)) ⌝ }
 {
     let m = c.incoming;
-    let sound = client_record::is_sound(c);
+    let sound = records::is_sound(c);
     fragments::hand_up_where(sound, m, f, slots)
 }

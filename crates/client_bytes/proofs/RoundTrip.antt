@@ -18,8 +18,8 @@ use Rattle.record_bytes.proofs.FieldsBack.{fields-back, bytes-readable, length-
 use Rattle.record_bytes.proofs.FieldsBack.{slots-clear, timer-clear, cancel-clear}
 use Rattle.record_bytes.proofs.Reading.{clear-part, armed-again, ticket-again, timer-fits, count-again, count-broken}
 use Rattle.record_bytes.proofs.FieldsAgain.{known as shared-known, bytes-fit, fields-again}
-use Rattle.client_record.specs.declared.Client.{Client}
-use Rattle.client_record.specs.Rules.{countsSound, sound}
+use Rattle.client.specs.declared.records.Client.{Client}
+use Rattle.client.specs.records.Rules.{countsSound, sound}
 use Rattle.client_bytes.specs.Canonical.{Canonical}
 use Rattle.client_bytes.specs.Fits.{FitsClient}
 use Rattle.client_bytes.specs.Layout.{readable, clientOf, clientIn, fieldsOf, clientBytes}

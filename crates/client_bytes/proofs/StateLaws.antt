@@ -3,9 +3,9 @@ use Prim.Native.Nat.{ℕ, zero, suc, _≤_}
 use mathlib.Core.Path.{_≡_, refl}
 use native.Mathlib.Omega.{arith}
 use Rattle.words.specs.Choice.{choose}
-use Rattle.client_record.specs.declared.State.{State}
-use Rattle.client_record.specs.declared.State.the-variants.{Queued, SendFrags, Dispatched, ReceiveFrags, AckPending}
-use Rattle.client_record.specs.declared.State.the-variants.{Complete, Fault}
+use Rattle.client.specs.declared.records.State.{State}
+use Rattle.client.specs.declared.records.State.the-variants.{Queued, SendFrags, Dispatched, ReceiveFrags, AckPending}
+use Rattle.client.specs.declared.records.State.the-variants.{Complete, Fault}
 use Rattle.client_bytes.specs.Layout.{stateOf, stateNumber}
 
 pub state-back : (s : State) → stateOf (stateNumber s) ≡ s

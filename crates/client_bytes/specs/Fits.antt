@@ -1,6 +1,6 @@
 -- What fits the widths in which the client's record is kept as bytes.
 use Prim.Native.Nat.{_<_}
-use Rattle.client_record.specs.declared.Client.{Client}
+use Rattle.client.specs.declared.records.Client.{Client}
 use Rattle.record_bytes.specs.Fits.{Uuid, FitsCall, FitsOutgoing, FitsIncoming, FitsTimer}
 
 pub record FitsClient (c : Client) : Type 0 where

@@ -8,9 +8,9 @@ use Rattle.words.specs.Choice.{choose, both}
 use Rattle.record_bytes.specs.declared.Fields.{Fields}
 use Rattle.record_bytes.specs.Parts.{timerWhere, isArmed, timerTicket, clear, countWhere}
 use Rattle.record_bytes.specs.Layout.{readable as sharedReadable, fieldsIn, fieldBytes}
-use Rattle.client_record.specs.declared.State.{State}
-use Rattle.client_record.specs.declared.State.the-variants.{Queued, SendFrags, Dispatched, ReceiveFrags, AckPending, Complete, Fault}
-use Rattle.client_record.specs.declared.Client.{Client}
+use Rattle.client.specs.declared.records.State.{State}
+use Rattle.client.specs.declared.records.State.the-variants.{Queued, SendFrags, Dispatched, ReceiveFrags, AckPending, Complete, Fault}
+use Rattle.client.specs.declared.records.Client.{Client}
 
 -- The state that a number stands for, and the number of a state. A number above 6 is no state's: what is judged
 -- before 2 takes it for one without a row.

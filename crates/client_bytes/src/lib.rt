@@ -1,6 +1,6 @@
 // The client's record in 272 bytes, and back.
-use client_record::Client;
-use client_record::State;
+use client::Client;
+use client::State;
 use record_bytes::Fields;
 ghost use mathlib.Core.Path.{_≡_};
 ghost use Rattle.words.specs.Place.{placed};

@@ -7,8 +7,8 @@ use crate::transcript;
 use calls::Call;
 use calls::Notice;
 use client::Outcome;
-use client_record::Client;
-use client_record::TimerKind;
+use client::Client;
+use client::TimerKind;
 use words::MESSAGE_SIZE;
 use words::WINDOW_SIZE;
 
@@ -101,7 +101,7 @@ impl Console {
     // A fresh client of the activity.
     pub(crate) fn fresh() -> Console {
         Console {
-            client: client_record::fresh(ACTIVITY, 0),
+            client: client::fresh(ACTIVITY, 0),
             wait: clock::STOPPED,
             ack: clock::STOPPED,
             wire: network::QUIET,

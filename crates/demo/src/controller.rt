@@ -7,7 +7,7 @@ use crate::network::Wire;
 use crate::transcript;
 use calls::Notice;
 use server::Outcome;
-use server_record::Server;
+use server::Server;
 use words::MESSAGE_SIZE;
 use words::WINDOW_SIZE;
 
@@ -85,7 +85,7 @@ impl Controller {
     // A fresh server of the console's activity, with its boot value.
     pub(crate) fn fresh() -> Controller {
         Controller {
-            server: server_record::fresh(console::ACTIVITY, BOOT, 0),
+            server: server::fresh(console::ACTIVITY, BOOT, 0),
             resend: clock::STOPPED,
             wire: network::QUIET,
             dispatched: 0,

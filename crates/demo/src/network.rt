@@ -3,7 +3,7 @@
 // dispatched.
 use crate::console::ClientEvent;
 use calls::Sent;
-use server_record::State as ServerState;
+use server::State as ServerState;
 ghost use mathlib.Core.Path.{_≡_};
 ghost use Prim.Native.Nat.{_-_, _≤_};
 
@@ -92,8 +92,8 @@ pub(crate) fn after_client(
 pub(crate) fn comes_again(straggler: Straggler, server: ServerState, resends: u8) -> bool {
     let came = straggler.came;
     match came {
-        0 => server_record::is_running(server),
-        1 => words::both(server_record::is_held(server), resends > 0),
+        0 => server::is_running(server),
+        1 => words::both(server::is_held(server), resends > 0),
         2 => is_idle(server),
         _ => false,
     }

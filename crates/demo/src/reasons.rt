@@ -4,8 +4,8 @@ use crate::controller::ServerEvent;
 use crate::transcript::print;
 use answers::Answer;
 use calls::Notice;
-use client_record::State as ClientState;
-use server_record::State as ServerState;
+use client::State as ClientState;
+use server::State as ServerState;
 
 // A PDU that the client took, by its type.
 fn print_client_took(kind: u8, notice: Notice, state: ClientState) {

@@ -7,8 +7,8 @@ use crate::controller::Controller;
 use crate::controller::ServerEvent;
 use crate::network;
 use crate::network::Straggler;
-use client_record::State as ClientState;
-use server_record::State as ServerState;
+use client::State as ClientState;
+use server::State as ServerState;
 
 // An event at one of the two sides, the request that comes again, or nothing any more.
 pub(crate) enum Next {
@@ -34,17 +34,17 @@ fn timer(ack: Alarm, wait: Alarm, resend: Alarm) -> Next {
 
 // What the state of a side asks for, or the timer that runs out.
 fn work(client: ClientState, server: ServerState, ack: Alarm, wait: Alarm, resend: Alarm) -> Next {
-    if client_record::is_queued(client) {
+    if client::is_queued(client) {
         return Next::Client(ClientEvent::Start);
     }
-    if client_record::is_sending(client) {
+    if client::is_sending(client) {
         return Next::Client(ClientEvent::Transmit);
     }
     // The call was executed at the notice; here it is only answered.
-    if server_record::is_running(server) {
+    if server::is_running(server) {
         return Next::Server(ServerEvent::Reply);
     }
-    if server_record::is_replying(server) {
+    if server::is_replying(server) {
         return Next::Server(ServerEvent::Transmit);
     }
     timer(ack, wait, resend)

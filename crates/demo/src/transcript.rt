@@ -5,10 +5,10 @@ use crate::reasons;
 use answers::Answer;
 use calls::Notice;
 use calls::Sent;
-use client_record::State as ClientState;
+use client::State as ClientState;
 use libc::STDOUT_FILENO;
-use server_record::Idle;
-use server_record::State as ServerState;
+use server::Idle;
+use server::State as ServerState;
 use timers::Timer;
 
 pub(crate) fn print(text: &[u8]) {

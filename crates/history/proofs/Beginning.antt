@@ -17,18 +17,18 @@ use Rattle.timers.specs.declared.Timer.{Timer}
 use Rattle.timers.specs.declared.Timer.the-variants.{Off}
 use Rattle.timers.specs.Tickets.{timerSound}
 use Rattle.timers.proofs.TimerLaws.{off-sound}
-use Rattle.client_record.specs.declared.State.{State as ClientState}
-use Rattle.client_record.specs.declared.Client.{Client}
-use Rattle.client_record.specs.Record.{fresh as clientRecord}
-use Rattle.client_record.specs.States.{isQueued, isActive, isWaiting, isAckPending}
-use Rattle.client_record.specs.Rules.{outgoingSound as clientOutgoing, messageRule as clientRule}
-use Rattle.client_record.proofs.RuleLaws.{rules-hold as client-rules, counts-hold, timers-hold}
-use Rattle.server_record.specs.declared.State.{State as ServerState}
-use Rattle.server_record.specs.declared.Server.{Server}
-use Rattle.server_record.specs.Record.{fresh as serverRecord}
-use Rattle.server_record.specs.States.{neverCalled, isFresh, isRunning, isHeld}
-use Rattle.server_record.specs.Rules.{outgoingSound as serverOutgoing, idleRule, messageRule as serverRule}
-use Rattle.server_record.proofs.RuleLaws.{rules-hold as server-rules}
+use Rattle.client.specs.declared.records.State.{State as ClientState}
+use Rattle.client.specs.declared.records.Client.{Client}
+use Rattle.client.specs.records.Record.{fresh as clientRecord}
+use Rattle.client.specs.records.States.{isQueued, isActive, isWaiting, isAckPending}
+use Rattle.client.specs.records.Rules.{outgoingSound as clientOutgoing, messageRule as clientRule}
+use Rattle.client.proofs.RuleLaws.{rules-hold as client-rules, counts-hold, timers-hold}
+use Rattle.server.specs.declared.records.State.{State as ServerState}
+use Rattle.server.specs.declared.records.Server.{Server}
+use Rattle.server.specs.records.Record.{fresh as serverRecord}
+use Rattle.server.specs.records.States.{neverCalled, isFresh, isRunning, isHeld}
+use Rattle.server.specs.records.Rules.{outgoingSound as serverOutgoing, idleRule, messageRule as serverRule}
+use Rattle.server.proofs.RuleLaws.{rules-hold as server-rules}
 use Rattle.history.specs.Lists.{In}
 use Rattle.history.specs.World.{Started, Dispatched, Replied, World}
 use Rattle.history.specs.Replies.{hasReply}

@@ -21,19 +21,19 @@ use Rattle.pdu.specs.Header.{bodyOf}
 use Rattle.reader.specs.Reading.{reading}
 use Rattle.client.specs.Machine.{starting, cancelling}
 use Rattle.client.proofs.Cancels.{start-uncancelled, transmit-cancels, timer-cancels, arrive-cancels}
-use Rattle.server_record.specs.declared.Idle.the-variants.{Spent}
-use Rattle.server_record.specs.declared.Reply.{Reply}
-use Rattle.server_record.specs.declared.Reply.the-variants.{Data, Fault as HeldFault}
-use Rattle.server_record.specs.declared.State.{State}
-use Rattle.server_record.specs.declared.State.the-variants.{Idle as IdleState, Running}
-use Rattle.server_record.specs.declared.Server.{Server}
-use Rattle.server_record.specs.Record.{holding, unarmed, withOutgoing, withResends}
-use Rattle.server_record.specs.States.{neverCalled, isFresh, isIdle, isRunning}
-use Rattle.server_record.specs.Arming.{runsAgain}
-use Rattle.server_record.proofs.StateLaws.{replying-state, held-state}
-use Rattle.server_steps.specs.declared.Send.the-variants.{Nothing}
-use Rattle.server_steps.specs.Plan.{accepted}
-use Rattle.server_steps.specs.Rows.{answered, replyPlan, settled, transmitted, transmitPlan, faultPlan, rewinding, resendHeld, resendRow, timerRow, timerPlan}
+use Rattle.server.specs.declared.records.Idle.the-variants.{Spent}
+use Rattle.server.specs.declared.records.Reply.{Reply}
+use Rattle.server.specs.declared.records.Reply.the-variants.{Data, Fault as HeldFault}
+use Rattle.server.specs.declared.records.State.{State}
+use Rattle.server.specs.declared.records.State.the-variants.{Idle as IdleState, Running}
+use Rattle.server.specs.declared.records.Server.{Server}
+use Rattle.server.specs.records.Record.{holding, unarmed, withOutgoing, withResends}
+use Rattle.server.specs.records.States.{neverCalled, isFresh, isIdle, isRunning}
+use Rattle.server.specs.records.Arming.{runsAgain}
+use Rattle.server.proofs.StateLaws.{replying-state, held-state}
+use Rattle.server.specs.declared.step.Send.the-variants.{Nothing}
+use Rattle.server.specs.step.Plan.{accepted}
+use Rattle.server.specs.step.Rows.{answered, replyPlan, settled, transmitted, transmitPlan, faultPlan, rewinding, resendHeld, resendRow, timerRow, timerPlan}
 use Rattle.server.specs.Machine.{outcomeOf, sending, replying, transmitting, faulting, timing}
 use Rattle.server.proofs.Judging.{transmit-passes, timer-passes}
 use Rattle.server.proofs.Accepting.{reply-accepted, transmit-accepted, fault-accepted, timer-accepted}

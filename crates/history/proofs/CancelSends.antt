@@ -18,13 +18,13 @@ use Rattle.writer.proofs.Returns.{Sized}
 use Rattle.writer.proofs.RoundTrip.{kind-written, number-written, body-written}
 use Rattle.timers.specs.declared.Timer.{Timer}
 use Rattle.timers.specs.declared.Timer.the-variants.{Off, Armed}
-use Rattle.client_record.specs.declared.Client.{Client}
-use Rattle.client_record.specs.declared.State.{State}
-use Rattle.client_record.specs.declared.State.the-variants.{Queued, SendFrags, Dispatched, ReceiveFrags, AckPending, Complete, Fault}
-use Rattle.client_record.specs.Record.{withCancels, cancelArmed}
-use Rattle.client_steps.specs.declared.Send.the-variants.{Cancel as SendCancel}
-use Rattle.client_steps.specs.Plan.{accepted}
-use Rattle.client_steps.specs.Rows.{cancelled, cancelPlan}
+use Rattle.client.specs.declared.records.Client.{Client}
+use Rattle.client.specs.declared.records.State.{State}
+use Rattle.client.specs.declared.records.State.the-variants.{Queued, SendFrags, Dispatched, ReceiveFrags, AckPending, Complete, Fault}
+use Rattle.client.specs.records.Record.{withCancels, cancelArmed}
+use Rattle.client.specs.declared.step.Send.the-variants.{Cancel as SendCancel}
+use Rattle.client.specs.step.Plan.{accepted}
+use Rattle.client.specs.step.Rows.{cancelled, cancelPlan}
 use Rattle.client.specs.Sending.{pduHeader}
 use Rattle.client.specs.Machine.{outcomeOf, sending, cancelling}
 use Rattle.client.proofs.Judging.{cancel-passes}
@@ -37,7 +37,7 @@ use Rattle.history.specs.Timers.{namesCancel}
 use Rattle.history.specs.Cancels.{Asked, CancelsSent, CancelsTaken}
 use Rattle.history.proofs.Network.{pduOf, Uuids, read-little, call-sized}
 use Rattle.history.proofs.Invariant.{Inv}
-use Rattle.client_record.proofs.StateLaws.{active-state}
+use Rattle.client.proofs.StateLaws.{active-state}
 use Rattle.history.proofs.ClientSends.{client-sent, client-uuids}
 
 -- The states that the claim names are the active ones.

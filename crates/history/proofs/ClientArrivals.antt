@@ -24,22 +24,22 @@ use Rattle.writer.proofs.RoundTrip.{body-short}
 use Rattle.grounds.specs.Entry.{lentGround}
 use Rattle.grounds.specs.Fragment.{isLast, wantsFack, bodyLength}
 use Rattle.grounds.proofs.GroundLaws.{lent-passes, body-length}
-use Rattle.client_record.specs.declared.Client.{Client}
-use Rattle.client_record.specs.States.{isQueued}
-use Rattle.client_record.specs.Rules.{sound}
-use Rattle.client_record.specs.Record.{waiting, ackPending, unarmed, withIncoming, withWaits}
-use Rattle.client_record.proofs.StateLaws.{dispatched-state, active-state}
-use Rattle.client_record.proofs.RuleLaws.{rules-told}
-use Rattle.client_table.proofs.EventLaws.{response-kind}
-use Rattle.client_table.specs.declared.Event.{Event}
-use Rattle.client_table.specs.declared.Event.the-variants.{Response as ResponseEvent, Fault, Reject, Working, Nocall, Fack as FackEvent, CancelAck, Foreign}
-use Rattle.client_table.specs.Events.{eventOf, byEvent, hasRow}
-use Rattle.client_steps.specs.declared.Send.{Send}
-use Rattle.client_steps.specs.declared.Send.the-variants.{Nothing, Request as SendRequest, Ping, Ack, Fack, Cancel}
-use Rattle.client_steps.specs.Plan.{refused, accepted, failed}
-use Rattle.client_arrivals.specs.Rows.{putNotice, fackPlan, putRecord, fackFor, putPlan, responsePlan, workingPlan, resent, nocallPlan, cancelAckPlan, received}
-use Rattle.client_arrivals.specs.Table.{arrivalRow, arrivalPlan}
-use Rattle.client_arrivals.proofs.ArrivalLaws.{nocall-puts-none}
+use Rattle.client.specs.declared.records.Client.{Client}
+use Rattle.client.specs.records.States.{isQueued}
+use Rattle.client.specs.records.Rules.{sound}
+use Rattle.client.specs.records.Record.{waiting, ackPending, unarmed, withIncoming, withWaits}
+use Rattle.client.proofs.StateLaws.{dispatched-state, active-state}
+use Rattle.client.proofs.RuleLaws.{rules-told}
+use Rattle.client.proofs.EventLaws.{response-kind}
+use Rattle.client.specs.declared.judge.Event.{Event}
+use Rattle.client.specs.declared.judge.Event.the-variants.{Response as ResponseEvent, Fault, Reject, Working, Nocall, Fack as FackEvent, CancelAck, Foreign}
+use Rattle.client.specs.judge.Events.{eventOf, byEvent, hasRow}
+use Rattle.client.specs.declared.step.Send.{Send}
+use Rattle.client.specs.declared.step.Send.the-variants.{Nothing, Request as SendRequest, Ping, Ack, Fack, Cancel}
+use Rattle.client.specs.step.Plan.{refused, accepted, failed}
+use Rattle.client.specs.arrivals.Rows.{putNotice, fackPlan, putRecord, fackFor, putPlan, responsePlan, workingPlan, resent, nocallPlan, cancelAckPlan, received}
+use Rattle.client.specs.arrivals.Table.{arrivalRow, arrivalPlan}
+use Rattle.client.proofs.ArrivalLaws.{nocall-puts-none}
 use Rattle.client.specs.Machine.{sending, planOf, acted, arriving}
 use Rattle.client.proofs.Judging.{CanArrive, arrived-active, response-can, arrival-passes}
 use Rattle.client.proofs.Accepting.{arrive-accepted}

@@ -9,20 +9,20 @@ use Rattle.calls.specs.declared.Call.{Call}
 use Rattle.calls.specs.declared.Notice.{Notice}
 use Rattle.calls.specs.declared.Notice.the-variants.{Nothing as Untold, Last, Count, Fault as FaultNotice, Reject as RejectNotice, Cause, Dispatch, Cancel as CancelNotice}
 use Rattle.pdu.specs.declared.Header.{Header}
-use Rattle.client_record.specs.declared.Client.{Client}
-use Rattle.client_record.specs.declared.State.{State}
-use Rattle.client_record.specs.declared.TimerKind.{TimerKind}
-use Rattle.client_record.specs.declared.TimerKind.the-variants.{Wait, Ack, Cancel}
-use Rattle.client_record.specs.Record.{ackPending, unarmed, withIncoming, withWaits}
-use Rattle.client_table.specs.declared.Event.{Event}
-use Rattle.client_table.specs.declared.Event.the-variants.{Response, Fault as FaultRow, Reject, Working as WorkingRow, Nocall as NocallRow, Fack, CancelAck, Foreign}
-use Rattle.client_table.specs.Events.{eventOf}
-use Rattle.client_steps.specs.declared.Plan.{Plan}
-use Rattle.client_steps.specs.declared.Send.the-variants.{Nothing, Ping}
-use Rattle.client_steps.specs.Plan.{refused, accepted, failed}
-use Rattle.client_steps.specs.Rows.{startPlan, transmitPlan, pinged, waitPlan, ackPlan, cancelTimerPlan, timerRow, timerPlan, cancelPlan}
-use Rattle.client_arrivals.specs.Rows.{putRecord, putNotice, putPlan, responsePlan, workingPlan, resent, nocallPlan, fackPlan, cancelAckPlan}
-use Rattle.client_arrivals.specs.Table.{arrivalRow, arrivalPlan}
+use Rattle.client.specs.declared.records.Client.{Client}
+use Rattle.client.specs.declared.records.State.{State}
+use Rattle.client.specs.declared.records.TimerKind.{TimerKind}
+use Rattle.client.specs.declared.records.TimerKind.the-variants.{Wait, Ack, Cancel}
+use Rattle.client.specs.records.Record.{ackPending, unarmed, withIncoming, withWaits}
+use Rattle.client.specs.declared.judge.Event.{Event}
+use Rattle.client.specs.declared.judge.Event.the-variants.{Response, Fault as FaultRow, Reject, Working as WorkingRow, Nocall as NocallRow, Fack, CancelAck, Foreign}
+use Rattle.client.specs.judge.Events.{eventOf}
+use Rattle.client.specs.declared.step.Plan.{Plan}
+use Rattle.client.specs.declared.step.Send.the-variants.{Nothing, Ping}
+use Rattle.client.specs.step.Plan.{refused, accepted, failed}
+use Rattle.client.specs.step.Rows.{startPlan, transmitPlan, pinged, waitPlan, ackPlan, cancelTimerPlan, timerRow, timerPlan, cancelPlan}
+use Rattle.client.specs.arrivals.Rows.{putRecord, putNotice, putPlan, responsePlan, workingPlan, resent, nocallPlan, fackPlan, cancelAckPlan}
+use Rattle.client.specs.arrivals.Table.{arrivalRow, arrivalPlan}
 use Rattle.client.specs.Machine.{outcomeOf, starting, sending, transmitting, timing, cancelling, planOf, acted, arriving}
 use Rattle.history.specs.World.{Side}
 use Rattle.history.specs.Events.{ClientEvent, Start, ClientTransmit, ClientArrive, ClientTimer, ClientCancel}

@@ -20,25 +20,25 @@ use Rattle.incoming.specs.Slots.{cleared, complete, stored}
 use Rattle.pdu.specs.declared.Header.{Header}
 use Rattle.pdu.specs.Header.{bodyOf}
 use Rattle.reader.specs.Reading.{reading}
-use Rattle.server_record.specs.declared.Reply.{Reply}
-use Rattle.server_record.specs.declared.Reply.the-variants.{Data, Fault}
-use Rattle.server_record.specs.declared.State.{State}
-use Rattle.server_record.specs.declared.State.the-variants.{Idle as IdleState, Collect, Running, Replying, Held}
-use Rattle.server_record.specs.declared.Server.{Server}
-use Rattle.server_record.specs.States.{isFresh, isHeld}
-use Rattle.server_record.specs.Record.{unarmed, withOutgoing, withIncoming, withSeen}
-use Rattle.server_record.proofs.StateLaws.{held-state}
-use Rattle.server_rows.specs.declared.Row.{Row}
-use Rattle.server_rows.specs.declared.Row.the-variants.{Old, Missing, Repeat, Begin, Put, Working, Nocall, Replay, Acknowledge, Finish, AcceptCancel, DeclineCancel}
-use Rattle.server_rows.specs.Events.{eventOf}
-use Rattle.server_rows.specs.Rows.{orderFor, rowFor}
-use Rattle.server_rows.proofs.TableLaws.{put-told, replay-told, acknowledge-told, accept-told}
-use Rattle.server_steps.specs.declared.Plan.{Plan}
-use Rattle.server_steps.specs.declared.Send.the-variants.{CancelAck}
-use Rattle.server_steps.specs.Plan.{accepted, refused}
-use Rattle.server_steps.specs.Rows.{rewinding, replayHeld, replayPlan}
-use Rattle.server_arrivals.specs.Rows.{begun, putState, putNotice, putPlan, requestPlan, beginPlan, workingPlan, nocallPlan, fackPlan, ackPlan, heardPlan, acceptPlan, declinePlan}
-use Rattle.server_arrivals.specs.Table.{arrivalRow}
+use Rattle.server.specs.declared.records.Reply.{Reply}
+use Rattle.server.specs.declared.records.Reply.the-variants.{Data, Fault}
+use Rattle.server.specs.declared.records.State.{State}
+use Rattle.server.specs.declared.records.State.the-variants.{Idle as IdleState, Collect, Running, Replying, Held}
+use Rattle.server.specs.declared.records.Server.{Server}
+use Rattle.server.specs.records.States.{isFresh, isHeld}
+use Rattle.server.specs.records.Record.{unarmed, withOutgoing, withIncoming, withSeen}
+use Rattle.server.proofs.StateLaws.{held-state}
+use Rattle.server.specs.declared.rows.Row.{Row}
+use Rattle.server.specs.declared.rows.Row.the-variants.{Old, Missing, Repeat, Begin, Put, Working, Nocall, Replay, Acknowledge, Finish, AcceptCancel, DeclineCancel}
+use Rattle.server.specs.rows.Events.{eventOf}
+use Rattle.server.specs.rows.Rows.{orderFor, rowFor}
+use Rattle.server.proofs.TableLaws.{put-told, replay-told, acknowledge-told, accept-told}
+use Rattle.server.specs.declared.step.Plan.{Plan}
+use Rattle.server.specs.declared.step.Send.the-variants.{CancelAck}
+use Rattle.server.specs.step.Plan.{accepted, refused}
+use Rattle.server.specs.step.Rows.{rewinding, replayHeld, replayPlan}
+use Rattle.server.specs.arrivals.Rows.{begun, putState, putNotice, putPlan, requestPlan, beginPlan, workingPlan, nocallPlan, fackPlan, ackPlan, heardPlan, acceptPlan, declinePlan}
+use Rattle.server.specs.arrivals.Table.{arrivalRow}
 use Rattle.server.specs.Machine.{outcomeOf, sending, acted, arriving}
 use Rattle.server.proofs.Accepting.{arrive-row}
 use Rattle.server.proofs.CancelAnswers.{cancelNumber, formed-read}

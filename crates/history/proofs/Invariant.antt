@@ -13,16 +13,16 @@ use Rattle.incoming.specs.Slots.{complete}
 use Rattle.pdu.specs.declared.Header.{Header}
 use Rattle.pdu.specs.Header.{bodyOf}
 use Rattle.reader.specs.Reading.{reading}
-use Rattle.client_record.specs.declared.Client.{Client}
-use Rattle.client_record.specs.States.{isQueued, isActive}
-use Rattle.client_record.specs.Rules.{sound as clientSound}
-use Rattle.server_record.specs.declared.Idle.the-variants.{Fresh, Spent, Repeatable}
-use Rattle.server_record.specs.declared.Reply.the-variants.{Data, Fault}
-use Rattle.server_record.specs.declared.State.{State}
-use Rattle.server_record.specs.declared.State.the-variants.{Idle as IdleState, Collect, Running, Replying, Held}
-use Rattle.server_record.specs.declared.Server.{Server}
-use Rattle.server_record.specs.States.{isFresh}
-use Rattle.server_record.specs.Rules.{sound as serverSound}
+use Rattle.client.specs.declared.records.Client.{Client}
+use Rattle.client.specs.records.States.{isQueued, isActive}
+use Rattle.client.specs.records.Rules.{sound as clientSound}
+use Rattle.server.specs.declared.records.Idle.the-variants.{Fresh, Spent, Repeatable}
+use Rattle.server.specs.declared.records.Reply.the-variants.{Data, Fault}
+use Rattle.server.specs.declared.records.State.{State}
+use Rattle.server.specs.declared.records.State.the-variants.{Idle as IdleState, Collect, Running, Replying, Held}
+use Rattle.server.specs.declared.records.Server.{Server}
+use Rattle.server.specs.records.States.{isFresh}
+use Rattle.server.specs.records.Rules.{sound as serverSound}
 use Rattle.client.specs.declared.Outcome.{Outcome as ClientOutcome}
 use Rattle.server.specs.declared.Outcome.{Outcome as ServerOutcome}
 use Rattle.history.specs.Lists.{In, OfLast}

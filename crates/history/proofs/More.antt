@@ -5,8 +5,8 @@ use mathlib.Core.Path.{_≡_, sym, _∙_}
 use lib.ListN.{length}
 use Rattle.incoming.specs.declared.Incoming.{Incoming}
 use Rattle.pdu.specs.declared.Header.{Header}
-use Rattle.client_record.specs.declared.Client.{Client}
-use Rattle.server_record.specs.declared.Server.{Server}
+use Rattle.client.specs.declared.records.Client.{Client}
+use Rattle.server.specs.declared.records.Server.{Server}
 use Rattle.history.specs.World.{Started, Dispatched, Replied, Completed}
 use Rattle.history.specs.Dispatches.{DispatchOf}
 use Rattle.history.specs.Replies.{WholeReply}

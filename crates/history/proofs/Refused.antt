@@ -18,15 +18,15 @@ use Rattle.timers.specs.declared.Timer.the-variants.{Off, Armed}
 use Rattle.timers.specs.Tickets.{armedWith}
 use Rattle.grounds.specs.Order.{refuseIf, groundOf}
 use Rattle.grounds.proofs.PassLaws.{answer-passes}
-use Rattle.client_record.specs.declared.TimerKind.the-variants.{Wait, Ack, Cancel}
+use Rattle.client.specs.declared.records.TimerKind.the-variants.{Wait, Ack, Cancel}
 use Rattle.client.proofs.Judging.{timer-passes as client-timer-passes}
 use Rattle.client.proofs.Accepting.{timer-accepted as client-timer-accepted}
 use Rattle.client.proofs.Refusals.{StepUntouched as ClientStepUntouched, start-refused, transmit-refused as client-transmit-refused, timer-refused as client-timer-refused, cancel-refused, arrive-refused as client-arrive-refused}
 use Rattle.calls.specs.Events.{Step}
-use Rattle.client_record.specs.declared.Client.{Client}
-use Rattle.client_record.specs.Arming.{namedTimer}
+use Rattle.client.specs.declared.records.Client.{Client}
+use Rattle.client.specs.records.Arming.{namedTimer}
 use Rattle.client.specs.declared.Outcome.{Outcome as ClientOutcome}
-use Rattle.server_record.specs.declared.Server.{Server}
+use Rattle.server.specs.declared.records.Server.{Server}
 use Rattle.server.specs.declared.Outcome.{Outcome as ServerOutcome}
 use Rattle.server.proofs.Judging.{timer-passes as server-timer-passes}
 use Rattle.server.proofs.Accepting.{timer-accepted as server-timer-accepted}

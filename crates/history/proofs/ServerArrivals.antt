@@ -27,33 +27,33 @@ use Rattle.grounds.specs.Entry.{lentGround}
 use Rattle.grounds.specs.Fragment.{bodyLength}
 use Rattle.grounds.proofs.PassLaws.{refusal-stops}
 use Rattle.grounds.proofs.GroundLaws.{lent-passes}
-use Rattle.server_record.specs.declared.Idle.the-variants.{Repeatable}
-use Rattle.server_record.specs.declared.State.{State}
-use Rattle.server_record.specs.declared.Reply.{Reply}
-use Rattle.server_record.specs.declared.Reply.the-variants.{Data, Fault}
-use Rattle.server_record.specs.declared.State.the-variants.{Idle as IdleState, Replying, Held}
-use Rattle.server_record.specs.declared.Server.{Server}
-use Rattle.server_record.specs.States.{isFresh, isRunning, isHeld}
-use Rattle.server_record.specs.Rules.{sound}
-use Rattle.server_record.specs.Record.{withOutgoing}
-use Rattle.server_record.proofs.StateLaws.{held-state}
-use Rattle.server_rows.specs.declared.Event.the-variants.{Cancel}
-use Rattle.server_rows.specs.declared.Order.the-variants.{Equal, Newer}
-use Rattle.server_rows.specs.declared.Row.{Row}
-use Rattle.server_rows.specs.declared.Row.the-variants.{Old, Missing, Repeat, Begin, Put, Working, Nocall, Replay, Acknowledge, Finish, AcceptCancel, DeclineCancel}
-use Rattle.server_rows.specs.Events.{eventOf}
-use Rattle.server_rows.specs.Rows.{orderFor, rowFor}
-use Rattle.server_table.specs.Arrival.{oldGround, rowGround}
-use Rattle.server_rows.proofs.TableLaws.{newer-told, equal-told, begin-told, put-told, working-told, nocall-told, replay-told, acknowledge-told, finish-told, accept-told, decline-told}
-use Rattle.server_arrivals.specs.Rows.{begun, putPlan, requestPlan, beginPlan, workingPlan, nocallPlan, fackPlan, ackPlan, heardPlan, acceptPlan, declinePlan}
-use Rattle.server_arrivals.specs.Table.{arrivalRow, arrivalPlan}
-use Rattle.server_arrivals.proofs.ArrivalLaws.{fack-sound, ack-sound}
-use Rattle.server_arrivals.proofs.CancelLaws.{heard-or-not}
-use Rattle.server_steps.specs.declared.Plan.{Plan}
-use Rattle.server_steps.specs.declared.Send.the-variants.{CancelAck}
-use Rattle.server_steps.specs.Plan.{accepted}
-use Rattle.server_steps.specs.Rows.{rewinding, replayHeld, replayPlan}
-use Rattle.server_steps.proofs.StepLaws.{replay-sound}
+use Rattle.server.specs.declared.records.Idle.the-variants.{Repeatable}
+use Rattle.server.specs.declared.records.State.{State}
+use Rattle.server.specs.declared.records.Reply.{Reply}
+use Rattle.server.specs.declared.records.Reply.the-variants.{Data, Fault}
+use Rattle.server.specs.declared.records.State.the-variants.{Idle as IdleState, Replying, Held}
+use Rattle.server.specs.declared.records.Server.{Server}
+use Rattle.server.specs.records.States.{isFresh, isRunning, isHeld}
+use Rattle.server.specs.records.Rules.{sound}
+use Rattle.server.specs.records.Record.{withOutgoing}
+use Rattle.server.proofs.StateLaws.{held-state}
+use Rattle.server.specs.declared.rows.Event.the-variants.{Cancel}
+use Rattle.server.specs.declared.rows.Order.the-variants.{Equal, Newer}
+use Rattle.server.specs.declared.rows.Row.{Row}
+use Rattle.server.specs.declared.rows.Row.the-variants.{Old, Missing, Repeat, Begin, Put, Working, Nocall, Replay, Acknowledge, Finish, AcceptCancel, DeclineCancel}
+use Rattle.server.specs.rows.Events.{eventOf}
+use Rattle.server.specs.rows.Rows.{orderFor, rowFor}
+use Rattle.server.specs.judge.Arrival.{oldGround, rowGround}
+use Rattle.server.proofs.TableLaws.{newer-told, equal-told, begin-told, put-told, working-told, nocall-told, replay-told, acknowledge-told, finish-told, accept-told, decline-told}
+use Rattle.server.specs.arrivals.Rows.{begun, putPlan, requestPlan, beginPlan, workingPlan, nocallPlan, fackPlan, ackPlan, heardPlan, acceptPlan, declinePlan}
+use Rattle.server.specs.arrivals.Table.{arrivalRow, arrivalPlan}
+use Rattle.server.proofs.ArrivalLaws.{fack-sound, ack-sound}
+use Rattle.server.proofs.CancelLaws.{heard-or-not}
+use Rattle.server.specs.declared.step.Plan.{Plan}
+use Rattle.server.specs.declared.step.Send.the-variants.{CancelAck}
+use Rattle.server.specs.step.Plan.{accepted}
+use Rattle.server.specs.step.Rows.{rewinding, replayHeld, replayPlan}
+use Rattle.server.proofs.StepLaws.{replay-sound}
 use Rattle.server.specs.Machine.{sending, planOf, acted, arriving}
 use Rattle.server.proofs.Judging.{CanArrive, begin-fits, put-fits, fack-fits, arrival-passes}
 use Rattle.server.proofs.Accepting.{arrive-accepted}

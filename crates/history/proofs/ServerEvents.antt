@@ -18,20 +18,20 @@ use Rattle.outgoing.proofs.OutgoingLaws.{fragment-most}
 use Rattle.outgoing.specs.Message.{fragmentOf}
 use Rattle.outgoing.specs.Sending.{sendsLast, replied, messageOf}
 use Rattle.pdu.specs.Header.{blank}
-use Rattle.server_record.specs.declared.Idle.the-variants.{Spent}
-use Rattle.server_record.specs.declared.Reply.{Reply}
-use Rattle.server_record.specs.declared.Reply.the-variants.{Data, Fault}
-use Rattle.server_record.specs.declared.State.{State}
-use Rattle.server_record.specs.declared.State.the-variants.{Idle as IdleState, Running}
-use Rattle.server_record.specs.declared.Server.{Server}
-use Rattle.server_record.specs.States.{isFresh}
-use Rattle.server_record.specs.Rules.{sound}
-use Rattle.server_record.specs.Record.{unarmed, withOutgoing}
-use Rattle.server_record.proofs.StateLaws.{running-state, replying-state, held-state}
-use Rattle.server_steps.specs.declared.Send.the-variants.{Nothing, Response as SendResponse, Fault as SendFault}
-use Rattle.server_steps.specs.Plan.{accepted}
-use Rattle.server_steps.specs.Rows.{answered, replyPlan, settled, transmitted, transmitPlan, faultPlan, resendHeld, resendRow, timerRow, timerPlan}
-use Rattle.server_steps.proofs.StepLaws.{replied-sound, transmitted-sound, fault-sound, timer-sound}
+use Rattle.server.specs.declared.records.Idle.the-variants.{Spent}
+use Rattle.server.specs.declared.records.Reply.{Reply}
+use Rattle.server.specs.declared.records.Reply.the-variants.{Data, Fault}
+use Rattle.server.specs.declared.records.State.{State}
+use Rattle.server.specs.declared.records.State.the-variants.{Idle as IdleState, Running}
+use Rattle.server.specs.declared.records.Server.{Server}
+use Rattle.server.specs.records.States.{isFresh}
+use Rattle.server.specs.records.Rules.{sound}
+use Rattle.server.specs.records.Record.{unarmed, withOutgoing}
+use Rattle.server.proofs.StateLaws.{running-state, replying-state, held-state}
+use Rattle.server.specs.declared.step.Send.the-variants.{Nothing, Response as SendResponse, Fault as SendFault}
+use Rattle.server.specs.step.Plan.{accepted}
+use Rattle.server.specs.step.Rows.{answered, replyPlan, settled, transmitted, transmitPlan, faultPlan, resendHeld, resendRow, timerRow, timerPlan}
+use Rattle.server.proofs.StepLaws.{replied-sound, transmitted-sound, fault-sound, timer-sound}
 use Rattle.server.specs.Sending.{sentOut}
 use Rattle.server.specs.Machine.{outcomeOf, replying, sending, transmitting, timing, faulting}
 use Rattle.server.proofs.Judging.{CanReply, reply-passes, transmit-passes, fault-passes, timer-passes}

@@ -24,18 +24,18 @@ use Rattle.pdu.specs.declared.Header.{Header}
 use Rattle.timers.proofs.TimerLaws.{off-sound}
 use Rattle.grounds.specs.Fragment.{isLast, wantsFack, bodyLength}
 use Rattle.grounds.proofs.GroundLaws.{body-length}
-use Rattle.server_record.specs.declared.Idle.the-variants.{Repeatable}
-use Rattle.server_record.specs.declared.State.the-variants.{Idle as IdleState, Collect}
-use Rattle.server_record.specs.declared.Server.{Server}
-use Rattle.server_record.specs.States.{isFresh, isRunning, isHeld}
-use Rattle.server_record.specs.Rules.{sound, outgoingSound, messageRule}
-use Rattle.server_record.specs.Record.{unarmed, withIncoming}
-use Rattle.server_record.proofs.RuleLaws.{rules-told, rules-hold}
-use Rattle.server_arrivals.specs.Rows.{callOf, begun, putState, putNotice, fackFor, putPlan, requestPlan}
-use Rattle.server_arrivals.proofs.ArrivalLaws.{put-sound}
+use Rattle.server.specs.declared.records.Idle.the-variants.{Repeatable}
+use Rattle.server.specs.declared.records.State.the-variants.{Idle as IdleState, Collect}
+use Rattle.server.specs.declared.records.Server.{Server}
+use Rattle.server.specs.records.States.{isFresh, isRunning, isHeld}
+use Rattle.server.specs.records.Rules.{sound, outgoingSound, messageRule}
+use Rattle.server.specs.records.Record.{unarmed, withIncoming}
+use Rattle.server.proofs.RuleLaws.{rules-told, rules-hold}
+use Rattle.server.specs.arrivals.Rows.{callOf, begun, putState, putNotice, fackFor, putPlan, requestPlan}
+use Rattle.server.proofs.ArrivalLaws.{put-sound}
 use Rattle.server.specs.HandUp.{handsUp}
 use Rattle.server.specs.Machine.{outcomeOf, sending}
-use Rattle.server_steps.specs.declared.Send.{Send}
+use Rattle.server.specs.declared.step.Send.{Send}
 use Rattle.history.specs.Lists.{In, andThen}
 use Rattle.history.specs.World.{callNumber, Started, Dispatched, Replied, World}
 use Rattle.history.specs.Steps.{dispatchesAfter, Subject, dispatchEntry}

@@ -27,20 +27,20 @@ use Rattle.outgoing.proofs.SendLaws.{message-count-told, message-count-range}
 use Rattle.pdu.specs.declared.Header.{Header}
 use Rattle.pdu.specs.Header.{datagram, blank}
 use Rattle.writer.proofs.Returns.{Sized}
-use Rattle.server_record.specs.declared.Reply.{Reply}
-use Rattle.server_record.specs.declared.Reply.the-variants.{Data}
-use Rattle.server_record.specs.declared.State.{State}
-use Rattle.server_record.specs.declared.Server.{Server}
-use Rattle.server_record.specs.States.{isReplying}
-use Rattle.server_record.specs.Rules.{sound, outgoingSound}
-use Rattle.server_record.specs.Record.{holding, unarmed, withOutgoing}
-use Rattle.server_record.specs.Arming.{runsAgain}
-use Rattle.server_record.proofs.StateLaws.{replying-state}
-use Rattle.server_record.proofs.RuleLaws.{rules-told, replying-told}
-use Rattle.server_steps.specs.declared.Send.{Send}
-use Rattle.server_steps.specs.declared.Send.the-variants.{Nothing, Response as SendResponse, Fault as SendFault, Working, Nocall, Fack, CancelAck}
-use Rattle.server_steps.specs.declared.Plan.{Plan}
-use Rattle.server_steps.specs.Rows.{settled, transmitted}
+use Rattle.server.specs.declared.records.Reply.{Reply}
+use Rattle.server.specs.declared.records.Reply.the-variants.{Data}
+use Rattle.server.specs.declared.records.State.{State}
+use Rattle.server.specs.declared.records.Server.{Server}
+use Rattle.server.specs.records.States.{isReplying}
+use Rattle.server.specs.records.Rules.{sound, outgoingSound}
+use Rattle.server.specs.records.Record.{holding, unarmed, withOutgoing}
+use Rattle.server.specs.records.Arming.{runsAgain}
+use Rattle.server.proofs.StateLaws.{replying-state}
+use Rattle.server.proofs.RuleLaws.{rules-told, replying-told}
+use Rattle.server.specs.declared.step.Send.{Send}
+use Rattle.server.specs.declared.step.Send.the-variants.{Nothing, Response as SendResponse, Fault as SendFault, Working, Nocall, Fack, CancelAck}
+use Rattle.server.specs.declared.step.Plan.{Plan}
+use Rattle.server.specs.step.Rows.{settled, transmitted}
 use Rattle.server.specs.Sending.{replyHeader, echoed, echoHeader, responseSent, faultSent, emptySent, fackSent, cancelAckSent, sentOut}
 use Rattle.server.specs.Machine.{outcomeOf, sending}
 use Rattle.history.specs.Lists.{In}

@@ -9,19 +9,19 @@ use Rattle.words.specs.Choice.{choose}
 use Rattle.words.specs.Sizes.{retryLimit}
 use Rattle.flags.specs.Flags.{idempotent}
 use Rattle.outgoing.specs.Sending.{afterSend, rewound}
-use Rattle.server_record.specs.declared.Idle.the-variants.{Fresh, Spent, Repeatable}
-use Rattle.server_record.specs.declared.Reply.{Reply}
-use Rattle.server_record.specs.declared.Reply.the-variants.{Data, Fault}
-use Rattle.server_record.specs.declared.State.{State}
-use Rattle.server_record.specs.declared.State.the-variants.{Idle as IdleState, Collect, Running, Replying, Held}
-use Rattle.server_record.specs.declared.Server.{Server}
-use Rattle.server_record.specs.States.{neverCalled, isFresh}
-use Rattle.server_record.specs.Rules.{sound}
-use Rattle.server_record.specs.Record.{holding, unarmed, withOutgoing, withResends, withSeen}
-use Rattle.server_record.specs.Arming.{runsAgain}
-use Rattle.server_steps.specs.declared.Send.the-variants.{Nothing}
-use Rattle.server_steps.specs.Plan.{accepted}
-use Rattle.server_steps.specs.Rows.{settled, transmitted, rewinding, resendHeld, resendRow}
+use Rattle.server.specs.declared.records.Idle.the-variants.{Fresh, Spent, Repeatable}
+use Rattle.server.specs.declared.records.Reply.{Reply}
+use Rattle.server.specs.declared.records.Reply.the-variants.{Data, Fault}
+use Rattle.server.specs.declared.records.State.{State}
+use Rattle.server.specs.declared.records.State.the-variants.{Idle as IdleState, Collect, Running, Replying, Held}
+use Rattle.server.specs.declared.records.Server.{Server}
+use Rattle.server.specs.records.States.{neverCalled, isFresh}
+use Rattle.server.specs.records.Rules.{sound}
+use Rattle.server.specs.records.Record.{holding, unarmed, withOutgoing, withResends, withSeen}
+use Rattle.server.specs.records.Arming.{runsAgain}
+use Rattle.server.specs.declared.step.Send.the-variants.{Nothing}
+use Rattle.server.specs.step.Plan.{accepted}
+use Rattle.server.specs.step.Rows.{settled, transmitted, rewinding, resendHeld, resendRow}
 use Rattle.server.specs.HandUp.{handsUp}
 use Rattle.history.specs.Lists.{In}
 use Rattle.history.specs.World.{Started, Dispatched, Replied}

@@ -14,11 +14,11 @@ use Rattle.calls.specs.declared.Call.{Call}
 use Rattle.calls.specs.declared.Sent.the-variants.{Nothing as Unsent}
 use Rattle.outgoing.specs.Sending.{started as startedMessage, messageOf}
 use Rattle.pdu.specs.declared.Header.{Header}
-use Rattle.client_record.specs.declared.Client.{Client}
-use Rattle.client_record.specs.States.{isQueued, isActive}
-use Rattle.client_steps.specs.Plan.{accepted}
-use Rattle.client_steps.specs.Rows.{nextNumber, started, startPlan}
-use Rattle.client_steps.proofs.StepLaws.{next-number, started-sound}
+use Rattle.client.specs.declared.records.Client.{Client}
+use Rattle.client.specs.records.States.{isQueued, isActive}
+use Rattle.client.specs.step.Plan.{accepted}
+use Rattle.client.specs.step.Rows.{nextNumber, started, startPlan}
+use Rattle.client.proofs.StepLaws.{next-number, started-sound}
 use Rattle.client.specs.Machine.{outcomeOf, starting}
 use Rattle.client.proofs.Judging.{CanStart, start-passes}
 use Rattle.client.proofs.Accepting.{start-accepted}

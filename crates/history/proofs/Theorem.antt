@@ -10,19 +10,19 @@ use Rattle.fragments.specs.Joined.{Leads}
 use Rattle.fragments.proofs.BufferLaws.{joined}
 use Rattle.timers.specs.declared.Timer.the-variants.{Armed}
 use Rattle.timers.proofs.TimerLaws.{ticket-most}
-use Rattle.client_record.specs.declared.State.{State}
-use Rattle.client_record.specs.declared.State.the-variants.{Queued, SendFrags, Dispatched as DispatchedState, ReceiveFrags, AckPending, Complete, Fault}
-use Rattle.client_record.specs.States.{isQueued, isWaiting, isAckPending}
-use Rattle.client_record.proofs.RuleLaws.{rules-told, wait-off, ack-off, cancel-off}
-use Rattle.client_record.specs.declared.TimerKind.the-variants.{Wait, Ack, Cancel}
-use Rattle.client_record.specs.Arming.{namedTimer}
+use Rattle.client.specs.declared.records.State.{State}
+use Rattle.client.specs.declared.records.State.the-variants.{Queued, SendFrags, Dispatched as DispatchedState, ReceiveFrags, AckPending, Complete, Fault}
+use Rattle.client.specs.records.States.{isQueued, isWaiting, isAckPending}
+use Rattle.client.proofs.RuleLaws.{rules-told, wait-off, ack-off, cancel-off}
+use Rattle.client.specs.declared.records.TimerKind.the-variants.{Wait, Ack, Cancel}
+use Rattle.client.specs.records.Arming.{namedTimer}
 use Rattle.client.proofs.Growing.{hands-joined}
 use Rattle.client.proofs.TicketLaws.{old-most as client-most}
-use Rattle.server_record.specs.declared.Idle.the-variants.{Fresh as NeverCalled, Spent, Repeatable}
-use Rattle.server_record.specs.States.{isHeld, isFresh, neverCalled}
-use Rattle.server_record.specs.declared.State.{State as ServerState}
-use Rattle.server_record.specs.declared.State.the-variants.{Idle, Collect, Running, Replying, Held}
-use Rattle.server_record.proofs.RuleLaws.{resend-off, rules-told as server-rules-told}
+use Rattle.server.specs.declared.records.Idle.the-variants.{Fresh as NeverCalled, Spent, Repeatable}
+use Rattle.server.specs.records.States.{isHeld, isFresh, neverCalled}
+use Rattle.server.specs.declared.records.State.{State as ServerState}
+use Rattle.server.specs.declared.records.State.the-variants.{Idle, Collect, Running, Replying, Held}
+use Rattle.server.proofs.RuleLaws.{resend-off, rules-told as server-rules-told}
 use Rattle.history.specs.Lists.{In, howMany}
 use Rattle.history.specs.World.{callNumber, Started, Dispatched, SentPdu, World}
 use Rattle.history.specs.Events.{Event}

@@ -9,12 +9,12 @@ use Rattle.words.specs.Choice.{choose}
 use Rattle.reader.specs.Reading.{reading}
 use Rattle.timers.specs.declared.Timer.the-variants.{Armed}
 use Rattle.timers.proofs.TimerLaws.{Moved, stays-moved}
-use Rattle.client_record.specs.declared.Client.{Client}
-use Rattle.client_record.specs.declared.TimerKind.the-variants.{Wait, Ack, Cancel}
-use Rattle.client_record.specs.Arming.{namedTimer}
-use Rattle.client_table.specs.Events.{serverEvent, eventOf}
+use Rattle.client.specs.declared.records.Client.{Client}
+use Rattle.client.specs.declared.records.TimerKind.the-variants.{Wait, Ack, Cancel}
+use Rattle.client.specs.records.Arming.{namedTimer}
+use Rattle.client.specs.judge.Events.{serverEvent, eventOf}
 use Rattle.client.proofs.TicketLaws.{ClientMoved, start-moves, transmit-moves as client-transmit-moves, timer-moves as client-timer-moves, cancel-moves, arrive-moves as client-arrive-moves, timer-spends as client-timer-spends, renews, arrive-spends}
-use Rattle.server_record.specs.declared.Server.{Server}
+use Rattle.server.specs.declared.records.Server.{Server}
 use Rattle.server.proofs.TicketLaws.{ServerMoved, reply-moves, transmit-moves as server-transmit-moves, fault-moves, timer-moves as server-timer-moves, arrive-moves as server-arrive-moves, timer-spends as server-timer-spends}
 use Rattle.history.specs.World.{Side, World}
 use Rattle.history.specs.Events.{ClientEvent, ServerEvent, Event, Start, ClientTransmit, ClientArrive, ClientTimer, ClientCancel, ServerArrive, ServerTransmit, ServerTimer, Reply, Fault, OfClient, OfServer}

@@ -5,9 +5,9 @@ use mathlib.Core.Path.{_≡_, refl, ap}
 use lib.Dec.{leb, eqb}
 use borrow.Author.Tests.{eqb-true}
 use Rattle.words.specs.Choice.{choose}
-use Rattle.server_rows.specs.declared.Event.{Event as ServerEvent}
-use Rattle.server_rows.specs.declared.Event.the-variants.{Request, Ping, Ack, Cancel, Fack, Foreign}
-use Rattle.server_rows.specs.Events.{clientEvent, eventOf as serverEventOf}
+use Rattle.server.specs.declared.rows.Event.{Event as ServerEvent}
+use Rattle.server.specs.declared.rows.Event.the-variants.{Request, Ping, Ack, Cancel, Fack, Foreign}
+use Rattle.server.specs.rows.Events.{clientEvent, eventOf as serverEventOf}
 
 abbrev pub IsRequest : ℕ → Type 0
 IsRequest kind = kind ≡ 0

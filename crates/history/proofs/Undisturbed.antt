@@ -21,24 +21,24 @@ use Rattle.grounds.specs.Fragment.{bodyLength}
 use Rattle.pdu.specs.declared.Header.{Header}
 use Rattle.pdu.specs.Header.{bodyOf}
 use Rattle.reader.specs.Reading.{reading}
-use Rattle.server_record.specs.declared.Idle.the-variants.{Repeatable}
-use Rattle.server_record.specs.declared.Server.{Server}
-use Rattle.server_record.specs.declared.State.{State}
-use Rattle.server_record.specs.declared.State.the-variants.{Idle as IdleState, Collect, Running, Replying, Held}
-use Rattle.server_record.specs.Record.{withSeen}
-use Rattle.server_record.specs.States.{isRunning, isReplying, isHeld}
-use Rattle.server_rows.specs.declared.Order.the-variants.{Equal, Newer}
-use Rattle.server_rows.specs.declared.Row.{Row}
-use Rattle.server_rows.specs.declared.Row.the-variants.{Old, Missing, Repeat, Begin, Put, Working, Nocall, Replay, Acknowledge, Finish, AcceptCancel, DeclineCancel}
-use Rattle.server_rows.specs.Events.{eventOf}
-use Rattle.server_rows.specs.Rows.{orderFor, rowFor}
-use Rattle.server_rows.proofs.TableLaws.{begin-told, put-told, replay-told, acknowledge-told, finish-told}
-use Rattle.server_table.specs.Arrival.{arrivalGround}
-use Rattle.server_steps.specs.declared.Plan.{Plan}
-use Rattle.server_steps.specs.declared.Send.the-variants.{CancelAck}
-use Rattle.server_steps.specs.Plan.{refused, accepted}
-use Rattle.server_arrivals.specs.Rows.{workingPlan, nocallPlan, heardPlan, acceptPlan, declinePlan}
-use Rattle.server_arrivals.specs.Table.{arrivalRow, arrivalPlan}
+use Rattle.server.specs.declared.records.Idle.the-variants.{Repeatable}
+use Rattle.server.specs.declared.records.Server.{Server}
+use Rattle.server.specs.declared.records.State.{State}
+use Rattle.server.specs.declared.records.State.the-variants.{Idle as IdleState, Collect, Running, Replying, Held}
+use Rattle.server.specs.records.Record.{withSeen}
+use Rattle.server.specs.records.States.{isRunning, isReplying, isHeld}
+use Rattle.server.specs.declared.rows.Order.the-variants.{Equal, Newer}
+use Rattle.server.specs.declared.rows.Row.{Row}
+use Rattle.server.specs.declared.rows.Row.the-variants.{Old, Missing, Repeat, Begin, Put, Working, Nocall, Replay, Acknowledge, Finish, AcceptCancel, DeclineCancel}
+use Rattle.server.specs.rows.Events.{eventOf}
+use Rattle.server.specs.rows.Rows.{orderFor, rowFor}
+use Rattle.server.proofs.TableLaws.{begin-told, put-told, replay-told, acknowledge-told, finish-told}
+use Rattle.server.specs.judge.Arrival.{arrivalGround}
+use Rattle.server.specs.declared.step.Plan.{Plan}
+use Rattle.server.specs.declared.step.Send.the-variants.{CancelAck}
+use Rattle.server.specs.step.Plan.{refused, accepted}
+use Rattle.server.specs.arrivals.Rows.{workingPlan, nocallPlan, heardPlan, acceptPlan, declinePlan}
+use Rattle.server.specs.arrivals.Table.{arrivalRow, arrivalPlan}
 use Rattle.server.specs.Machine.{outcomeOf, sending, planOf, acted, arriving}
 use Rattle.server.proofs.Judging.{transmit-passes, timer-passes}
 use Rattle.server.proofs.Accepting.{transmit-accepted, timer-accepted}

@@ -14,8 +14,8 @@ use Rattle.bodies.specs.Cancel.{cancelReading, cancelAckReading}
 use Rattle.pdu.specs.Header.{bodyOf}
 use Rattle.reader.specs.Reading.{reading}
 use Rattle.timers.specs.declared.Timer.the-variants.{Off, Armed}
-use Rattle.client_record.specs.declared.Client.{Client}
-use Rattle.client_record.specs.declared.TimerKind.the-variants.{Cancel}
+use Rattle.client.specs.declared.records.Client.{Client}
+use Rattle.client.specs.declared.records.TimerKind.the-variants.{Cancel}
 use Rattle.history.specs.Lists.{In, andThen, howMany}
 use Rattle.history.specs.World.{Dispatched, Cancelled, Heard, SentPdu, Side, World}
 use Rattle.history.specs.Events.{Lent, Event, ClientArrive, ClientCancel, ServerArrive, OfClient, OfServer}

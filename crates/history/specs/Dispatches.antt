@@ -7,10 +7,10 @@ use mathlib.Core.Path.{_≡_}
 use lib.Dec.{eqb}
 use Rattle.calls.specs.declared.Notice.{Notice}
 use Rattle.calls.specs.declared.Notice.the-variants.{Cancel as CancelTold}
-use Rattle.server_record.specs.declared.State.{State as ServerState}
-use Rattle.server_record.specs.declared.State.the-variants.{Idle, Collect, Running, Replying, Held}
-use Rattle.server_record.specs.declared.Server.{Server}
-use Rattle.server_record.specs.Record.{withSeen}
+use Rattle.server.specs.declared.records.State.{State as ServerState}
+use Rattle.server.specs.declared.records.State.the-variants.{Idle, Collect, Running, Replying, Held}
+use Rattle.server.specs.declared.records.Server.{Server}
+use Rattle.server.specs.records.Record.{withSeen}
 use Rattle.history.specs.Lists.{In, OfLast, howMany}
 use Rattle.history.specs.World.{Started, Dispatched, World}
 use Rattle.history.specs.Events.{Event, ServerArrive, ServerTransmit, ServerTimer, Reply, Fault, OfClient, OfServer}

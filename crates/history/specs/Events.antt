@@ -2,7 +2,7 @@
 use Prim.Native.Nat.{ℕ}
 use mathlib.Core.List.{List}
 use Rattle.calls.specs.declared.Call.{Call}
-use Rattle.client_record.specs.declared.TimerKind.{TimerKind}
+use Rattle.client.specs.declared.records.TimerKind.{TimerKind}
 use Rattle.history.specs.World.{SentPdu}
 
 -- The slot buffer lent at an event: the side's own, or any other bytes.

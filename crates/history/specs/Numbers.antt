@@ -2,13 +2,13 @@
 use mathlib.Core.Bool.{Bool, true, false}
 use mathlib.Core.List.{List}
 use mathlib.Core.Path.{_≡_}
-use Rattle.client_record.specs.declared.State.{State as ClientState}
-use Rattle.client_record.specs.declared.State.the-variants.{Queued, SendFrags, Dispatched as DispatchedState, ReceiveFrags, AckPending, Complete, Fault as FaultState}
-use Rattle.client_record.specs.Rules.{sound as clientSound}
-use Rattle.server_record.specs.declared.Idle.the-variants.{Fresh, Spent, Repeatable}
-use Rattle.server_record.specs.declared.State.{State as ServerState}
-use Rattle.server_record.specs.declared.State.the-variants.{Idle, Collect, Running, Replying, Held}
-use Rattle.server_record.specs.Rules.{sound as serverSound}
+use Rattle.client.specs.declared.records.State.{State as ClientState}
+use Rattle.client.specs.declared.records.State.the-variants.{Queued, SendFrags, Dispatched as DispatchedState, ReceiveFrags, AckPending, Complete, Fault as FaultState}
+use Rattle.client.specs.records.Rules.{sound as clientSound}
+use Rattle.server.specs.declared.records.Idle.the-variants.{Fresh, Spent, Repeatable}
+use Rattle.server.specs.declared.records.State.{State as ServerState}
+use Rattle.server.specs.declared.records.State.the-variants.{Idle, Collect, Running, Replying, Held}
+use Rattle.server.specs.records.Rules.{sound as serverSound}
 use Rattle.history.specs.Lists.{In}
 use Rattle.history.specs.World.{callNumber, Started, Dispatched, World}
 use Rattle.history.specs.Steps.{lastStart}

@@ -16,13 +16,13 @@ use Rattle.calls.specs.declared.Sent.{Sent}
 use Rattle.calls.specs.declared.Sent.the-variants.{Nothing, Pdu}
 use Rattle.pdu.specs.Header.{bodyOf}
 use Rattle.reader.specs.Reading.{reading}
-use Rattle.client_record.specs.declared.Client.{Client}
+use Rattle.client.specs.declared.records.Client.{Client}
 use Rattle.client.specs.declared.Outcome.{Outcome as ClientOutcome}
 use Rattle.client.specs.HandUp.{handsUp as clientHandsUp}
 use Rattle.calls.specs.Sent.{sentBytes}
 use Rattle.calls.specs.Events.{Step, Arrival}
 use Rattle.client.specs.Machine.{starting, transmitting as clientTransmitting, timing as clientTiming, cancelling, arriving as clientArriving}
-use Rattle.server_record.specs.declared.Server.{Server}
+use Rattle.server.specs.declared.records.Server.{Server}
 use Rattle.server.specs.declared.Outcome.{Outcome as ServerOutcome}
 use Rattle.server.specs.HandUp.{handsUp as serverHandsUp}
 use Rattle.server.specs.Machine.{replying, transmitting as serverTransmitting, timing as serverTiming, faulting, arriving as serverArriving}

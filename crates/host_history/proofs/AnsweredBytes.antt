@@ -18,12 +18,12 @@ use Rattle.calls.specs.declared.Notice.{Notice}
 use Rattle.calls.specs.declared.Sent.{Sent}
 use Rattle.record_bytes.specs.Fits.{Octets, Uuid, FitsCall}
 use Rattle.record_bytes.proofs.Keeping.{choice-by}
-use Rattle.client_record.specs.declared.TimerKind.the-variants.{Wait, Ack, Cancel}
-use Rattle.client_record.specs.Rules.{sound as clientSound}
+use Rattle.client.specs.declared.records.TimerKind.the-variants.{Wait, Ack, Cancel}
+use Rattle.client.specs.records.Rules.{sound as clientSound}
 use Rattle.client_bytes.specs.Layout.{readable as clientReadable, clientIn, clientBytes}
 use Rattle.client_bytes.specs.Canonical.{Canonical as ClientCanonical}
 use Rattle.client_bytes.proofs.RoundTrip.{client-fits}
-use Rattle.server_record.specs.Rules.{sound as serverSound}
+use Rattle.server.specs.records.Rules.{sound as serverSound}
 use Rattle.server_bytes.specs.Layout.{readable as serverReadable, serverIn, serverBytes}
 use Rattle.server_bytes.specs.Canonical.{Canonical as ServerCanonical}
 use Rattle.server_bytes.proofs.RoundTrip.{server-fits}

@@ -13,11 +13,11 @@ use Rattle.calls.specs.declared.Notice.the-variants.{Nothing as Untold, Last, C
 use Rattle.record_bytes.specs.Layout.{callIn, fieldsIn}
 use Rattle.record_bytes.proofs.PartLaws.{uuid-part}
 use Rattle.record_bytes.proofs.Keeping.{choice-by, choice-keeps}
-use Rattle.client_record.specs.declared.Client.{Client}
-use Rattle.client_record.specs.declared.State.{State as ClientState}
+use Rattle.client.specs.declared.records.Client.{Client}
+use Rattle.client.specs.declared.records.State.{State as ClientState}
 use Rattle.client_bytes.specs.Layout.{stateOf as clientState, clientOf, clientIn}
-use Rattle.server_record.specs.declared.Server.{Server}
-use Rattle.server_record.specs.declared.State.{State as ServerState}
+use Rattle.server.specs.declared.records.Server.{Server}
+use Rattle.server.specs.declared.records.State.{State as ServerState}
 use Rattle.server_bytes.specs.Layout.{stateOf as serverState, serverOf, serverIn}
 use Rattle.history.specs.Lists.{andThen}
 use Rattle.history.specs.World.{Dispatched, Completed, Side}

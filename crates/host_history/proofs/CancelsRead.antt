@@ -26,9 +26,9 @@ use Rattle.timers.proofs.TimerLaws.{off-has-none}
 use Rattle.record_bytes.specs.Layout.{fieldsIn}
 use Rattle.record_bytes.proofs.PartLaws.{uuid-part}
 use Rattle.record_bytes.proofs.Keeping.{choice-by, choice-keeps}
-use Rattle.client_record.specs.declared.State.{State as ClientState}
-use Rattle.client_record.specs.declared.TimerKind.the-variants.{Cancel as CancelKind}
-use Rattle.client_table.specs.Events.{eventOf as clientEventOf}
+use Rattle.client.specs.declared.records.State.{State as ClientState}
+use Rattle.client.specs.declared.records.TimerKind.the-variants.{Cancel as CancelKind}
+use Rattle.client.specs.judge.Events.{eventOf as clientEventOf}
 use Rattle.client.proofs.Accepting.{arrive-accepted}
 use Rattle.client.proofs.Judging.{acknowledgement-passes}
 use Rattle.client_bytes.specs.Layout.{stateOf as clientState, clientOf, clientIn}

@@ -16,10 +16,10 @@ use Rattle.calls.specs.declared.Call.{Call}
 use Rattle.record_bytes.specs.Fits.{Octets, FitsCall}
 use Rattle.record_bytes.specs.Parts.{uuidIn}
 use Rattle.record_bytes.proofs.PartLaws.{uuid-part}
-use Rattle.client_record.specs.declared.Client.{Client}
-use Rattle.client_record.specs.declared.TimerKind.{TimerKind}
-use Rattle.client_record.specs.declared.TimerKind.the-variants.{Wait, Ack, Cancel}
-use Rattle.client_record.specs.Rules.{sound}
+use Rattle.client.specs.declared.records.Client.{Client}
+use Rattle.client.specs.declared.records.TimerKind.{TimerKind}
+use Rattle.client.specs.declared.records.TimerKind.the-variants.{Wait, Ack, Cancel}
+use Rattle.client.specs.records.Rules.{sound}
 use Rattle.client.specs.Machine.{starting, timing}
 use Rattle.client_bytes.specs.Layout.{clientIn, clientBytes}
 use Rattle.client_bytes.specs.Fits.{FitsClient}

@@ -2,16 +2,16 @@
 use Prim.Native.Nat.{ℕ, _<_}
 use mathlib.Core.List.{List}
 use native.Mathlib.Omega.{arith}
-use Rattle.client_arrivals.specs.Rows.{received}
+use Rattle.client.specs.arrivals.Rows.{received}
 use Rattle.incoming.specs.declared.Incoming.{Incoming}
 use Rattle.outgoing.specs.declared.Outgoing.{Outgoing}
 use Rattle.timers.specs.declared.Timer.{Timer}
 use Rattle.timers.specs.declared.Timer.the-variants.{Off}
 use Rattle.timers.specs.Tickets.{nextTicket, armedAfresh, armedIfOff, ticketsIfOff}
-use Rattle.client_record.specs.declared.State.{State}
-use Rattle.client_record.specs.declared.State.the-variants.{SendFrags, AckPending}
-use Rattle.client_record.specs.declared.Client.{Client}
-use Rattle.client_record.specs.Record.{fresh, timed, waiting, sending, ackPending, unarmed, cancelArmed, cancelDisarmed, withOutgoing, withWaits, withIncoming, withResends, withCancels}
+use Rattle.client.specs.declared.records.State.{State}
+use Rattle.client.specs.declared.records.State.the-variants.{SendFrags, AckPending}
+use Rattle.client.specs.declared.records.Client.{Client}
+use Rattle.client.specs.records.Record.{fresh, timed, waiting, sending, ackPending, unarmed, cancelArmed, cancelDisarmed, withOutgoing, withWaits, withIncoming, withResends, withCancels}
 use Rattle.record_bytes.specs.Fits.{Uuid, FitsOutgoing, FitsIncoming, FitsTimer}
 use Rattle.record_bytes.proofs.Keeping.{no-message-fits, cleared-fits, next-ticket-fits, armed-fits, armed-if-off-fits, tickets-if-off-fits, blank-call-fits}
 use Rattle.client_bytes.specs.Fits.{FitsClient}

@@ -22,22 +22,22 @@ use Rattle.reader.specs.Reading.{reading}
 use Rattle.grounds.specs.Entry.{lentGround}
 use Rattle.grounds.specs.Fragment.{isLast, bodyLength}
 use Rattle.grounds.specs.Fack.{acknowledgedBy}
-use Rattle.client_record.specs.declared.State.the-variants.{Dispatched, ReceiveFrags, Complete, Fault as FaultState}
-use Rattle.client_record.specs.declared.TimerKind.{TimerKind}
-use Rattle.client_record.specs.declared.TimerKind.the-variants.{Wait, Ack, Cancel}
-use Rattle.client_record.specs.declared.Client.{Client}
-use Rattle.client_record.specs.States.{isQueued}
-use Rattle.client_record.specs.Record.{cancelArmed, withOutgoing, withWaits}
-use Rattle.client_table.specs.declared.Event.{Event}
-use Rattle.client_table.specs.declared.Event.the-variants.{Response, Fault, Reject, Working, Nocall, Fack, CancelAck, Foreign}
-use Rattle.client_table.specs.Events.{eventOf, byEvent}
-use Rattle.client_table.specs.Local.{startGround, transmitGround, timerGround, cancelGround}
-use Rattle.client_table.specs.Arrival.{arrivalGround}
-use Rattle.client_steps.specs.declared.Plan.{Plan}
-use Rattle.client_steps.specs.Plan.{refused, accepted, failed}
-use Rattle.client_steps.specs.Rows.{oneMore, nextNumber, started, startPlan, transmitted, transmitPlan, pinged, waitPlan, ackPlan, cancelTimerPlan, timerRow, timerPlan, cancelled, cancelPlan}
-use Rattle.client_arrivals.specs.Rows.{acknowledged, fackPlan, putRecord, putPlan, responsePlan, workingPlan, resent, nocallPlan, cancelAckPlan}
-use Rattle.client_arrivals.specs.Table.{arrivalRow, arrivalPlan}
+use Rattle.client.specs.declared.records.State.the-variants.{Dispatched, ReceiveFrags, Complete, Fault as FaultState}
+use Rattle.client.specs.declared.records.TimerKind.{TimerKind}
+use Rattle.client.specs.declared.records.TimerKind.the-variants.{Wait, Ack, Cancel}
+use Rattle.client.specs.declared.records.Client.{Client}
+use Rattle.client.specs.records.States.{isQueued}
+use Rattle.client.specs.records.Record.{cancelArmed, withOutgoing, withWaits}
+use Rattle.client.specs.declared.judge.Event.{Event}
+use Rattle.client.specs.declared.judge.Event.the-variants.{Response, Fault, Reject, Working, Nocall, Fack, CancelAck, Foreign}
+use Rattle.client.specs.judge.Events.{eventOf, byEvent}
+use Rattle.client.specs.judge.Local.{startGround, transmitGround, timerGround, cancelGround}
+use Rattle.client.specs.judge.Arrival.{arrivalGround}
+use Rattle.client.specs.declared.step.Plan.{Plan}
+use Rattle.client.specs.step.Plan.{refused, accepted, failed}
+use Rattle.client.specs.step.Rows.{oneMore, nextNumber, started, startPlan, transmitted, transmitPlan, pinged, waitPlan, ackPlan, cancelTimerPlan, timerRow, timerPlan, cancelled, cancelPlan}
+use Rattle.client.specs.arrivals.Rows.{acknowledged, fackPlan, putRecord, putPlan, responsePlan, workingPlan, resent, nocallPlan, cancelAckPlan}
+use Rattle.client.specs.arrivals.Table.{arrivalRow, arrivalPlan}
 use Rattle.client.specs.Machine.{outcomeOf, starting, sending, transmitting, timing, cancelling, planOf, acted, arriving}
 use Rattle.client.proofs.Judging.{CanArrive, response-can, arrival-passes}
 use Rattle.history.specs.World.{Side}

@@ -11,10 +11,10 @@ use Rattle.words.specs.Choice.{choose, both}
 use Rattle.words.proofs.Tests.{choose-true, both-hold, both-true}
 use Rattle.record_bytes.specs.Fits.{Octets, Uuid}
 use Rattle.record_bytes.specs.Parts.{uuidIn}
-use Rattle.client_record.specs.Record.{fresh as clientRecord}
+use Rattle.client.specs.records.Record.{fresh as clientRecord}
 use Rattle.client_bytes.specs.Layout.{clientIn}
 use Rattle.client_bytes.specs.Canonical.{Canonical as ClientCanonical}
-use Rattle.server_record.specs.Record.{fresh as serverRecord}
+use Rattle.server.specs.records.Record.{fresh as serverRecord}
 use Rattle.server_bytes.specs.Layout.{serverIn}
 use Rattle.server_bytes.specs.Canonical.{Canonical as ServerCanonical}
 use Rattle.history.specs.Freshness.{FreshClient, FreshServer, Fresh}

@@ -16,12 +16,12 @@ use Rattle.incoming.proofs.SlotLaws.{count-most}
 use Rattle.fragments.specs.Slots.{stretch, bytesOf, isHandedUp, handedUp}
 use Rattle.fragments.specs.Joined.{partOf, partsBelow, parts}
 use Rattle.record_bytes.proofs.Keeping.{choice-keeps}
-use Rattle.client_record.specs.Rules.{sound as clientSound}
+use Rattle.client.specs.records.Rules.{sound as clientSound}
 use Rattle.client.specs.HandUp.{handsUp as clientHandsUp}
 use Rattle.client.specs.Machine.{handedUpOf as clientHandedUp}
 use Rattle.client_bytes.specs.Layout.{clientIn}
 use Rattle.client_bytes.proofs.RoundTrip.{client-fits}
-use Rattle.server_record.specs.Rules.{sound as serverSound}
+use Rattle.server.specs.records.Rules.{sound as serverSound}
 use Rattle.server.specs.HandUp.{handsUp as serverHandsUp}
 use Rattle.server.specs.Machine.{handedUpOf as serverHandedUp}
 use Rattle.server_bytes.specs.Layout.{serverIn}

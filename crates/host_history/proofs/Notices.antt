@@ -12,23 +12,23 @@ use Rattle.calls.specs.declared.Notice.the-variants.{Nothing as Untold, Last, C
 use Rattle.flags.specs.Flags.{idempotent, hasFlag}
 use Rattle.pdu.specs.declared.Header.{Header}
 use Rattle.record_bytes.proofs.Keeping.{choice-keeps}
-use Rattle.server_record.specs.declared.Reply.{Reply as HeldReply}
-use Rattle.server_record.specs.declared.Reply.the-variants.{Data, Fault as FaultReply}
-use Rattle.server_record.specs.declared.State.{State}
-use Rattle.server_record.specs.declared.State.the-variants.{Idle as IdleState, Collect, Running, Replying, Held}
-use Rattle.server_record.specs.declared.Server.{Server}
-use Rattle.server_record.specs.Record.{unarmed, withIncoming}
-use Rattle.server_record.specs.States.{isFresh}
-use Rattle.server_rows.specs.declared.Row.{Row}
-use Rattle.server_rows.specs.declared.Row.the-variants.{Old, Missing, Repeat, Begin, Put, Working, Nocall, Replay, Acknowledge, Finish, AcceptCancel, DeclineCancel}
-use Rattle.server_rows.specs.Events.{eventOf}
-use Rattle.server_rows.specs.Rows.{orderFor, rowFor}
-use Rattle.server_rows.proofs.TableLaws.{equal-told, put-told}
-use Rattle.server_steps.specs.declared.Plan.{Plan}
-use Rattle.server_steps.specs.Plan.{refused, accepted}
-use Rattle.server_steps.specs.Rows.{replyPlan, transmitPlan, faultPlan, replayHeld, replayPlan, resendHeld, resendRow, timerRow, timerPlan}
-use Rattle.server_arrivals.specs.Rows.{begun, putState, putNotice, putPlan, requestPlan, beginPlan, workingPlan, nocallPlan, fackPlan, ackPlan, declinePlan, heardPlan, acceptPlan}
-use Rattle.server_arrivals.specs.Table.{arrivalRow, arrivalPlan}
+use Rattle.server.specs.declared.records.Reply.{Reply as HeldReply}
+use Rattle.server.specs.declared.records.Reply.the-variants.{Data, Fault as FaultReply}
+use Rattle.server.specs.declared.records.State.{State}
+use Rattle.server.specs.declared.records.State.the-variants.{Idle as IdleState, Collect, Running, Replying, Held}
+use Rattle.server.specs.declared.records.Server.{Server}
+use Rattle.server.specs.records.Record.{unarmed, withIncoming}
+use Rattle.server.specs.records.States.{isFresh}
+use Rattle.server.specs.declared.rows.Row.{Row}
+use Rattle.server.specs.declared.rows.Row.the-variants.{Old, Missing, Repeat, Begin, Put, Working, Nocall, Replay, Acknowledge, Finish, AcceptCancel, DeclineCancel}
+use Rattle.server.specs.rows.Events.{eventOf}
+use Rattle.server.specs.rows.Rows.{orderFor, rowFor}
+use Rattle.server.proofs.TableLaws.{equal-told, put-told}
+use Rattle.server.specs.declared.step.Plan.{Plan}
+use Rattle.server.specs.step.Plan.{refused, accepted}
+use Rattle.server.specs.step.Rows.{replyPlan, transmitPlan, faultPlan, replayHeld, replayPlan, resendHeld, resendRow, timerRow, timerPlan}
+use Rattle.server.specs.arrivals.Rows.{begun, putState, putNotice, putPlan, requestPlan, beginPlan, workingPlan, nocallPlan, fackPlan, ackPlan, declinePlan, heardPlan, acceptPlan}
+use Rattle.server.specs.arrivals.Table.{arrivalRow, arrivalPlan}
 use Rattle.server.specs.Machine.{outcomeOf, replying, sending, transmitting, timing, faulting, planOf, acted, arriving}
 use Rattle.history.specs.World.{World}
 use Rattle.history.specs.Events.{ServerEvent, ServerArrive, ServerTransmit, ServerTimer, Reply, Fault}

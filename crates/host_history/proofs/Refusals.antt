@@ -10,13 +10,13 @@ use Rattle.answers.specs.declared.Answer.the-variants.{Done}
 use Rattle.calls.specs.declared.Call.{Call}
 use Rattle.calls.specs.Events.{Step}
 use Rattle.record_bytes.proofs.Keeping.{choice-keeps}
-use Rattle.client_record.specs.declared.TimerKind.the-variants.{Wait, Ack, Cancel}
-use Rattle.client_record.specs.Rules.{sound as clientSound}
+use Rattle.client.specs.declared.records.TimerKind.the-variants.{Wait, Ack, Cancel}
+use Rattle.client.specs.records.Rules.{sound as clientSound}
 use Rattle.client.specs.declared.Outcome.{Outcome as ClientOutcome}
 use Rattle.client.specs.Machine.{starting, transmitting as clientTransmitting, timing as clientTiming, cancelling, arriving as clientArriving}
 use Rattle.client.proofs.Refusals.{StepUntouched as ClientUntouched, start-refused, transmit-refused as client-transmit-refused, timer-refused as client-timer-refused, cancel-refused, arrive-refused as client-arrive-refused}
 use Rattle.client_bytes.specs.Layout.{clientIn, clientBytes}
-use Rattle.server_record.specs.Rules.{sound as serverSound}
+use Rattle.server.specs.records.Rules.{sound as serverSound}
 use Rattle.server.specs.declared.Outcome.{Outcome as ServerOutcome}
 use Rattle.server.specs.Machine.{replying, transmitting as serverTransmitting, timing as serverTiming, faulting, arriving as serverArriving}
 use Rattle.server.proofs.Refusals.{StepUntouched as ServerUntouched, reply-refused, transmit-refused as server-transmit-refused, fault-refused, timer-refused as server-timer-refused, arrive-refused as server-arrive-refused}

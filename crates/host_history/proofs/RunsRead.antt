@@ -12,8 +12,8 @@ use Rattle.calls.specs.declared.Notice.{Notice}
 use Rattle.calls.specs.declared.Notice.the-variants.{Cancel}
 use Rattle.record_bytes.specs.Layout.{fieldsIn, fieldBytes}
 use Rattle.record_bytes.proofs.Keeping.{choice-keeps}
-use Rattle.server_record.specs.declared.Server.{Server}
-use Rattle.server_record.specs.Record.{withSeen}
+use Rattle.server.specs.declared.records.Server.{Server}
+use Rattle.server.specs.records.Record.{withSeen}
 use Rattle.server_bytes.specs.Canonical.{Canonical}
 use Rattle.server_bytes.specs.Layout.{stateOf, serverOf, serverIn, fieldsOf, serverBytes}
 use Rattle.server_bytes.proofs.RoundTrip.{server-again}

@@ -1,8 +1,8 @@
 -- What a host's calls make of what it keeps is what their events make of the theorem's world.
 use mathlib.Core.List.{List, [], _∷_}
 use mathlib.Core.Path.{_≡_, refl, sym, ap, subst, _∙_}
-use Rattle.client_record.specs.declared.Client.{Client}
-use Rattle.server_record.specs.declared.Server.{Server}
+use Rattle.client.specs.declared.records.Client.{Client}
+use Rattle.server.specs.declared.records.Server.{Server}
 use Rattle.history.specs.World.{World}
 use Rattle.history.specs.Events.{Event, OfClient, OfServer}
 use Rattle.history.specs.Steps.{lastStart, Turn, clientTurn, serverTurn, clientWorld, serverWorld, happens, answerTo, noticeOf, leftIn, step, run}

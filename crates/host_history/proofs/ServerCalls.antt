@@ -12,8 +12,8 @@ use Rattle.words.proofs.Tests.{choose-true}
 use Rattle.answers.specs.declared.Answer.{Answer}
 use Rattle.answers.specs.declared.Answer.the-variants.{Done}
 use Rattle.record_bytes.specs.Fits.{Octets}
-use Rattle.server_record.specs.declared.Server.{Server}
-use Rattle.server_record.specs.Rules.{sound}
+use Rattle.server.specs.declared.records.Server.{Server}
+use Rattle.server.specs.records.Rules.{sound}
 use Rattle.server.specs.Machine.{timing}
 use Rattle.server_bytes.specs.Layout.{serverIn, serverBytes}
 use Rattle.server_bytes.specs.Fits.{FitsServer}

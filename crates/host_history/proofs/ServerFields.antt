@@ -7,11 +7,11 @@ use Rattle.outgoing.specs.declared.Outgoing.{Outgoing}
 use Rattle.timers.specs.declared.Timer.{Timer}
 use Rattle.timers.specs.declared.Timer.the-variants.{Off}
 use Rattle.timers.specs.Tickets.{nextTicket, armedAfresh}
-use Rattle.server_record.specs.declared.Reply.{Reply}
-use Rattle.server_record.specs.declared.State.{State}
-use Rattle.server_record.specs.declared.State.the-variants.{Held}
-use Rattle.server_record.specs.declared.Server.{Server}
-use Rattle.server_record.specs.Record.{fresh, timed, holding, unarmed, withOutgoing, withResends, withSeen, withIncoming}
+use Rattle.server.specs.declared.records.Reply.{Reply}
+use Rattle.server.specs.declared.records.State.{State}
+use Rattle.server.specs.declared.records.State.the-variants.{Held}
+use Rattle.server.specs.declared.records.Server.{Server}
+use Rattle.server.specs.records.Record.{fresh, timed, holding, unarmed, withOutgoing, withResends, withSeen, withIncoming}
 use Rattle.record_bytes.specs.Fits.{Uuid, FitsOutgoing, FitsIncoming, FitsTimer}
 use Rattle.record_bytes.proofs.Keeping.{no-message-fits, cleared-fits, next-ticket-fits, armed-fits, blank-call-fits}
 use Rattle.server_bytes.specs.Fits.{FitsReply, FitsState, FitsServer}

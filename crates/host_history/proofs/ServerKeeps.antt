@@ -19,24 +19,24 @@ use Rattle.reader.specs.Reading.{reading}
 use Rattle.grounds.specs.Entry.{lentGround}
 use Rattle.grounds.specs.Fragment.{isLast, bodyLength}
 use Rattle.grounds.specs.Fack.{acknowledgedBy}
-use Rattle.server_record.specs.declared.Idle.the-variants.{Spent, Repeatable}
-use Rattle.server_record.specs.declared.Reply.{Reply}
-use Rattle.server_record.specs.declared.Reply.the-variants.{Data, Fault as FaultReply}
-use Rattle.server_record.specs.declared.State.{State}
-use Rattle.server_record.specs.declared.State.the-variants.{Idle as IdleState, Collect, Running, Replying, Held}
-use Rattle.server_record.specs.declared.Server.{Server}
-use Rattle.server_record.specs.Arming.{runsAgain}
-use Rattle.server_record.specs.Record.{withOutgoing, withResends}
-use Rattle.server_rows.specs.declared.Row.{Row}
-use Rattle.server_rows.specs.declared.Row.the-variants.{Old, Missing, Repeat, Begin, Put, Working, Nocall, Replay, Acknowledge, Finish, AcceptCancel, DeclineCancel}
-use Rattle.server_rows.specs.Rows.{rowFor}
-use Rattle.server_table.specs.Arrival.{arrivalGround}
-use Rattle.server_table.specs.Local.{transmitGround, timerGround, replyGround, faultGround}
-use Rattle.server_steps.specs.declared.Plan.{Plan}
-use Rattle.server_steps.specs.Plan.{refused, accepted}
-use Rattle.server_steps.specs.Rows.{answered, replyPlan, settled, transmitted, transmitPlan, faultPlan, rewinding, replayHeld, replayPlan, resendHeld, resendRow, timerRow, timerPlan}
-use Rattle.server_arrivals.specs.Rows.{callOf, begun, putState, putPlan, requestPlan, beginPlan, workingPlan, nocallPlan, fackPlan, ackPlan, declinePlan, heardPlan, acceptPlan}
-use Rattle.server_arrivals.specs.Table.{arrivalRow, arrivalPlan}
+use Rattle.server.specs.declared.records.Idle.the-variants.{Spent, Repeatable}
+use Rattle.server.specs.declared.records.Reply.{Reply}
+use Rattle.server.specs.declared.records.Reply.the-variants.{Data, Fault as FaultReply}
+use Rattle.server.specs.declared.records.State.{State}
+use Rattle.server.specs.declared.records.State.the-variants.{Idle as IdleState, Collect, Running, Replying, Held}
+use Rattle.server.specs.declared.records.Server.{Server}
+use Rattle.server.specs.records.Arming.{runsAgain}
+use Rattle.server.specs.records.Record.{withOutgoing, withResends}
+use Rattle.server.specs.declared.rows.Row.{Row}
+use Rattle.server.specs.declared.rows.Row.the-variants.{Old, Missing, Repeat, Begin, Put, Working, Nocall, Replay, Acknowledge, Finish, AcceptCancel, DeclineCancel}
+use Rattle.server.specs.rows.Rows.{rowFor}
+use Rattle.server.specs.judge.Arrival.{arrivalGround}
+use Rattle.server.specs.judge.Local.{transmitGround, timerGround, replyGround, faultGround}
+use Rattle.server.specs.declared.step.Plan.{Plan}
+use Rattle.server.specs.step.Plan.{refused, accepted}
+use Rattle.server.specs.step.Rows.{answered, replyPlan, settled, transmitted, transmitPlan, faultPlan, rewinding, replayHeld, replayPlan, resendHeld, resendRow, timerRow, timerPlan}
+use Rattle.server.specs.arrivals.Rows.{callOf, begun, putState, putPlan, requestPlan, beginPlan, workingPlan, nocallPlan, fackPlan, ackPlan, declinePlan, heardPlan, acceptPlan}
+use Rattle.server.specs.arrivals.Table.{arrivalRow, arrivalPlan}
 use Rattle.server.specs.Machine.{outcomeOf, replying, sending, transmitting, timing, faulting, planOf, acted, arriving}
 use Rattle.server.proofs.Judging.{CanArrive, begin-fits, put-fits, arrival-passes}
 use Rattle.history.specs.World.{Side}

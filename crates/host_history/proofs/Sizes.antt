@@ -13,14 +13,14 @@ use Rattle.writer.specs.Writing.{writing}
 use Rattle.calls.specs.declared.Sent.the-variants.{Nothing as Unsent, Pdu}
 use Rattle.calls.specs.Sent.{sentOf, posting}
 use Rattle.record_bytes.proofs.Keeping.{choice-by}
-use Rattle.client_record.specs.declared.Client.{Client}
-use Rattle.client_steps.specs.declared.Send.{Send as ClientSend}
-use Rattle.client_steps.specs.declared.Send.the-variants.{Nothing as NoneOfClient, Request, Ping, Ack, Fack as FackOfClient, Cancel}
+use Rattle.client.specs.declared.records.Client.{Client}
+use Rattle.client.specs.declared.step.Send.{Send as ClientSend}
+use Rattle.client.specs.declared.step.Send.the-variants.{Nothing as NoneOfClient, Request, Ping, Ack, Fack as FackOfClient, Cancel}
 use Rattle.client.specs.Sending.{sentOut as clientSent, requestSent, emptySent as clientEmpty, fackSent as clientFack, cancelSent}
 use Rattle.client.specs.Machine.{outcomeOf as clientOutcome, starting, sending as clientSending, transmitting as clientTransmitting, timing as clientTiming, cancelling, acted as clientActed, arriving as clientArriving}
-use Rattle.server_record.specs.declared.Server.{Server}
-use Rattle.server_steps.specs.declared.Send.{Send as ServerSend}
-use Rattle.server_steps.specs.declared.Send.the-variants.{Nothing as NoneOfServer, Response, Fault, Working, Nocall, Fack as FackOfServer, CancelAck}
+use Rattle.server.specs.declared.records.Server.{Server}
+use Rattle.server.specs.declared.step.Send.{Send as ServerSend}
+use Rattle.server.specs.declared.step.Send.the-variants.{Nothing as NoneOfServer, Response, Fault, Working, Nocall, Fack as FackOfServer, CancelAck}
 use Rattle.server.specs.Sending.{sentOut as serverSent, responseSent, faultSent, emptySent as serverEmpty, fackSent as serverFack, cancelAckSent}
 use Rattle.server.specs.Machine.{outcomeOf as serverOutcome, replying, sending as serverSending, transmitting as serverTransmitting, timing as serverTiming, faulting, acted as serverActed, arriving as serverArriving}
 use Rattle.history.specs.World.{Side}

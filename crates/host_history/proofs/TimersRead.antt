@@ -16,12 +16,12 @@ use Rattle.record_bytes.specs.Layout.{readable as sharedReadable, fieldsIn}
 use Rattle.record_bytes.proofs.Keeping.{choice-by}
 use Rattle.record_bytes.proofs.Reading.{mark-zero, armed-again}
 use Rattle.record_bytes.proofs.FieldsAgain.{known}
-use Rattle.client_record.specs.declared.State.{State as ClientState}
-use Rattle.client_record.specs.declared.State.the-variants.{Queued, SendFrags, Dispatched, ReceiveFrags, AckPending, Complete, Fault}
-use Rattle.client_record.specs.declared.TimerKind.the-variants.{Wait, Ack, Cancel}
+use Rattle.client.specs.declared.records.State.{State as ClientState}
+use Rattle.client.specs.declared.records.State.the-variants.{Queued, SendFrags, Dispatched, ReceiveFrags, AckPending, Complete, Fault}
+use Rattle.client.specs.declared.records.TimerKind.the-variants.{Wait, Ack, Cancel}
 use Rattle.client_bytes.specs.Layout.{stateOf as clientState, readable as clientReadable, clientOf, clientIn}
 use Rattle.client_bytes.specs.Canonical.{Canonical as ClientCanonical}
-use Rattle.server_record.specs.declared.State.{State as ServerState}
+use Rattle.server.specs.declared.records.State.{State as ServerState}
 use Rattle.server_bytes.specs.Layout.{stateOf as serverState, readable as serverReadable, serverOf, serverIn}
 use Rattle.server_bytes.specs.Canonical.{Canonical as ServerCanonical}
 use Rattle.history.specs.World.{World}

@@ -5,8 +5,8 @@ use mathlib.Core.Path.{_≡_, refl}
 use Rattle.words.proofs.Tests.{choose-false}
 use Rattle.answers.specs.declared.Answer.{Answer}
 use Rattle.answers.specs.declared.Answer.the-variants.{Done}
-use Rattle.client_record.specs.declared.Client.{Client}
-use Rattle.server_record.specs.declared.Server.{Server}
+use Rattle.client.specs.declared.records.Client.{Client}
+use Rattle.server.specs.declared.records.Server.{Server}
 use Rattle.history.specs.World.{Started, Cancelled, Side, Books, World}
 use Rattle.history.specs.Steps.{isDone, sentAfter, lastStart, dispatchesAfter, completionsAfter, heardAfter, Turn, completionEntry, dispatchEntry, heardEntry}
 use Rattle.history.proofs.Refused.{same-own}

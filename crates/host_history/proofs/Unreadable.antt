@@ -31,29 +31,29 @@ use Rattle.pdu.specs.Header.{bodyOf}
 use Rattle.reader.specs.Reading.{reading}
 use Rattle.record_bytes.specs.Layout.{outgoingIn, fieldsIn}
 use Rattle.record_bytes.proofs.Keeping.{choice-by, choice-keeps}
-use Rattle.client_record.specs.declared.Client.{Client}
-use Rattle.client_record.specs.declared.State.{State as ClientState}
-use Rattle.client_record.specs.declared.TimerKind.{TimerKind}
-use Rattle.client_record.specs.declared.TimerKind.the-variants.{Wait, Ack, Cancel}
-use Rattle.client_record.specs.Rules.{sound as clientSound}
-use Rattle.client_record.specs.States.{isSending}
-use Rattle.client_table.specs.Local.{startGround, transmitGround as clientToTransmit, timerGround as clientTimerGround, cancelGround}
-use Rattle.client_table.specs.Arrival.{arrivalGround as clientJudges}
-use Rattle.client_steps.specs.Plan.{refused as refusedClient}
-use Rattle.client_steps.specs.Rows.{startPlan, transmitPlan as clientTransmits, timerPlan as clientTimerPlan, cancelPlan}
-use Rattle.client_arrivals.specs.Table.{arrivalPlan as clientTakes}
+use Rattle.client.specs.declared.records.Client.{Client}
+use Rattle.client.specs.declared.records.State.{State as ClientState}
+use Rattle.client.specs.declared.records.TimerKind.{TimerKind}
+use Rattle.client.specs.declared.records.TimerKind.the-variants.{Wait, Ack, Cancel}
+use Rattle.client.specs.records.Rules.{sound as clientSound}
+use Rattle.client.specs.records.States.{isSending}
+use Rattle.client.specs.judge.Local.{startGround, transmitGround as clientToTransmit, timerGround as clientTimerGround, cancelGround}
+use Rattle.client.specs.judge.Arrival.{arrivalGround as clientJudges}
+use Rattle.client.specs.step.Plan.{refused as refusedClient}
+use Rattle.client.specs.step.Rows.{startPlan, transmitPlan as clientTransmits, timerPlan as clientTimerPlan, cancelPlan}
+use Rattle.client.specs.arrivals.Table.{arrivalPlan as clientTakes}
 use Rattle.client.specs.Machine.{outcomeOf as clientOutcome, starting, sending as clientSending, transmitting as clientTransmitting, timing as clientTiming, cancelling, planOf as clientPlan, acted as clientActed, arriving as clientArriving, handedUpOf as clientHandedUp}
 use Rattle.client_bytes.specs.Layout.{readable as clientReadable, stateOf as clientStateOf, clientOf, clientIn}
 use Rattle.client_bytes.proofs.RoundTrip.{unreadable-broken as client-broken}
-use Rattle.server_record.specs.declared.Server.{Server}
-use Rattle.server_record.specs.declared.State.{State as ServerState}
-use Rattle.server_record.specs.Rules.{sound as serverSound}
-use Rattle.server_record.specs.States.{isReplying}
-use Rattle.server_table.specs.Local.{transmitGround as serverToTransmit, timerGround as serverTimerGround, replyGround, faultGround}
-use Rattle.server_table.specs.Arrival.{arrivalGround as serverJudges}
-use Rattle.server_steps.specs.Plan.{refused as refusedServer}
-use Rattle.server_steps.specs.Rows.{replyPlan, transmitPlan as serverTransmits, faultPlan, timerPlan as serverTimerPlan}
-use Rattle.server_arrivals.specs.Table.{arrivalPlan as serverTakes}
+use Rattle.server.specs.declared.records.Server.{Server}
+use Rattle.server.specs.declared.records.State.{State as ServerState}
+use Rattle.server.specs.records.Rules.{sound as serverSound}
+use Rattle.server.specs.records.States.{isReplying}
+use Rattle.server.specs.judge.Local.{transmitGround as serverToTransmit, timerGround as serverTimerGround, replyGround, faultGround}
+use Rattle.server.specs.judge.Arrival.{arrivalGround as serverJudges}
+use Rattle.server.specs.step.Plan.{refused as refusedServer}
+use Rattle.server.specs.step.Rows.{replyPlan, transmitPlan as serverTransmits, faultPlan, timerPlan as serverTimerPlan}
+use Rattle.server.specs.arrivals.Table.{arrivalPlan as serverTakes}
 use Rattle.server.specs.Machine.{outcomeOf as serverOutcome, replying, sending as serverSending, transmitting as serverTransmitting, timing as serverTiming, faulting, planOf as serverPlan, acted as serverActed, arriving as serverArriving, handedUpOf as serverHandedUp}
 use Rattle.server_bytes.specs.Layout.{readable as serverReadable, stateOf as serverStateOf, serverOf, serverIn}
 use Rattle.server_bytes.proofs.RoundTrip.{unreadable-broken as server-broken}

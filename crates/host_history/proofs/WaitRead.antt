@@ -18,7 +18,7 @@ use Rattle.record_bytes.proofs.ByteLaws.{octets-drop}
 use Rattle.record_bytes.proofs.Reading.{last-again}
 use Rattle.record_bytes.proofs.SlotReading.{slots-again}
 use Rattle.record_bytes.proofs.FieldsAgain.{known}
-use Rattle.client_record.specs.declared.TimerKind.the-variants.{Wait}
+use Rattle.client.specs.declared.records.TimerKind.the-variants.{Wait}
 use Rattle.client_bytes.specs.Canonical.{Canonical}
 use Rattle.client_bytes.specs.Layout.{clientIn, clientOf}
 use Rattle.history.specs.World.{World}

@@ -16,20 +16,20 @@ use Rattle.grounds.specs.Fragment.{fragmentGround}
 use Rattle.grounds.specs.Fack.{fackCountGround}
 use Rattle.grounds.specs.Timing.{lateGround, ticketGround}
 use Rattle.record_bytes.proofs.Keeping.{choice-keeps}
-use Rattle.client_record.specs.declared.Client.{Client}
-use Rattle.client_record.specs.declared.TimerKind.{TimerKind}
-use Rattle.client_record.specs.declared.TimerKind.the-variants.{Wait, Ack, Cancel}
-use Rattle.client_record.specs.States.{isSending}
-use Rattle.client_table.specs.declared.Event.{Event as ClientEvent}
-use Rattle.client_table.specs.declared.Event.the-variants.{Response, Fault as FaultEvent, Reject, Working as WorkingEvent, Nocall as NocallEvent, Fack as FackEvent, CancelAck as CancelAckEvent, Foreign as ForeignEvent}
-use Rattle.client_table.specs.Events.{byEvent as clientByEvent, sideGround as clientSideGround}
-use Rattle.client_table.specs.Local.{startGround, transmitGround as clientToTransmit, timerGround as clientTimerGround, cancelGround}
-use Rattle.client_table.specs.Arrival.{numberGround, pduGround as clientPduGround, rowGround as clientRowGround, tableGround as clientTableGround, arrivalGround as clientJudges}
-use Rattle.client_steps.specs.declared.Plan.{Plan as ClientPlan}
-use Rattle.client_steps.specs.Plan.{refused as refusedClient, accepted as acceptedClient, failed}
-use Rattle.client_steps.proofs.PlanLaws.{start-answers, transmit-answers as client-transmit-answers, timer-answers as client-timer-answers, cancel-answers}
-use Rattle.client_arrivals.specs.Rows.{putPlan as clientPutPlan, responsePlan, workingPlan as clientWorking, nocallPlan as clientNocall, fackPlan as clientFackPlan, cancelAckPlan}
-use Rattle.client_arrivals.specs.Table.{arrivalRow as clientRow, arrivalPlan as clientTakes}
+use Rattle.client.specs.declared.records.Client.{Client}
+use Rattle.client.specs.declared.records.TimerKind.{TimerKind}
+use Rattle.client.specs.declared.records.TimerKind.the-variants.{Wait, Ack, Cancel}
+use Rattle.client.specs.records.States.{isSending}
+use Rattle.client.specs.declared.judge.Event.{Event as ClientEvent}
+use Rattle.client.specs.declared.judge.Event.the-variants.{Response, Fault as FaultEvent, Reject, Working as WorkingEvent, Nocall as NocallEvent, Fack as FackEvent, CancelAck as CancelAckEvent, Foreign as ForeignEvent}
+use Rattle.client.specs.judge.Events.{byEvent as clientByEvent, sideGround as clientSideGround}
+use Rattle.client.specs.judge.Local.{startGround, transmitGround as clientToTransmit, timerGround as clientTimerGround, cancelGround}
+use Rattle.client.specs.judge.Arrival.{numberGround, pduGround as clientPduGround, rowGround as clientRowGround, tableGround as clientTableGround, arrivalGround as clientJudges}
+use Rattle.client.specs.declared.step.Plan.{Plan as ClientPlan}
+use Rattle.client.specs.step.Plan.{refused as refusedClient, accepted as acceptedClient, failed}
+use Rattle.client.proofs.PlanLaws.{start-answers, transmit-answers as client-transmit-answers, timer-answers as client-timer-answers, cancel-answers}
+use Rattle.client.specs.arrivals.Rows.{putPlan as clientPutPlan, responsePlan, workingPlan as clientWorking, nocallPlan as clientNocall, fackPlan as clientFackPlan, cancelAckPlan}
+use Rattle.client.specs.arrivals.Table.{arrivalRow as clientRow, arrivalPlan as clientTakes}
 use Rattle.client.specs.Machine.{outcomeOf as clientOutcome, starting, sending as clientSending, transmitting as clientTransmitting, timing as clientTiming, cancelling, planOf as clientPlan, acted as clientActed, arriving as clientArriving}
 use Rattle.history.specs.World.{Side}
 use Rattle.morphelai.specs.Export.{sized}

@@ -17,27 +17,27 @@ use Rattle.grounds.specs.Fragment.{fragmentGround}
 use Rattle.grounds.specs.Fack.{fackCountGround}
 use Rattle.grounds.specs.Timing.{lateGround, ticketGround}
 use Rattle.record_bytes.proofs.Keeping.{choice-keeps}
-use Rattle.server_record.specs.declared.Reply.{Reply}
-use Rattle.server_record.specs.declared.Reply.the-variants.{Data, Fault as HeldFault}
-use Rattle.server_record.specs.declared.State.{State}
-use Rattle.server_record.specs.declared.State.the-variants.{Idle as IdleState, Collect, Running, Replying, Held}
-use Rattle.server_record.specs.declared.Server.{Server}
-use Rattle.server_record.specs.States.{isReplying}
-use Rattle.server_rows.specs.declared.Event.{Event as ServerEvent}
-use Rattle.server_rows.specs.declared.Event.the-variants.{Request, Ping, Ack as AckEvent, Cancel as CancelEvent, Fack as ServerFack, Foreign}
-use Rattle.server_rows.specs.declared.Order.{Order}
-use Rattle.server_rows.specs.declared.Order.the-variants.{Below, Equal, Newer}
-use Rattle.server_rows.specs.declared.Row.{Row}
-use Rattle.server_rows.specs.declared.Row.the-variants.{Old, Missing, Repeat, Begin, Put, Working, Nocall, Replay, Acknowledge, Finish, AcceptCancel, DeclineCancel}
-use Rattle.server_rows.specs.Rows.{rowFor}
-use Rattle.server_table.specs.Events.{byEvent as serverByEvent, sideGround as serverSideGround}
-use Rattle.server_table.specs.Local.{transmitGround as serverToTransmit, timerGround as serverTimerGround, replyGround, faultGround}
-use Rattle.server_table.specs.Arrival.{requestGround, oldGround, rowGround as serverRowGround, callGround, contradictionGround, slotGround, pduGround as serverPduGround, tableGround as serverTableGround, arrivalGround as serverJudges}
-use Rattle.server_steps.specs.declared.Plan.{Plan as ServerPlan}
-use Rattle.server_steps.specs.Plan.{refused as refusedServer, accepted as acceptedServer}
-use Rattle.server_steps.specs.Rows.{replyPlan, transmitPlan as serverTransmits, faultPlan, replayHeld, replayPlan, resendHeld, resendRow, timerRow as serverTimerRow, timerPlan as serverTimerPlan}
-use Rattle.server_arrivals.specs.Rows.{putPlan as serverPutPlan, requestPlan, beginPlan, workingPlan as serverWorking, nocallPlan as serverNocall, fackPlan as serverFackPlan, ackPlan, declinePlan, heardPlan, acceptPlan}
-use Rattle.server_arrivals.specs.Table.{arrivalRow as serverRow, arrivalPlan as serverTakes}
+use Rattle.server.specs.declared.records.Reply.{Reply}
+use Rattle.server.specs.declared.records.Reply.the-variants.{Data, Fault as HeldFault}
+use Rattle.server.specs.declared.records.State.{State}
+use Rattle.server.specs.declared.records.State.the-variants.{Idle as IdleState, Collect, Running, Replying, Held}
+use Rattle.server.specs.declared.records.Server.{Server}
+use Rattle.server.specs.records.States.{isReplying}
+use Rattle.server.specs.declared.rows.Event.{Event as ServerEvent}
+use Rattle.server.specs.declared.rows.Event.the-variants.{Request, Ping, Ack as AckEvent, Cancel as CancelEvent, Fack as ServerFack, Foreign}
+use Rattle.server.specs.declared.rows.Order.{Order}
+use Rattle.server.specs.declared.rows.Order.the-variants.{Below, Equal, Newer}
+use Rattle.server.specs.declared.rows.Row.{Row}
+use Rattle.server.specs.declared.rows.Row.the-variants.{Old, Missing, Repeat, Begin, Put, Working, Nocall, Replay, Acknowledge, Finish, AcceptCancel, DeclineCancel}
+use Rattle.server.specs.rows.Rows.{rowFor}
+use Rattle.server.specs.judge.Events.{byEvent as serverByEvent, sideGround as serverSideGround}
+use Rattle.server.specs.judge.Local.{transmitGround as serverToTransmit, timerGround as serverTimerGround, replyGround, faultGround}
+use Rattle.server.specs.judge.Arrival.{requestGround, oldGround, rowGround as serverRowGround, callGround, contradictionGround, slotGround, pduGround as serverPduGround, tableGround as serverTableGround, arrivalGround as serverJudges}
+use Rattle.server.specs.declared.step.Plan.{Plan as ServerPlan}
+use Rattle.server.specs.step.Plan.{refused as refusedServer, accepted as acceptedServer}
+use Rattle.server.specs.step.Rows.{replyPlan, transmitPlan as serverTransmits, faultPlan, replayHeld, replayPlan, resendHeld, resendRow, timerRow as serverTimerRow, timerPlan as serverTimerPlan}
+use Rattle.server.specs.arrivals.Rows.{putPlan as serverPutPlan, requestPlan, beginPlan, workingPlan as serverWorking, nocallPlan as serverNocall, fackPlan as serverFackPlan, ackPlan, declinePlan, heardPlan, acceptPlan}
+use Rattle.server.specs.arrivals.Table.{arrivalRow as serverRow, arrivalPlan as serverTakes}
 use Rattle.server.specs.Machine.{outcomeOf as serverOutcome, replying, sending as serverSending, transmitting as serverTransmitting, timing as serverTiming, faulting, planOf as serverPlan, acted as serverActed, arriving as serverArriving}
 use Rattle.history.specs.World.{Side}
 use Rattle.morphelai.specs.Export.{sized}

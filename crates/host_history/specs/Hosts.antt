@@ -4,9 +4,9 @@
 use Prim.Native.Nat.{ℕ}
 use mathlib.Core.List.{List, [], _∷_}
 use lib.Dec.{eqb}
-use Rattle.client_record.specs.declared.Client.{Client}
+use Rattle.client.specs.declared.records.Client.{Client}
 use Rattle.client_bytes.specs.Layout.{clientIn}
-use Rattle.server_record.specs.declared.Server.{Server}
+use Rattle.server.specs.declared.records.Server.{Server}
 use Rattle.server_bytes.specs.Layout.{serverIn}
 use Rattle.answers.specs.declared.Answer.{Answer}
 use Rattle.calls.specs.declared.Call.{Call}

@@ -7,7 +7,7 @@ use lib.Dec.{eqb, leb}
 use lib.ListN.{length}
 use Rattle.words.specs.Choice.{choose, both}
 use Rattle.answers.specs.declared.Answer.the-variants.{Done}
-use Rattle.client_record.specs.declared.TimerKind.the-variants.{Wait, Ack, Cancel}
+use Rattle.client.specs.declared.records.TimerKind.the-variants.{Wait, Ack, Cancel}
 use Rattle.record_bytes.specs.Fits.{Octets}
 use Rattle.client_bytes.specs.Canonical.{Canonical as ClientCanonical}
 use Rattle.server_bytes.specs.Canonical.{Canonical as ServerCanonical}

@@ -13,10 +13,10 @@ use Rattle.calls.specs.declared.Call.{Call}
 use Rattle.calls.specs.declared.Notice.{Notice}
 use Rattle.record_bytes.specs.Fits.{Uuid, FitsCall}
 use Rattle.record_bytes.proofs.PartLaws.{mark-back, mark-readable, mark-small}
-use Rattle.client_record.specs.declared.State.{State as ClientState}
-use Rattle.client_record.specs.declared.TimerKind.the-variants.{Wait, Ack, Cancel}
+use Rattle.client.specs.declared.records.State.{State as ClientState}
+use Rattle.client.specs.declared.records.TimerKind.the-variants.{Wait, Ack, Cancel}
 use Rattle.timers.specs.declared.Timer.{Timer}
-use Rattle.server_record.specs.declared.State.{State as ServerState}
+use Rattle.server.specs.declared.records.State.{State as ServerState}
 use Rattle.history.specs.World.{Dispatched, Completed, Cancelled, Heard, SentPdu, World}
 use Rattle.history.specs.Events.{Event, Start, ClientTransmit, ClientArrive, ClientTimer, ClientCancel, ServerArrive, ServerTransmit, ServerTimer, Reply, Fault, OfClient, OfServer}
 use Rattle.history.specs.Steps.{step, run}

@@ -12,7 +12,7 @@ use Rattle.calls.specs.Sent.{sentHeader}
 use Rattle.outgoing.specs.Message.{fragmentOf, flagsOf}
 use Rattle.record_bytes.specs.Fits.{Octets, FitsCall}
 use Rattle.record_bytes.proofs.Keeping.{choice-keeps}
-use Rattle.client_record.specs.declared.TimerKind.the-variants.{Wait}
+use Rattle.client.specs.declared.records.TimerKind.the-variants.{Wait}
 use Rattle.history.specs.Events.{Event, Own, ClientTransmit, ClientTimer, ServerTransmit, OfClient, OfServer}
 use Rattle.history.proofs.ListLaws.{All}
 use Rattle.host_history.specs.Arguments.{EventFits}

@@ -11,7 +11,7 @@ use Rattle.bodies.specs.Status.{statusBytes}
 use Rattle.calls.specs.Sent.{sentHeader}
 use Rattle.record_bytes.specs.Fits.{Octets}
 use Rattle.record_bytes.proofs.ByteLaws.{octets-joined, octets-three, octets-digits}
-use Rattle.client_record.specs.declared.TimerKind.the-variants.{Cancel}
+use Rattle.client.specs.declared.records.TimerKind.the-variants.{Cancel}
 use Rattle.history.specs.Events.{Own, ClientTimer, OfClient}
 use Rattle.history.proofs.ListLaws.{All}
 use Rattle.host_history.specs.Arguments.{EventFits}

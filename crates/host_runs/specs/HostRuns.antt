@@ -6,7 +6,7 @@ use mathlib.Core.Path.{_≡_}
 use Rattle.words.specs.Choice.{markOf}
 use Rattle.answers.specs.Number.{numberOf}
 use Rattle.calls.specs.declared.Notice.{Notice}
-use Rattle.client_record.specs.declared.TimerKind.the-variants.{Wait, Ack, Cancel}
+use Rattle.client.specs.declared.records.TimerKind.the-variants.{Wait, Ack, Cancel}
 use Rattle.history.specs.World.{Dispatched, Completed, Cancelled, Heard, SentPdu}
 use Rattle.history.specs.Events.{ClientEvent, ServerEvent, Event, Start, ClientTransmit as TransmitOfClient, ClientArrive as ArriveOfClient, ClientTimer as TimerOfClient, ClientCancel as CancelOfClient, ServerArrive as ArriveOfServer, ServerTransmit as TransmitOfServer, ServerTimer as TimerOfServer, Reply, Fault, OfClient, OfServer}
 use Rattle.morphelai.specs.ClientDoor.{clientFresh}

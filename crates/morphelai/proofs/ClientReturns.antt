@@ -12,11 +12,11 @@ use Rattle.words.proofs.Tests.{choose-true, choose-false}
 use Rattle.calls.specs.declared.Call.{Call}
 use Rattle.calls.specs.Events.{Stepped, Arrived}
 use Rattle.record_bytes.specs.Parts.{uuidIn}
-use Rattle.client_record.specs.declared.Client.{Client}
-use Rattle.client_record.specs.declared.TimerKind.the-variants.{Wait, Ack, Cancel}
-use Rattle.client_record.specs.declared.TimerKind.{TimerKind}
-use Rattle.client_record.specs.Record.{fresh}
-use Rattle.client_record.specs.Rules.{sound}
+use Rattle.client.specs.declared.records.Client.{Client}
+use Rattle.client.specs.declared.records.TimerKind.the-variants.{Wait, Ack, Cancel}
+use Rattle.client.specs.declared.records.TimerKind.{TimerKind}
+use Rattle.client.specs.records.Record.{fresh}
+use Rattle.client.specs.records.Rules.{sound}
 use Rattle.client.specs.declared.Outcome.{Outcome}
 use Rattle.client.specs.Machine.{starting, transmitting, timing, cancelling, arriving, handedUpOf}
 use Rattle.client_bytes.specs.Layout.{clientIn, clientBytes}

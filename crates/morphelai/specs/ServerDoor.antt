@@ -8,9 +8,9 @@ use Rattle.words.specs.Choice.{choose, both}
 use Rattle.words.specs.Place.{placed}
 use Rattle.calls.specs.Events.{Step, Arrival}
 use Rattle.record_bytes.specs.Parts.{uuidIn}
-use Rattle.server_record.specs.declared.Server.{Server}
-use Rattle.server_record.specs.Record.{fresh}
-use Rattle.server_record.specs.Rules.{sound}
+use Rattle.server.specs.declared.records.Server.{Server}
+use Rattle.server.specs.records.Record.{fresh}
+use Rattle.server.specs.records.Rules.{sound}
 use Rattle.server.specs.declared.Outcome.{Outcome}
 use Rattle.server.specs.Machine.{replying, transmitting, timing, faulting, arriving, handedUpOf}
 use Rattle.server_bytes.specs.Layout.{serverIn, serverBytes}

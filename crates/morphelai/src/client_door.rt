@@ -1,8 +1,8 @@
 // The client's exported functions.
 use calls::Call;
 use client::Outcome;
-use client_record::Client;
-use client_record::TimerKind;
+use client::Client;
+use client::TimerKind;
 ghost use mathlib.Core.Path.{_≡_};
 ghost use mathlib.Core.List.{[]};
 ghost use Rattle.client.specs.Machine.{timing};
@@ -40,7 +40,7 @@ pub extern "C" fn morphelai_client_fresh(bytes: &mut [u8], activity: &[u8], tick
         ⌝ }
 {
     if words::both(bytes.len() == record_bytes::SIZE, activity.len() == 16) {
-        let fresh = client_record::fresh(record_bytes::uuid(activity, 0), tickets);
+        let fresh = client::fresh(record_bytes::uuid(activity, 0), tickets);
         client_bytes::encode(fresh, bytes);
         return 0;
     }
@@ -175,7 +175,7 @@ pub extern "C" fn morphelai_client_timer(
     if kind == 4 {
         return run_out(c, TimerKind::Cancel, ticket, bytes, out);
     }
-    crate::result::other_timer(client_record::is_sound(c), out.len())
+    crate::result::other_timer(client::is_sound(c), out.len())
 }
 
 // Local cancel: the client's user asks that the call be stopped; the call goes on.

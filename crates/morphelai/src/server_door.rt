@@ -41,7 +41,7 @@ pub extern "C" fn morphelai_server_fresh(
         ⌝ }
 {
     if words::both(bytes.len() == record_bytes::SIZE, activity.len() == 16) {
-        let fresh = server_record::fresh(record_bytes::uuid(activity, 0), boot, tickets);
+        let fresh = server::fresh(record_bytes::uuid(activity, 0), boot, tickets);
         server_bytes::encode(fresh, bytes);
         return 0;
     }
@@ -107,7 +107,7 @@ pub extern "C" fn morphelai_server_timer(
         keep(o, bytes);
         return given(o);
     }
-    crate::result::other_timer(server_record::is_sound(s), out.len())
+    crate::result::other_timer(server::is_sound(s), out.len())
 }
 
 // Reply: a message of this length for the call that is running.

@@ -11,21 +11,21 @@ use Rattle.outgoing.specs.Sending
 use Rattle.timers.specs.Tickets
 use Rattle.grounds.specs.Order
 use Rattle.grounds.specs.Timing
-use Rattle.client_record.specs.States as ClientStates
-use Rattle.client_record.specs.Rules as ClientRules
-use Rattle.client_record.specs.Record as ClientRecord
-use Rattle.client_record.specs.Arming as ClientArming
-use Rattle.client_table.specs.Local as ClientLocal
-use Rattle.client_steps.specs.Plan as ClientPlan
-use Rattle.client_steps.specs.Rows as ClientRows
+use Rattle.client.specs.records.States as ClientStates
+use Rattle.client.specs.records.Rules as ClientRules
+use Rattle.client.specs.records.Record as ClientRecord
+use Rattle.client.specs.records.Arming as ClientArming
+use Rattle.client.specs.judge.Local as ClientLocal
+use Rattle.client.specs.step.Plan as ClientPlan
+use Rattle.client.specs.step.Rows as ClientRows
 use Rattle.client.specs.Machine as ClientMachine
-use Rattle.server_record.specs.States as ServerStates
-use Rattle.server_record.specs.Rules as ServerRules
-use Rattle.server_record.specs.Record as ServerRecord
-use Rattle.server_record.specs.Arming as ServerArming
-use Rattle.server_table.specs.Local as ServerLocal
-use Rattle.server_steps.specs.Plan as ServerPlan
-use Rattle.server_steps.specs.Rows as ServerRows
+use Rattle.server.specs.records.States as ServerStates
+use Rattle.server.specs.records.Rules as ServerRules
+use Rattle.server.specs.records.Record as ServerRecord
+use Rattle.server.specs.records.Arming as ServerArming
+use Rattle.server.specs.judge.Local as ServerLocal
+use Rattle.server.specs.step.Plan as ServerPlan
+use Rattle.server.specs.step.Rows as ServerRows
 use Rattle.server.specs.Machine as ServerMachine
 
 -- Tests, messages and timers.

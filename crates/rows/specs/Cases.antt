@@ -9,7 +9,7 @@ use Rattle.facks.specs.Mask.{lastContiguous, maskOf}
 use Rattle.outgoing.specs.Message.{fragments}
 use Rattle.outgoing.specs.Sending.{nextSerial}
 use Rattle.calls.specs.Sent.{blankCall}
-use Rattle.client_record.specs.declared.TimerKind.the-variants.{Wait, Ack, Cancel}
+use Rattle.client.specs.declared.records.TimerKind.the-variants.{Wait, Ack, Cancel}
 use Rattle.client.specs.Machine.{starting, timing as clientTiming}
 use Rattle.server.specs.Machine.{replying, timing as serverTiming}
 use Rattle.rows.specs.Datagrams.{zeros}

@@ -8,13 +8,13 @@ use Rattle.incoming.specs.Slots.{cleared, stored}
 use Rattle.outgoing.specs.declared.Outgoing.{Outgoing}
 use Rattle.outgoing.specs.Sending.{started, afterSend}
 use Rattle.timers.specs.declared.Timer.the-variants.{Off, Armed}
-use Rattle.client_record.specs.declared.Client.{Client}
-use Rattle.client_record.specs.declared.State.the-variants.{SendFrags, Dispatched, AckPending}
-use Rattle.client_record.specs.Record.{fresh as freshClient, timed as timedClient, withOutgoing as clientWith}
-use Rattle.server_record.specs.declared.Server.{Server}
-use Rattle.server_record.specs.declared.Reply.the-variants.{Data}
-use Rattle.server_record.specs.declared.State.the-variants.{Running, Held}
-use Rattle.server_record.specs.Record.{fresh as freshServer, timed as timedServer, unarmed, withOutgoing as serverWith}
+use Rattle.client.specs.declared.records.Client.{Client}
+use Rattle.client.specs.declared.records.State.the-variants.{SendFrags, Dispatched, AckPending}
+use Rattle.client.specs.records.Record.{fresh as freshClient, timed as timedClient, withOutgoing as clientWith}
+use Rattle.server.specs.declared.records.Server.{Server}
+use Rattle.server.specs.declared.records.Reply.the-variants.{Data}
+use Rattle.server.specs.declared.records.State.the-variants.{Running, Held}
+use Rattle.server.specs.records.Record.{fresh as freshServer, timed as timedServer, unarmed, withOutgoing as serverWith}
 use Rattle.rows.specs.Datagrams.{zeros}
 
 -- A message received of which these fragments are held, 1,392 bytes each, and no last is known.

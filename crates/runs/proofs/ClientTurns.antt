@@ -14,11 +14,11 @@ use Rattle.outgoing.specs.Message.{fragmentOf}
 use Rattle.outgoing.proofs.OutgoingLaws.{fragment-most}
 use Rattle.fragments.specs.Slots.{storing}
 use Rattle.grounds.specs.Entry.{lentGround}
-use Rattle.client_record.specs.declared.Client.{Client}
-use Rattle.client_record.specs.declared.TimerKind.{TimerKind}
-use Rattle.client_table.specs.Local.{transmitGround, timerGround, cancelGround}
-use Rattle.client_steps.specs.declared.Plan.{Plan}
-use Rattle.client_steps.specs.Rows.{transmitPlan, timerPlan, cancelPlan}
+use Rattle.client.specs.declared.records.Client.{Client}
+use Rattle.client.specs.declared.records.TimerKind.{TimerKind}
+use Rattle.client.specs.judge.Local.{transmitGround, timerGround, cancelGround}
+use Rattle.client.specs.declared.step.Plan.{Plan}
+use Rattle.client.specs.step.Rows.{transmitPlan, timerPlan, cancelPlan}
 use Rattle.client.specs.Machine.{outcomeOf, sending, transmitting, timing, cancelling, planOf, acted, arriving}
 use Rattle.calls.specs.declared.Sent.the-variants.{Nothing as Unsent}
 use Rattle.history.specs.World.{Cancelled, World}

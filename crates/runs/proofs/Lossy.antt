@@ -21,16 +21,16 @@ use Rattle.outgoing.specs.Message.{fragmentOf, flagsOf}
 use Rattle.outgoing.proofs.OutgoingLaws.{fragment-most}
 use Rattle.timers.specs.declared.Timer.{Timer}
 use Rattle.timers.specs.declared.Timer.the-variants.{Off, Armed}
-use Rattle.client_record.specs.declared.State.{State as ClientState}
-use Rattle.client_record.specs.declared.State.the-variants.{SendFrags, Dispatched, ReceiveFrags, AckPending, Complete}
-use Rattle.client_record.specs.declared.TimerKind.the-variants.{Wait, Ack}
+use Rattle.client.specs.declared.records.State.{State as ClientState}
+use Rattle.client.specs.declared.records.State.the-variants.{SendFrags, Dispatched, ReceiveFrags, AckPending, Complete}
+use Rattle.client.specs.declared.records.TimerKind.the-variants.{Wait, Ack}
 use Rattle.client.specs.HandUp.{handsUp as clientHandsUp}
 use Rattle.client.proofs.Growing.{hands-joined}
-use Rattle.server_record.specs.declared.Idle.the-variants.{Spent}
-use Rattle.server_record.specs.declared.Reply.the-variants.{Data}
-use Rattle.server_record.specs.declared.State.{State as ServerState}
-use Rattle.server_record.specs.declared.State.the-variants.{Idle, Collect, Running, Replying, Held}
-use Rattle.server_record.specs.Rules.{sound as serverSound}
+use Rattle.server.specs.declared.records.Idle.the-variants.{Spent}
+use Rattle.server.specs.declared.records.Reply.the-variants.{Data}
+use Rattle.server.specs.declared.records.State.{State as ServerState}
+use Rattle.server.specs.declared.records.State.the-variants.{Idle, Collect, Running, Replying, Held}
+use Rattle.server.specs.records.Rules.{sound as serverSound}
 use Rattle.server.specs.HandUp.{handsUp as serverHandsUp}
 use Rattle.history.specs.Fairness.{Typed}
 use Rattle.runs.specs.Runs.{before, activity, called, asked, askedAgain, answered, answeredAgain, closed, lossy, lossyNotices, lossyClientPdus, lossyServerPdus, untold}
@@ -41,8 +41,8 @@ use Rattle.runs.proofs.Stories.{Plays, told, came, over, then, refused,
 use Rattle.runs.proofs.Fragments.{kept, put}
 use Rattle.runs.proofs.ClientTurns.{client-transmits, client-times, client-arrives}
 use Rattle.runs.proofs.ServerTurns.{server-transmits, server-times, server-arrives}
-use Rattle.client_record.specs.declared.Client.{Client}
-use Rattle.server_record.specs.declared.Server.{Server}
+use Rattle.client.specs.declared.records.Client.{Client}
+use Rattle.server.specs.declared.records.Server.{Server}
 use Rattle.history.specs.World.{SentPdu, Side, Books}
 use Rattle.runs.proofs.Sides.{onBooks, world, held, holds, nothing, sends, clientIn, serverIn}
 

@@ -7,10 +7,10 @@ use lib.ListN.{length, length-replicate}
 use Rattle.words.specs.Sizes.{pduSize, slotsSize}
 use Rattle.calls.specs.declared.Notice.{Notice}
 use Rattle.timers.specs.declared.Timer.the-variants.{Off, Armed}
-use Rattle.client_record.specs.declared.State.the-variants.{AckPending, Complete, Fault}
-use Rattle.server_record.specs.declared.Idle.the-variants.{Spent, Repeatable}
-use Rattle.server_record.specs.declared.Reply.the-variants.{Data, Fault as FaultReply}
-use Rattle.server_record.specs.declared.State.the-variants.{Idle, Running, Held}
+use Rattle.client.specs.declared.records.State.the-variants.{AckPending, Complete, Fault}
+use Rattle.server.specs.declared.records.Idle.the-variants.{Spent, Repeatable}
+use Rattle.server.specs.declared.records.Reply.the-variants.{Data, Fault as FaultReply}
+use Rattle.server.specs.declared.records.State.the-variants.{Idle, Running, Held}
 use Rattle.history.specs.World.{World}
 use Rattle.history.specs.Freshness.{Fresh}
 use Rattle.history.specs.Replies.{replyHandedUp}

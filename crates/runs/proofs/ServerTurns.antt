@@ -13,10 +13,10 @@ use Rattle.pdu.specs.Header.{datagram, blank}
 use Rattle.reader.specs.declared.Reading.{Reading}
 use Rattle.writer.proofs.RoundTrip.{accepted, read-written, body-written}
 use Rattle.grounds.specs.Entry.{lentGround}
-use Rattle.server_record.specs.declared.Server.{Server}
-use Rattle.server_table.specs.Local.{transmitGround, timerGround, faultGround}
-use Rattle.server_steps.specs.declared.Plan.{Plan}
-use Rattle.server_steps.specs.Rows.{transmitPlan, faultPlan, timerPlan}
+use Rattle.server.specs.declared.records.Server.{Server}
+use Rattle.server.specs.judge.Local.{transmitGround, timerGround, faultGround}
+use Rattle.server.specs.declared.step.Plan.{Plan}
+use Rattle.server.specs.step.Rows.{transmitPlan, faultPlan, timerPlan}
 use Rattle.server.specs.Sending.{echoed}
 use Rattle.server.specs.Machine.{outcomeOf, sending, transmitting, timing, faulting, planOf, acted, arriving}
 use Rattle.outgoing.specs.Message.{fragmentOf}

@@ -12,10 +12,10 @@ use Rattle.incoming.specs.Slots.{missing}
 use Rattle.outgoing.specs.declared.Outgoing.{Outgoing}
 use Rattle.timers.specs.declared.Timer.{Timer}
 use Rattle.timers.specs.declared.Timer.the-variants.{Off}
-use Rattle.client_record.specs.declared.Client.{Client}
-use Rattle.client_record.specs.declared.State.{State as ClientState}
-use Rattle.server_record.specs.declared.Server.{Server}
-use Rattle.server_record.specs.declared.State.{State as ServerState}
+use Rattle.client.specs.declared.records.Client.{Client}
+use Rattle.client.specs.declared.records.State.{State as ClientState}
+use Rattle.server.specs.declared.records.Server.{Server}
+use Rattle.server.specs.declared.records.State.{State as ServerState}
 use Rattle.history.specs.World.{World, Started, Dispatched, Replied, Completed, Cancelled, Heard, Side, Books}
 use Rattle.runs.specs.Runs.{activity}
 

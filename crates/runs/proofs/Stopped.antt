@@ -21,17 +21,17 @@ use Rattle.fragments.proofs.PutLaws.{filled-length}
 use Rattle.outgoing.specs.Message.{fragmentOf}
 use Rattle.timers.specs.declared.Timer.{Timer}
 use Rattle.timers.specs.declared.Timer.the-variants.{Off, Armed}
-use Rattle.client_record.specs.declared.Client.{Client}
-use Rattle.client_record.specs.declared.State.{State as ClientState}
-use Rattle.client_record.specs.declared.State.the-variants.{SendFrags, Dispatched, Fault as FaultState}
-use Rattle.client_record.specs.declared.TimerKind.the-variants.{Wait, Cancel}
+use Rattle.client.specs.declared.records.Client.{Client}
+use Rattle.client.specs.declared.records.State.{State as ClientState}
+use Rattle.client.specs.declared.records.State.the-variants.{SendFrags, Dispatched, Fault as FaultState}
+use Rattle.client.specs.declared.records.TimerKind.the-variants.{Wait, Cancel}
 use Rattle.client.specs.HandUp.{handsUp as clientHandsUp}
 use Rattle.client.proofs.Growing.{hands-joined}
-use Rattle.server_record.specs.declared.Reply.the-variants.{Fault as FaultReply}
-use Rattle.server_record.specs.declared.Server.{Server}
-use Rattle.server_record.specs.declared.State.{State as ServerState}
-use Rattle.server_record.specs.declared.State.the-variants.{Running, Held}
-use Rattle.server_record.specs.Rules.{sound as serverSound}
+use Rattle.server.specs.declared.records.Reply.the-variants.{Fault as FaultReply}
+use Rattle.server.specs.declared.records.Server.{Server}
+use Rattle.server.specs.declared.records.State.{State as ServerState}
+use Rattle.server.specs.declared.records.State.the-variants.{Running, Held}
+use Rattle.server.specs.records.Rules.{sound as serverSound}
 use Rattle.server.specs.HandUp.{handsUp as serverHandsUp}
 use Rattle.history.specs.World.{Heard, SentPdu, Side, Books}
 use Rattle.history.specs.Fairness.{Typed}

@@ -10,7 +10,7 @@ use Rattle.bodies.specs.Status.{statusBytes}
 use Rattle.calls.specs.declared.Notice.{Notice}
 use Rattle.calls.specs.declared.Notice.the-variants.{Nothing as Untold, Dispatch, Cancel as CancelTold, Fault as FaultTold, Cause}
 use Rattle.calls.specs.Sent.{sentHeader}
-use Rattle.client_record.specs.declared.TimerKind.the-variants.{Wait, Cancel}
+use Rattle.client.specs.declared.records.TimerKind.the-variants.{Wait, Cancel}
 use Rattle.history.specs.World.{Cancelled, Heard, SentPdu}
 use Rattle.history.specs.Events.{Own, Start, ClientTransmit, ClientTimer, ClientCancel, Fault, OfClient, OfServer}
 use Rattle.runs.specs.Runs.{Story, untold, ofStart, activity, clientGets, serverGets, called, question}

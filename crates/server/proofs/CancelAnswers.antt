@@ -28,23 +28,23 @@ use Rattle.grounds.specs.Entry.{same, lentGround, entryGround}
 use Rattle.grounds.specs.Fragment.{bodyLength}
 use Rattle.grounds.specs.Cancel.{cancelBodyGround}
 use Rattle.grounds.proofs.PassLaws.{first-passes, answer-passes}
-use Rattle.server_record.specs.declared.State.{State}
-use Rattle.server_record.specs.declared.State.the-variants.{Idle as IdleState, Collect, Running, Replying, Held}
-use Rattle.server_record.specs.declared.Server.{Server}
-use Rattle.server_record.specs.States.{isFresh, isIdle, isRunning}
-use Rattle.server_record.specs.Rules.{sound}
-use Rattle.server_rows.specs.declared.Order.{Order}
-use Rattle.server_rows.specs.declared.Order.the-variants.{Equal, Newer}
-use Rattle.server_rows.specs.declared.Row.{Row}
-use Rattle.server_rows.specs.declared.Row.the-variants.{Old, Missing, AcceptCancel, DeclineCancel}
-use Rattle.server_rows.specs.Events.{clientEvent, eventOf}
-use Rattle.server_rows.specs.Table.{orderOf, cancelEqual, cancelRow, rowOf}
-use Rattle.server_rows.specs.Rows.{orderFor, rowFor}
-use Rattle.server_rows.proofs.TableLaws.{newer-ordered, equal-ordered, below-ordered}
-use Rattle.server_table.specs.Events.{byEvent, sideGround}
-use Rattle.server_table.specs.Arrival.{oldGround, rowGround, pduGround, tableGround, arrivalGround}
-use Rattle.server_steps.specs.Plan.{refused}
-use Rattle.server_arrivals.specs.Table.{arrivalPlan}
+use Rattle.server.specs.declared.records.State.{State}
+use Rattle.server.specs.declared.records.State.the-variants.{Idle as IdleState, Collect, Running, Replying, Held}
+use Rattle.server.specs.declared.records.Server.{Server}
+use Rattle.server.specs.records.States.{isFresh, isIdle, isRunning}
+use Rattle.server.specs.records.Rules.{sound}
+use Rattle.server.specs.declared.rows.Order.{Order}
+use Rattle.server.specs.declared.rows.Order.the-variants.{Equal, Newer}
+use Rattle.server.specs.declared.rows.Row.{Row}
+use Rattle.server.specs.declared.rows.Row.the-variants.{Old, Missing, AcceptCancel, DeclineCancel}
+use Rattle.server.specs.rows.Events.{clientEvent, eventOf}
+use Rattle.server.specs.rows.Table.{orderOf, cancelEqual, cancelRow, rowOf}
+use Rattle.server.specs.rows.Rows.{orderFor, rowFor}
+use Rattle.server.proofs.TableLaws.{newer-ordered, equal-ordered, below-ordered}
+use Rattle.server.specs.judge.Events.{byEvent, sideGround}
+use Rattle.server.specs.judge.Arrival.{oldGround, rowGround, pduGround, tableGround, arrivalGround}
+use Rattle.server.specs.step.Plan.{refused}
+use Rattle.server.specs.arrivals.Table.{arrivalPlan}
 use Rattle.server.specs.Machine.{outcomeOf, sending, planOf, acted, arriving}
 
 -- A cancel comes: the record keeps its rules, the buffers lent have their lengths, and the reader takes the datagram as a

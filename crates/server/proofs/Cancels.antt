@@ -28,25 +28,25 @@ use Rattle.reader.specs.Reading.{reading}
 use Rattle.writer.proofs.RoundTrip.{Fits, read-written, body-written}
 use Rattle.grounds.specs.Entry.{lentGround}
 use Rattle.grounds.specs.Fragment.{bodyLength}
-use Rattle.server_record.specs.declared.State.{State}
-use Rattle.server_record.specs.declared.State.the-variants.{Idle as IdleState, Collect, Running, Replying, Held}
-use Rattle.server_record.specs.declared.Server.{Server}
-use Rattle.server_record.specs.Record.{withSeen}
-use Rattle.server_record.specs.States.{isIdle, isRunning}
-use Rattle.server_rows.specs.declared.Order.{Order}
-use Rattle.server_rows.specs.declared.Order.the-variants.{Below, Equal, Newer}
-use Rattle.server_rows.specs.declared.Row.{Row}
-use Rattle.server_rows.specs.declared.Row.the-variants.{AcceptCancel, DeclineCancel}
-use Rattle.server_rows.specs.Table.{cancelEqual, cancelRow}
-use Rattle.server_rows.specs.Rows.{orderFor, rowFor}
-use Rattle.server_table.specs.Arrival.{arrivalGround}
-use Rattle.server_steps.specs.declared.Plan.{Plan}
-use Rattle.server_steps.specs.declared.Send.{Send}
-use Rattle.server_steps.specs.declared.Send.the-variants.{CancelAck}
-use Rattle.server_steps.specs.Plan.{accepted, refused}
-use Rattle.server_arrivals.specs.Rows.{declinePlan, heardPlan, acceptPlan}
-use Rattle.server_arrivals.specs.Table.{arrivalRow, arrivalPlan}
-use Rattle.server_arrivals.proofs.CancelLaws.{above-heard, seen-unheard, heard-or-not}
+use Rattle.server.specs.declared.records.State.{State}
+use Rattle.server.specs.declared.records.State.the-variants.{Idle as IdleState, Collect, Running, Replying, Held}
+use Rattle.server.specs.declared.records.Server.{Server}
+use Rattle.server.specs.records.Record.{withSeen}
+use Rattle.server.specs.records.States.{isIdle, isRunning}
+use Rattle.server.specs.declared.rows.Order.{Order}
+use Rattle.server.specs.declared.rows.Order.the-variants.{Below, Equal, Newer}
+use Rattle.server.specs.declared.rows.Row.{Row}
+use Rattle.server.specs.declared.rows.Row.the-variants.{AcceptCancel, DeclineCancel}
+use Rattle.server.specs.rows.Table.{cancelEqual, cancelRow}
+use Rattle.server.specs.rows.Rows.{orderFor, rowFor}
+use Rattle.server.specs.judge.Arrival.{arrivalGround}
+use Rattle.server.specs.declared.step.Plan.{Plan}
+use Rattle.server.specs.declared.step.Send.{Send}
+use Rattle.server.specs.declared.step.Send.the-variants.{CancelAck}
+use Rattle.server.specs.step.Plan.{accepted, refused}
+use Rattle.server.specs.arrivals.Rows.{declinePlan, heardPlan, acceptPlan}
+use Rattle.server.specs.arrivals.Table.{arrivalRow, arrivalPlan}
+use Rattle.server.proofs.CancelLaws.{above-heard, seen-unheard, heard-or-not}
 use Rattle.server.specs.Sending.{echoed, echoHeader, sentOut}
 use Rattle.server.specs.Machine.{outcomeOf, sending, planOf, acted, arriving}
 use Rattle.server.proofs.CancelAnswers.{CancelComes, WellFormed, cancelNumber, formed-read, cancel-row, taken-formed, own-cancel-row, own-cancel-passes}

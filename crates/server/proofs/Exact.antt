@@ -33,21 +33,21 @@ use Rattle.grounds.specs.Entry.{lentGround}
 use Rattle.grounds.specs.Fragment.{isLast, bodyLength}
 use Rattle.grounds.specs.Fack.{acknowledgedBy}
 use Rattle.grounds.proofs.GroundLaws.{lent-passes, body-length}
-use Rattle.server_record.specs.declared.Server.{Server}
-use Rattle.server_record.specs.Rules.{sound}
-use Rattle.server_record.specs.Record.{unarmed, withOutgoing}
-use Rattle.server_record.proofs.RuleLaws.{rules-told, count-most}
-use Rattle.server_rows.specs.declared.Row.{Row}
-use Rattle.server_rows.specs.declared.Row.the-variants.{Begin, Put, Acknowledge}
-use Rattle.server_rows.specs.Events.{eventOf}
-use Rattle.server_rows.specs.Rows.{rowFor}
-use Rattle.server_steps.specs.declared.Plan.{Plan}
-use Rattle.server_steps.specs.Plan.{accepted}
-use Rattle.server_steps.specs.Rows.{answered, replyPlan, transmitPlan}
-use Rattle.server_steps.proofs.StepLaws.{transmitted-one-more}
-use Rattle.server_arrivals.specs.Rows.{putPlan, requestPlan, beginPlan, fackPlan}
-use Rattle.server_arrivals.specs.Table.{arrivalRow}
-use Rattle.server_arrivals.proofs.ArrivalLaws.{put-held, begin-held}
+use Rattle.server.specs.declared.records.Server.{Server}
+use Rattle.server.specs.records.Rules.{sound}
+use Rattle.server.specs.records.Record.{unarmed, withOutgoing}
+use Rattle.server.proofs.RuleLaws.{rules-told, count-most}
+use Rattle.server.specs.declared.rows.Row.{Row}
+use Rattle.server.specs.declared.rows.Row.the-variants.{Begin, Put, Acknowledge}
+use Rattle.server.specs.rows.Events.{eventOf}
+use Rattle.server.specs.rows.Rows.{rowFor}
+use Rattle.server.specs.declared.step.Plan.{Plan}
+use Rattle.server.specs.step.Plan.{accepted}
+use Rattle.server.specs.step.Rows.{answered, replyPlan, transmitPlan}
+use Rattle.server.proofs.StepLaws.{transmitted-one-more}
+use Rattle.server.specs.arrivals.Rows.{putPlan, requestPlan, beginPlan, fackPlan}
+use Rattle.server.specs.arrivals.Table.{arrivalRow}
+use Rattle.server.proofs.ArrivalLaws.{put-held, begin-held}
 use Rattle.server.specs.Machine.{outcomeOf, sending, acted, replying, transmitting, arriving}
 use Rattle.server.proofs.Judging.{CanArrive, begin-fits, put-fits, fack-row, fack-fits, reply-passes, transmit-passes, arrival-passes}
 use Rattle.server.proofs.Accepting.{reply-accepted, transmit-accepted, arrive-accepted, arrive-row}

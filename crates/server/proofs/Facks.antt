@@ -28,23 +28,23 @@ use Rattle.writer.proofs.RoundTrip.{Fits}
 use Rattle.grounds.specs.Entry.{lentGround}
 use Rattle.grounds.specs.Fragment.{wantsFack, bodyLength}
 use Rattle.grounds.proofs.GroundLaws.{fack-asked, fack-unasked}
-use Rattle.server_record.specs.declared.State.{State}
-use Rattle.server_record.specs.declared.State.the-variants.{Idle, Collect, Running, Replying, Held}
-use Rattle.server_record.specs.declared.Reply.the-variants.{Data, Fault as HeldFault}
-use Rattle.server_record.specs.declared.Server.{Server}
-use Rattle.server_record.specs.Record.{unarmed, withIncoming}
-use Rattle.server_record.proofs.RuleLaws.{rules-told}
-use Rattle.server_rows.specs.declared.Row.{Row}
-use Rattle.server_rows.specs.declared.Row.the-variants.{Old, Missing, Repeat, Begin, Put, Working, Nocall, Replay, Acknowledge, Finish, AcceptCancel, DeclineCancel}
-use Rattle.server_rows.specs.Rows.{rowFor}
-use Rattle.server_steps.specs.declared.Plan.{Plan}
-use Rattle.server_steps.specs.declared.Send.{Send}
-use Rattle.server_steps.specs.declared.Send.the-variants.{Nothing, Fack}
-use Rattle.server_steps.specs.Plan.{accepted, refused}
-use Rattle.server_steps.specs.Rows.{replayHeld, replayPlan}
-use Rattle.server_arrivals.specs.Rows.{begun, fackFor, putPlan, requestPlan, beginPlan, workingPlan, nocallPlan, fackPlan, ackPlan, declinePlan, heardPlan}
-use Rattle.server_arrivals.specs.Table.{arrivalRow}
-use Rattle.server_arrivals.proofs.CancelLaws.{heard-or-not}
+use Rattle.server.specs.declared.records.State.{State}
+use Rattle.server.specs.declared.records.State.the-variants.{Idle, Collect, Running, Replying, Held}
+use Rattle.server.specs.declared.records.Reply.the-variants.{Data, Fault as HeldFault}
+use Rattle.server.specs.declared.records.Server.{Server}
+use Rattle.server.specs.records.Record.{unarmed, withIncoming}
+use Rattle.server.proofs.RuleLaws.{rules-told}
+use Rattle.server.specs.declared.rows.Row.{Row}
+use Rattle.server.specs.declared.rows.Row.the-variants.{Old, Missing, Repeat, Begin, Put, Working, Nocall, Replay, Acknowledge, Finish, AcceptCancel, DeclineCancel}
+use Rattle.server.specs.rows.Rows.{rowFor}
+use Rattle.server.specs.declared.step.Plan.{Plan}
+use Rattle.server.specs.declared.step.Send.{Send}
+use Rattle.server.specs.declared.step.Send.the-variants.{Nothing, Fack}
+use Rattle.server.specs.step.Plan.{accepted, refused}
+use Rattle.server.specs.step.Rows.{replayHeld, replayPlan}
+use Rattle.server.specs.arrivals.Rows.{begun, fackFor, putPlan, requestPlan, beginPlan, workingPlan, nocallPlan, fackPlan, ackPlan, declinePlan, heardPlan}
+use Rattle.server.specs.arrivals.Table.{arrivalRow}
+use Rattle.server.proofs.CancelLaws.{heard-or-not}
 use Rattle.server.specs.Sending.{echoed, echoHeader, sentOut}
 use Rattle.server.specs.Machine.{outcomeOf, sending, planOf, acted, arriving}
 use Rattle.server.proofs.Accepting.{arrive-row, arrive-room}

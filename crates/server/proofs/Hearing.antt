@@ -25,32 +25,32 @@ use Rattle.reader.specs.Reading.{reading}
 use Rattle.grounds.specs.Entry.{lentGround}
 use Rattle.grounds.specs.Fragment.{bodyLength}
 use Rattle.grounds.proofs.GroundLaws.{lent-passes}
-use Rattle.server_record.specs.declared.Idle.the-variants.{Repeatable}
-use Rattle.server_record.specs.declared.Reply.{Reply}
-use Rattle.server_record.specs.declared.Reply.the-variants.{Data, Fault as HeldFault}
-use Rattle.server_record.specs.declared.State.{State}
-use Rattle.server_record.specs.declared.State.the-variants.{Idle as IdleState, Collect, Running, Replying, Held}
-use Rattle.server_record.specs.declared.Server.{Server}
-use Rattle.server_record.specs.States.{neverCalled, isFresh, isIdle, isRunning}
-use Rattle.server_record.specs.Record.{holding, unarmed, withOutgoing, withIncoming, withResends, withSeen}
-use Rattle.server_rows.specs.declared.Event.the-variants.{Request, Cancel}
-use Rattle.server_rows.specs.declared.Order.{Order}
-use Rattle.server_rows.specs.declared.Order.the-variants.{Equal}
-use Rattle.server_rows.specs.declared.Row.{Row}
-use Rattle.server_rows.specs.declared.Row.the-variants.{Old, Missing, Repeat, Begin, Put, Working, Nocall, Replay, Acknowledge, Finish, AcceptCancel, DeclineCancel}
-use Rattle.server_rows.specs.Events.{clientEvent, eventOf}
-use Rattle.server_rows.specs.Table.{rowOf}
-use Rattle.server_rows.specs.Rows.{orderFor, rowFor}
-use Rattle.server_rows.proofs.EventLaws.{kind-told}
-use Rattle.server_rows.proofs.TableLaws.{equal-told, newer-ordered, equal-ordered, newer-begins, again-begins, accept-told}
-use Rattle.server_table.specs.Arrival.{arrivalGround}
-use Rattle.server_table.specs.Local.{transmitGround, timerGround, replyGround, faultGround}
-use Rattle.server_steps.specs.declared.Plan.{Plan}
-use Rattle.server_steps.specs.declared.Send.the-variants.{CancelAck}
-use Rattle.server_steps.specs.Plan.{accepted, refused}
-use Rattle.server_steps.specs.Rows.{answered, replyPlan, settled, transmitted, transmitPlan, faultPlan, rewinding, replayHeld, replayPlan, resendHeld, resendRow, timerRow, timerPlan}
-use Rattle.server_arrivals.specs.Rows.{begun, putNotice, putPlan, requestPlan, beginPlan, workingPlan, nocallPlan, fackPlan, ackPlan, declinePlan, heardPlan, acceptPlan}
-use Rattle.server_arrivals.specs.Table.{arrivalRow, arrivalPlan}
+use Rattle.server.specs.declared.records.Idle.the-variants.{Repeatable}
+use Rattle.server.specs.declared.records.Reply.{Reply}
+use Rattle.server.specs.declared.records.Reply.the-variants.{Data, Fault as HeldFault}
+use Rattle.server.specs.declared.records.State.{State}
+use Rattle.server.specs.declared.records.State.the-variants.{Idle as IdleState, Collect, Running, Replying, Held}
+use Rattle.server.specs.declared.records.Server.{Server}
+use Rattle.server.specs.records.States.{neverCalled, isFresh, isIdle, isRunning}
+use Rattle.server.specs.records.Record.{holding, unarmed, withOutgoing, withIncoming, withResends, withSeen}
+use Rattle.server.specs.declared.rows.Event.the-variants.{Request, Cancel}
+use Rattle.server.specs.declared.rows.Order.{Order}
+use Rattle.server.specs.declared.rows.Order.the-variants.{Equal}
+use Rattle.server.specs.declared.rows.Row.{Row}
+use Rattle.server.specs.declared.rows.Row.the-variants.{Old, Missing, Repeat, Begin, Put, Working, Nocall, Replay, Acknowledge, Finish, AcceptCancel, DeclineCancel}
+use Rattle.server.specs.rows.Events.{clientEvent, eventOf}
+use Rattle.server.specs.rows.Table.{rowOf}
+use Rattle.server.specs.rows.Rows.{orderFor, rowFor}
+use Rattle.server.proofs.EventLaws.{kind-told}
+use Rattle.server.proofs.TableLaws.{equal-told, newer-ordered, equal-ordered, newer-begins, again-begins, accept-told}
+use Rattle.server.specs.judge.Arrival.{arrivalGround}
+use Rattle.server.specs.judge.Local.{transmitGround, timerGround, replyGround, faultGround}
+use Rattle.server.specs.declared.step.Plan.{Plan}
+use Rattle.server.specs.declared.step.Send.the-variants.{CancelAck}
+use Rattle.server.specs.step.Plan.{accepted, refused}
+use Rattle.server.specs.step.Rows.{answered, replyPlan, settled, transmitted, transmitPlan, faultPlan, rewinding, replayHeld, replayPlan, resendHeld, resendRow, timerRow, timerPlan}
+use Rattle.server.specs.arrivals.Rows.{begun, putNotice, putPlan, requestPlan, beginPlan, workingPlan, nocallPlan, fackPlan, ackPlan, declinePlan, heardPlan, acceptPlan}
+use Rattle.server.specs.arrivals.Table.{arrivalRow, arrivalPlan}
 use Rattle.server.specs.Machine.{outcomeOf, replying, sending, transmitting, timing, faulting, planOf, acted, arriving}
 use Rattle.server.proofs.Judging.{arrival-passes}
 use Rattle.server.proofs.Accepting.{arrive-row}

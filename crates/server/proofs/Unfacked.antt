@@ -25,17 +25,17 @@ use Rattle.facks.proofs.TellingLaws.{sent-other}
 use Rattle.pdu.specs.declared.Header.{Header}
 use Rattle.pdu.specs.Header.{blank}
 use Rattle.writer.proofs.Returns.{Sized}
-use Rattle.server_record.specs.declared.State.{State}
-use Rattle.server_record.specs.declared.State.the-variants.{Idle, Collect, Running, Replying, Held}
-use Rattle.server_record.specs.declared.Reply.{Reply}
-use Rattle.server_record.specs.declared.Reply.the-variants.{Data, Fault as HeldFault}
-use Rattle.server_record.specs.declared.Server.{Server}
-use Rattle.server_table.specs.Local.{transmitGround, timerGround, faultGround}
-use Rattle.server_steps.specs.declared.Plan.{Plan}
-use Rattle.server_steps.specs.declared.Send.{Send}
-use Rattle.server_steps.specs.declared.Send.the-variants.{Nothing, Response, Fault, Working as SendWorking, Nocall as SendNocall, Fack, CancelAck}
-use Rattle.server_steps.specs.Plan.{accepted, refused}
-use Rattle.server_steps.specs.Rows.{transmitPlan, faultPlan, resendHeld, resendRow, timerRow, timerPlan}
+use Rattle.server.specs.declared.records.State.{State}
+use Rattle.server.specs.declared.records.State.the-variants.{Idle, Collect, Running, Replying, Held}
+use Rattle.server.specs.declared.records.Reply.{Reply}
+use Rattle.server.specs.declared.records.Reply.the-variants.{Data, Fault as HeldFault}
+use Rattle.server.specs.declared.records.Server.{Server}
+use Rattle.server.specs.judge.Local.{transmitGround, timerGround, faultGround}
+use Rattle.server.specs.declared.step.Plan.{Plan}
+use Rattle.server.specs.declared.step.Send.{Send}
+use Rattle.server.specs.declared.step.Send.the-variants.{Nothing, Response, Fault, Working as SendWorking, Nocall as SendNocall, Fack, CancelAck}
+use Rattle.server.specs.step.Plan.{accepted, refused}
+use Rattle.server.specs.step.Rows.{transmitPlan, faultPlan, resendHeld, resendRow, timerRow, timerPlan}
 use Rattle.server.specs.Sending.{echoed, echoHeader, replyHeader, responseSent, emptySent, sentOut}
 use Rattle.server.specs.Machine.{outcomeOf, replying, sending, transmitting, timing, faulting}
 use Rattle.server.proofs.Judging.{transmit-passes, fault-passes, timer-passes}

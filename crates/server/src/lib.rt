@@ -1,5 +1,21 @@
 // The server call machine: a controller's side of an activity. Each event takes the record by value
 // and the lent memory, judges, steps and only then acts.
+mod arrivals;
+mod judge;
+mod records;
+mod rows;
+mod step;
+
+pub use records::Idle;
+pub use records::Reply;
+pub use records::Server;
+pub use records::State;
+pub use records::fresh;
+pub use records::is_held;
+pub use records::is_replying;
+pub use records::is_running;
+pub use records::is_sound;
+
 use answers::Answer;
 use answers::Ground;
 use calls::Call;
@@ -7,9 +23,8 @@ use calls::Notice;
 use calls::Sent;
 use pdu::Header;
 use reader::Reading;
-use server_record::Server;
-use server_steps::Plan;
-use server_steps::Send;
+use step::Plan;
+use step::Send;
 ghost use mathlib.Core.Path.{_≡_};
 ghost use mathlib.Core.List.{[]};
 ghost use Rattle.calls.specs.Sent.{Posted};
@@ -157,16 +172,16 @@ fn outcome_of(plan: Plan, sent: Sent) -> Outcome
 pub fn reply(s: Server, length: u32) -> Outcome
     ensures { λ r. ⌜ r ≡ replying s length ⌝ }
 {
-    let ground = server_table::reply(s, length);
-    outcome_of(server_steps::reply(ground, s, length), Sent::Nothing)
+    let ground = judge::reply(s, length);
+    outcome_of(step::reply(ground, s, length), Sent::Nothing)
 }
 
 // Transmit: the next fragment of the lent message.
 pub fn transmit(s: Server, message: &[u8], out: &mut [u8]) -> Outcome
     ensures { λ r. ⌜ Stepped (transmitting s (now (message .entry)) (now (out .entry))) r (now (out .exit)) ⌝ }
 {
-    let ground = server_table::transmit(s, message.len(), out.len());
-    let plan = server_steps::transmit(ground, s);
+    let ground = judge::transmit(s, message.len(), out.len());
+    let plan = step::transmit(ground, s);
     let server = plan.server;
     let send = plan.send;
     let o = s.outgoing;
@@ -179,8 +194,8 @@ pub fn transmit(s: Server, message: &[u8], out: &mut [u8]) -> Outcome
 pub fn timer(s: Server, ticket: u64, out: &mut [u8]) -> Outcome
     ensures { λ r. ⌜ Stepped (timing s ticket (now (out .entry))) r (now (out .exit)) ⌝ }
 {
-    let ground = server_table::timer(s, ticket, out.len());
-    let plan = server_steps::timer(ground, s);
+    let ground = judge::timer(s, ticket, out.len());
+    let plan = step::timer(ground, s);
     let server = plan.server;
     let send = plan.send;
     let none: [u8; 0] = [];
@@ -192,8 +207,8 @@ pub fn timer(s: Server, ticket: u64, out: &mut [u8]) -> Outcome
 pub fn fault(s: Server, status: u32, out: &mut [u8]) -> Outcome
     ensures { λ r. ⌜ Stepped (faulting s status (now (out .entry))) r (now (out .exit)) ⌝ }
 {
-    let ground = server_table::fault(s, out.len());
-    let plan = server_steps::fault(ground, s, status);
+    let ground = judge::fault(s, out.len());
+    let plan = step::fault(ground, s, status);
     let server = plan.server;
     let send = plan.send;
     let none: [u8; 0] = [];
@@ -206,10 +221,10 @@ fn plan_arrival(s: Server, lent: Ground, reading: Reading, body: &[u8]) -> Plan
     ensures { λ r. ⌜ r ≡ planOf s lent reading (now (body .entry)) ⌝ }
 {
     let h = reading.header;
-    let ground = server_table::arrival(s, lent, reading, body);
+    let ground = judge::arrival(s, lent, reading, body);
     let length = grounds::body_length(body.len());
     let cancel = bodies::read_cancel(body, reading.little);
-    server_arrivals::arrive(ground, s, h, length, cancel.number)
+    arrivals::arrive(ground, s, h, length, cancel.number)
 }
 
 // Acts on the plan of an arriving PDU.
@@ -241,6 +256,6 @@ pub fn hand_up(s: Server, f: u16, slots: &[u8]) -> &[u8]
     ensures { λ r. ⌜ now r ≡ handedUpOf s f (now (slots .entry)) ⌝ }
 {
     let m = s.incoming;
-    let sound = server_record::is_sound(s);
+    let sound = records::is_sound(s);
     fragments::hand_up_where(sound, m, f, slots)
 }

@@ -16,10 +16,10 @@ use Rattle.record_bytes.specs.Canonical.{SharedUnjudged, SameButAt}
 use Rattle.record_bytes.specs.Parts.{clear}
 use Rattle.record_bytes.specs.Layout.{fieldsIn}
 use Rattle.record_bytes.proofs.Alike.{number-alike, clear-alike, front-alike, back-alike, shared-readable, fields-alike, put-any, first-ticket-any, slot-length-any}
-use Rattle.server_record.specs.declared.State.{State}
-use Rattle.server_record.specs.declared.State.the-variants.{Idle as IdleState, Collect, Running, Replying, Held}
-use Rattle.server_record.specs.declared.Idle.the-variants.{Fresh, Spent, Repeatable}
-use Rattle.server_record.specs.declared.Reply.the-variants.{Data, Fault}
+use Rattle.server.specs.declared.records.State.{State}
+use Rattle.server.specs.declared.records.State.the-variants.{Idle as IdleState, Collect, Running, Replying, Held}
+use Rattle.server.specs.declared.records.Idle.the-variants.{Fresh, Spent, Repeatable}
+use Rattle.server.specs.declared.records.Reply.the-variants.{Data, Fault}
 use Rattle.server_bytes.specs.Canonical.{Unjudged}
 use Rattle.server_bytes.specs.Layout.{stateOf, readable, serverOf, serverIn}
 

@@ -21,8 +21,8 @@ use Rattle.record_bytes.proofs.FieldsBack.{fields-back, bytes-readable, length-
 use Rattle.record_bytes.proofs.FieldsBack.{slots-clear, timer-clear}
 use Rattle.record_bytes.proofs.Reading.{clear-part, count-again, count-broken}
 use Rattle.record_bytes.proofs.FieldsAgain.{bytes-fit, fields-again}
-use Rattle.server_record.specs.declared.Server.{Server}
-use Rattle.server_record.specs.Rules.{sound}
+use Rattle.server.specs.declared.records.Server.{Server}
+use Rattle.server.specs.records.Rules.{sound}
 use Rattle.server_bytes.specs.Canonical.{Canonical}
 use Rattle.server_bytes.specs.Fits.{FitsServer}
 use Rattle.server_bytes.specs.Layout.{stateOf, stateNumber, statusOf, readable, serverOf, serverIn, fieldsOf}

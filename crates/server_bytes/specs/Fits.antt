@@ -1,10 +1,10 @@
 -- What fits the widths in which the server's record is kept as bytes.
 use Prim.Native.Nat.{_<_}
-use Rattle.server_record.specs.declared.Reply.{Reply}
-use Rattle.server_record.specs.declared.Reply.the-variants.{Data, Fault}
-use Rattle.server_record.specs.declared.State.{State}
-use Rattle.server_record.specs.declared.State.the-variants.{Idle as IdleState, Collect, Running, Replying, Held}
-use Rattle.server_record.specs.declared.Server.{Server}
+use Rattle.server.specs.declared.records.Reply.{Reply}
+use Rattle.server.specs.declared.records.Reply.the-variants.{Data, Fault}
+use Rattle.server.specs.declared.records.State.{State}
+use Rattle.server.specs.declared.records.State.the-variants.{Idle as IdleState, Collect, Running, Replying, Held}
+use Rattle.server.specs.declared.records.Server.{Server}
 use Rattle.record_bytes.specs.Fits.{Uuid, FitsCall, FitsOutgoing, FitsIncoming, FitsTimer}
 
 -- A fault's status is kept in 4 bytes.

@@ -10,13 +10,13 @@ use Rattle.timers.specs.declared.Timer.the-variants.{Off}
 use Rattle.record_bytes.specs.declared.Fields.{Fields}
 use Rattle.record_bytes.specs.Parts.{clear, countWhere}
 use Rattle.record_bytes.specs.Layout.{readable as sharedReadable, fieldsIn, fieldBytes}
-use Rattle.server_record.specs.declared.Idle.{Idle}
-use Rattle.server_record.specs.declared.Idle.the-variants.{Fresh, Spent, Repeatable}
-use Rattle.server_record.specs.declared.Reply.{Reply}
-use Rattle.server_record.specs.declared.Reply.the-variants.{Data, Fault}
-use Rattle.server_record.specs.declared.State.{State}
-use Rattle.server_record.specs.declared.State.the-variants.{Idle as IdleState, Collect, Running, Replying, Held}
-use Rattle.server_record.specs.declared.Server.{Server}
+use Rattle.server.specs.declared.records.Idle.{Idle}
+use Rattle.server.specs.declared.records.Idle.the-variants.{Fresh, Spent, Repeatable}
+use Rattle.server.specs.declared.records.Reply.{Reply}
+use Rattle.server.specs.declared.records.Reply.the-variants.{Data, Fault}
+use Rattle.server.specs.declared.records.State.{State}
+use Rattle.server.specs.declared.records.State.the-variants.{Idle as IdleState, Collect, Running, Replying, Held}
+use Rattle.server.specs.declared.records.Server.{Server}
 
 -- The state that a number stands for, HELD with fault with its status; and the number of a state. A number above 7
 -- is no state's: what is judged before 2 takes it for one without a row.

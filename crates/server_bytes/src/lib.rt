@@ -1,9 +1,9 @@
 // The server's record in 272 bytes, and back.
 use record_bytes::Fields;
-use server_record::Idle;
-use server_record::Reply;
-use server_record::Server;
-use server_record::State;
+use server::Idle;
+use server::Reply;
+use server::Server;
+use server::State;
 use timers::Timer;
 ghost use mathlib.Core.Path.{_≡_};
 ghost use Rattle.words.specs.Place.{placed};

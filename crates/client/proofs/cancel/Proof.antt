@@ -2,7 +2,7 @@
 use mathlib.Core.Path.{ap, _∙_}
 use borrow.Author.Needs.{needs}
 use Rattle.answers.specs.declared.Ground.{Ground}
-use Rattle.client_steps.specs.Rows.{cancelPlan}
+use Rattle.client.specs.step.Rows.{cancelPlan}
 use Rattle.client.specs.Machine.{cancelling}
 use Rattle.client.proofs.Returns.{stepped}
 use Rattle.client.proofs.cancel.Statement.{statement}

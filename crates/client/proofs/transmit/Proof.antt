@@ -2,7 +2,7 @@
 use mathlib.Core.Path.{ap, _∙_}
 use borrow.Author.Needs.{needs}
 use Rattle.answers.specs.declared.Ground.{Ground}
-use Rattle.client_steps.specs.Rows.{transmitPlan}
+use Rattle.client.specs.step.Rows.{transmitPlan}
 use Rattle.client.specs.Machine.{transmitting}
 use Rattle.client.proofs.Returns.{lent-as, stepped}
 use Rattle.client.proofs.transmit.Statement.{statement}

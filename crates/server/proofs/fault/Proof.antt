@@ -1,7 +1,7 @@
 -- `server::fault` meets its contract.
 use mathlib.Core.Path.{ap, _∙_}
 use Rattle.answers.specs.declared.Ground.{Ground}
-use Rattle.server_steps.specs.Rows.{faultPlan}
+use Rattle.server.specs.step.Rows.{faultPlan}
 use Rattle.server.specs.Machine.{faulting}
 use Rattle.server.proofs.Returns.{stepped}
 use borrow.Author.Needs.{needs}

@@ -1,7 +1,7 @@
 -- `server::transmit` meets its contract.
 use mathlib.Core.Path.{ap, _∙_}
 use Rattle.answers.specs.declared.Ground.{Ground}
-use Rattle.server_steps.specs.Rows.{transmitPlan}
+use Rattle.server.specs.step.Rows.{transmitPlan}
 use Rattle.server.specs.Machine.{transmitting}
 use Rattle.server.proofs.Returns.{lent-as, stepped}
 use borrow.Author.Needs.{needs}

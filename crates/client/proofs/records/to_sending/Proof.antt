@@ -1,0 +1,9 @@
+-- `client_record::to_sending` meets its contract.
+use Rattle.client.specs.records.Record.{sending}
+use borrow.Author.Needs.{needs}
+use Rattle.client.proofs.records.to_sending.Statement.{statement}
+use Rattle.client.proofs.records.to_sending.Tie as tie
+
+pub to-sending-spec : {M : Type 1} → statement M
+unfolding sending
+to-sending-spec = tie.close (tie.spec (λ c κs. search needs) (λ c. rw (c .with-timers .ensures)))

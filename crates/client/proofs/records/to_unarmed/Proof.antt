@@ -1,0 +1,10 @@
+-- `client_record::to_unarmed` meets its contract.
+use Rattle.words.proofs.Tests.{tests}
+use Rattle.client.specs.records.Record.{unarmed}
+use borrow.Author.Needs.{needs}
+use Rattle.client.proofs.records.to_unarmed.Statement.{statement}
+use Rattle.client.proofs.records.to_unarmed.Tie as tie
+
+pub to-unarmed-spec : {M : Type 1} → statement M
+unfolding unarmed
+to-unarmed-spec = tie.close (tie.spec (λ c κs. search needs) (λ c. search tests))

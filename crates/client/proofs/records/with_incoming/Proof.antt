@@ -1,0 +1,9 @@
+-- `client_record::with_incoming` meets its contract.
+use Rattle.client.specs.records.Record.{withIncoming}
+use Rattle.words.proofs.Tests.{tests}
+use Rattle.client.proofs.records.with_incoming.Statement.{statement}
+use Rattle.client.proofs.records.with_incoming.Tie as tie
+
+pub with-incoming-spec : {M : Type 1} → statement M
+unfolding withIncoming
+with-incoming-spec = tie.close (tie.spec (λ c. search tests))

@@ -1,0 +1,9 @@
+-- `client_record::with_outgoing` meets its contract.
+use Rattle.client.specs.records.Record.{withOutgoing}
+use Rattle.words.proofs.Tests.{tests}
+use Rattle.client.proofs.records.with_outgoing.Statement.{statement}
+use Rattle.client.proofs.records.with_outgoing.Tie as tie
+
+pub with-outgoing-spec : {M : Type 1} → statement M
+unfolding withOutgoing
+with-outgoing-spec = tie.close (tie.spec (λ c. search tests))

@@ -1,9 +1,0 @@
--- `client_record::is_named` meets its contract.
-use borrow.Author.Needs.{needs}
-use Rattle.client_record.specs.Arming.{namedBy}
-use Rattle.client_record.proofs.is_named.Statement.{statement}
-use Rattle.client_record.proofs.is_named.Tie as tie
-
-pub is-named-spec : {M : Type 1} → statement M
-unfolding namedBy
-is-named-spec = tie.close (tie.spec (λ c. search needs) (λ c κs. search needs) (λ c. search needs) (λ c κs. search needs) (λ c. search needs) (λ c κs. search needs) (λ c. cc) (λ c. cc) (λ c. cc))

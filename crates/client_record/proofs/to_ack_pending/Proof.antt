@@ -1,9 +1,0 @@
--- `client_record::to_ack_pending` meets its contract.
-use Rattle.client_record.specs.Record.{ackPending}
-use borrow.Author.Needs.{needs}
-use Rattle.client_record.proofs.to_ack_pending.Statement.{statement}
-use Rattle.client_record.proofs.to_ack_pending.Tie as tie
-
-pub to-ack-pending-spec : {M : Type 1} → statement M
-unfolding ackPending
-to-ack-pending-spec = tie.close (tie.spec (λ c κs. search needs) (λ c κs. search needs) (λ c κs. search needs) (λ c. rw (c .with-timers .ensures, c .before .armed-afresh .ensures, c .before .before .next-ticket .ensures)))

@@ -1,7 +1,0 @@
--- `client_record::with_call` meets its contract.
-use borrow.Author.Needs.{needs}
-use Rattle.client_record.proofs.with_call.Statement.{statement}
-use Rattle.client_record.proofs.with_call.Tie as tie
-
-pub with-call-spec : {M : Type 1} → statement M
-with-call-spec = tie.close (tie.spec (λ c κs. search needs) (λ c. rw (c .empty .ensures)))

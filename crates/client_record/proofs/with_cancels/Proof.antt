@@ -1,9 +1,0 @@
--- `client_record::with_cancels` meets its contract.
-use Rattle.client_record.specs.Record.{withCancels}
-use Rattle.words.proofs.Tests.{tests}
-use Rattle.client_record.proofs.with_cancels.Statement.{statement}
-use Rattle.client_record.proofs.with_cancels.Tie as tie
-
-pub with-cancels-spec : {M : Type 1} → statement M
-unfolding withCancels
-with-cancels-spec = tie.close (tie.spec (λ c. search tests))

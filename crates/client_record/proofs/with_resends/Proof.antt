@@ -1,9 +1,0 @@
--- `client_record::with_resends` meets its contract.
-use Rattle.client_record.specs.Record.{withResends}
-use Rattle.words.proofs.Tests.{tests}
-use Rattle.client_record.proofs.with_resends.Statement.{statement}
-use Rattle.client_record.proofs.with_resends.Tie as tie
-
-pub with-resends-spec : {M : Type 1} → statement M
-unfolding withResends
-with-resends-spec = tie.close (tie.spec (λ c. search tests))

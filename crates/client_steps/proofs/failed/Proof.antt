@@ -1,9 +1,0 @@
--- `client_steps::failed` meets its contract.
-use Rattle.client_steps.specs.Plan.{failed}
-use borrow.Author.Needs.{needs}
-use Rattle.client_steps.proofs.failed.Statement.{statement}
-use Rattle.client_steps.proofs.failed.Tie as tie
-
-pub failed-spec : {M : Type 1} → statement M
-unfolding failed
-failed-spec = tie.close (tie.spec (λ c κs. search needs) (λ c κs. search needs) (λ c. rw (c .accepted .ensures, c .before .to-unarmed .ensures)))

@@ -1,0 +1,13 @@
+-- `server_arrivals::put_notice` meets its contract.
+use Rattle.words.proofs.Tests.{tests}
+use Rattle.server.specs.arrivals.Rows.{putNotice}
+use Rattle.server.proofs.arrivals.put_notice.Statement.{statement}
+use Rattle.server.proofs.arrivals.put_notice.Tie as tie
+
+pub put-notice-spec : {M : Type 1} → statement M
+unfolding putNotice
+put-notice-spec =
+    tie.close
+    (tie.spec
+    (λ c. search tests)
+    (λ c. search tests))

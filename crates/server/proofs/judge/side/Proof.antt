@@ -1,0 +1,24 @@
+-- `server_table::side` meets its contract.
+use Rattle.words.proofs.Tests.{tests}
+use Rattle.server.specs.judge.Events.{sideGround}
+use borrow.Author.Needs.{needs}
+use Rattle.server.proofs.judge.side.Statement.{statement}
+use Rattle.server.proofs.judge.side.Tie as tie
+
+pub side-spec : {M : Type 1} → statement M
+unfolding sideGround
+side-spec =
+    tie.close
+    (tie.spec
+    (λ c. search needs)
+    (λ c. search needs)
+    (λ c. search needs)
+    (λ c. search needs)
+    (λ c. search needs)
+    (λ c. search needs)
+    (λ c. search tests)
+    (λ c. search tests)
+    (λ c. search tests)
+    (λ c. search tests)
+    (λ c. search tests)
+    (λ c. rw (c .enum-told6 .given .1)))

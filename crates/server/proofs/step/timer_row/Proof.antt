@@ -1,0 +1,26 @@
+-- `server_steps::timer_row` meets its contract.
+use Rattle.server.specs.step.Rows.{timerRow}
+use borrow.Author.Needs.{needs}
+use Rattle.server.proofs.step.timer_row.Statement.{statement}
+use Rattle.server.proofs.step.timer_row.Tie as tie
+
+pub timer-row-spec : {M : Type 1} → statement M
+unfolding timerRow
+timer-row-spec =
+    tie.close
+    (tie.spec
+    (λ c. search needs)
+    (λ c κs. search needs)
+    (λ c. search needs)
+    (λ c κs. search needs)
+    (λ c. search needs)
+    (λ c κs. search needs)
+    (λ c. search needs)
+    (λ c κs. search needs)
+    (λ c. search needs)
+    (λ c κs. search needs)
+    (λ c. rw (c .before .before .state .given .1, c .refused .ensures))
+    (λ c. rw (c .before .enum-told .given .1, c .refused2 .ensures))
+    (λ c. rw (c .before .enum-told2 .given .1, c .refused3 .ensures))
+    (λ c. rw (c .before .enum-told3 .given .1, c .refused4 .ensures))
+    (λ c. rw (c .before .before .state2 .given .1, c .resend .ensures)))
