@@ -1,15 +1,15 @@
 // What an arriving PDU's row makes of the client's record.
 use crate::judge;
+use crate::judge::Event;
 use crate::records;
+use crate::records::Client;
+use crate::records::State;
 use crate::step;
+use crate::step::Plan;
+use crate::step::Send;
 use answers::Answer;
 use answers::Ground;
 use calls::Notice;
-use crate::records::Client;
-use crate::records::State;
-use crate::step::Plan;
-use crate::step::Send;
-use crate::judge::Event;
 use incoming::Incoming;
 use pdu::Header;
 use words::RETRY_LIMIT;
@@ -139,11 +139,7 @@ fn nocall(c: Client) -> Plan
 fn cancel_ack(c: Client) -> Plan
     ensures { λ r. ⌜ r ≡ cancelAckPlan c ⌝ }
 {
-    step::accepted(
-        records::disarm_cancel(c),
-        Send::Nothing,
-        Notice::Nothing,
-    )
+    step::accepted(records::disarm_cancel(c), Send::Nothing, Notice::Nothing)
 }
 
 // The row of an event.

@@ -1,11 +1,11 @@
 // The client's judgement of each event: the ground of document 01's refusals in their order, the
 // lowest position deciding. Nothing is written here.
 use crate::records;
-use answers::Answer;
-use answers::Ground;
 use crate::records::Client;
 use crate::records::State;
 use crate::records::TimerKind;
+use answers::Answer;
+use answers::Ground;
 use incoming::Incoming;
 use reader::Reading;
 use timers::Timer;

@@ -1,13 +1,13 @@
 // What an event's row makes of the client's record: the plan of the step, before anything is
 // written. Here are start, transmit, local cancel and the timers, and what the rows of arriving PDUs share.
 use crate::records;
+use crate::records::Client;
+use crate::records::State;
+use crate::records::TimerKind;
 use answers::Answer;
 use answers::Ground;
 use calls::Call;
 use calls::Notice;
-use crate::records::Client;
-use crate::records::State;
-use crate::records::TimerKind;
 use words::RETRY_LIMIT;
 ghost use mathlib.Core.Path.{_≡_};
 ghost use Prim.Native.Nat.{_<_};
@@ -66,11 +66,7 @@ pub fn accepted(c: Client, send: Send, notice: Notice) -> Plan
 pub fn failed(c: Client, notice: Notice) -> Plan
     ensures { λ r. ⌜ r ≡ failedPlan c notice ⌝ }
 {
-    accepted(
-        records::to_unarmed(c, State::Fault),
-        Send::Nothing,
-        notice,
-    )
+    accepted(records::to_unarmed(c, State::Fault), Send::Nothing, notice)
 }
 
 // The number of the next call.
@@ -135,10 +131,7 @@ fn pinged(c: Client) -> Client
     let state = c.state;
     let waits = c.waits + 1;
     records::with_waits(
-        records::to_waiting(
-            records::with_outgoing(c, outgoing::after_ping(o)),
-            state,
-        ),
+        records::to_waiting(records::with_outgoing(c, outgoing::after_ping(o)), state),
         waits,
     )
 }

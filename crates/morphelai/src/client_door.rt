@@ -1,7 +1,7 @@
 // The client's exported functions.
 use calls::Call;
-use client::Outcome;
 use client::Client;
+use client::Outcome;
 use client::TimerKind;
 ghost use mathlib.Core.Path.{_≡_};
 ghost use mathlib.Core.List.{[]};

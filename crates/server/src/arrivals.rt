@@ -1,19 +1,19 @@
 // What an arriving PDU's row makes of the server's record.
 use crate::records;
+use crate::records::Idle;
+use crate::records::Server;
+use crate::records::State;
 use crate::rows;
+use crate::rows::Row;
 use crate::step;
+use crate::step::Plan;
+use crate::step::Send;
 use answers::Answer;
 use answers::Ground;
 use calls::Call;
 use calls::Notice;
 use incoming::Incoming;
 use pdu::Header;
-use crate::records::Idle;
-use crate::records::Server;
-use crate::records::State;
-use crate::rows::Row;
-use crate::step::Plan;
-use crate::step::Send;
 ghost use mathlib.Core.Path.{_≡_};
 ghost use Rattle.server.specs.arrivals.Rows.{callOf, begun as begunRecord, putState, putNotice, fackFor, putPlan, requestPlan, beginPlan, fackPlan, ackPlan, declinePlan, heardPlan, acceptPlan};
 ghost use Rattle.server.specs.arrivals.Table.{arrivalRow, arrivalPlan};

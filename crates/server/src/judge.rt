@@ -1,17 +1,17 @@
 // The server's judgement of each event: the ground of document 01's refusals in their order, the
 // lowest position deciding. Nothing is written here; the row that an arriving PDU has is told by server_rows.
 use crate::records;
+use crate::records::Server;
 use crate::rows;
+use crate::rows::Event;
+use crate::rows::Order;
+use crate::rows::Row;
 use answers::Answer;
 use answers::Ground;
 use calls::Call;
 use incoming::Incoming;
 use pdu::Header;
 use reader::Reading;
-use crate::records::Server;
-use crate::rows::Event;
-use crate::rows::Order;
-use crate::rows::Row;
 use words::MESSAGE_SIZE;
 use words::RETRY_LIMIT;
 ghost use mathlib.Core.Path.{_≡_};

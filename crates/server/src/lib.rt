@@ -6,6 +6,13 @@ mod records;
 mod rows;
 mod step;
 
+use answers::Answer;
+use answers::Ground;
+use calls::Call;
+use calls::Notice;
+use calls::Sent;
+use pdu::Header;
+use reader::Reading;
 pub use records::Idle;
 pub use records::Reply;
 pub use records::Server;
@@ -15,14 +22,6 @@ pub use records::is_held;
 pub use records::is_replying;
 pub use records::is_running;
 pub use records::is_sound;
-
-use answers::Answer;
-use answers::Ground;
-use calls::Call;
-use calls::Notice;
-use calls::Sent;
-use pdu::Header;
-use reader::Reading;
 use step::Plan;
 use step::Send;
 ghost use mathlib.Core.Path.{_≡_};

@@ -1,10 +1,10 @@
 // The server's table: which row an arriving PDU has, by its type, its number against the server's, the
 // state and the marks. Nothing is judged or written here.
 use crate::records;
-use pdu::Header;
 use crate::records::Idle;
 use crate::records::Server;
 use crate::records::State;
+use pdu::Header;
 ghost use mathlib.Core.Path.{_≡_};
 ghost use Rattle.server.specs.rows.Events.{clientEvent, eventOf};
 ghost use Rattle.server.specs.rows.Table.{orderBy, orderOf, requestNewer, requestAgain, requestIdle, requestEqual, requestRow, pingEqual, pingRow, whereReplied, acknowledgementRow, finishRow, cancelEqual, cancelRow, rowOf};

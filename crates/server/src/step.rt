@@ -2,13 +2,13 @@
 // written. Here are reply, transmit, fault and the RESEND timer, and what the rows of arriving PDUs
 // share.
 use crate::records;
-use answers::Answer;
-use answers::Ground;
-use calls::Notice;
 use crate::records::Idle;
 use crate::records::Reply;
 use crate::records::Server;
 use crate::records::State;
+use answers::Answer;
+use answers::Ground;
+use calls::Notice;
 use words::RETRY_LIMIT;
 ghost use mathlib.Core.Path.{_≡_};
 ghost use Prim.Native.Nat.{_<_};
