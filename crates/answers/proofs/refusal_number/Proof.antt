@@ -1,13 +1,12 @@
--- `answers::number` meets its contract: each arm knows its variant, and the definition computes there.
+-- `answers::refusal_number` meets its contract: each arm knows its variant, and the definition computes there.
 use borrow.Author.Needs.{needs}
-use Rattle.answers.proofs.number.Statement.{statement}
-use Rattle.answers.proofs.number.Tie as tie
+use Rattle.answers.proofs.refusal_number.Statement.{statement}
+use Rattle.answers.proofs.refusal_number.Tie as tie
 
-pub number-spec : {M : Type 1} → statement M
-number-spec =
+pub refusal-number-spec : {M : Type 1} → statement M
+refusal-number-spec =
     tie.close
     (tie.spec
-    (λ c. search needs)
     (λ c. search needs)
     (λ c. search needs)
     (λ c. search needs)
@@ -47,5 +46,4 @@ number-spec =
     (λ c. rw (c .enum-told17 .given .1))
     (λ c. rw (c .enum-told18 .given .1))
     (λ c. rw (c .enum-told19 .given .1))
-    (λ c. rw (c .enum-told20 .given .1))
-    (λ c. rw (c .enum-told21 .given .1)))
+    (λ c. rw (c .enum-told20 .given .1)))
