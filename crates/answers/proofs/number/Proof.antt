@@ -3,6 +3,9 @@ use borrow.Author.Needs.{needs}
 use Rattle.answers.proofs.number.Statement.{statement}
 use Rattle.answers.proofs.number.Tie as tie
 
+returns : tie.Need-returns
+returns c = search needs
+
 pub number-spec : {M : Type 1} → statement M
 number-spec =
     tie.close
@@ -10,5 +13,5 @@ number-spec =
     (λ c. search needs)
     (λ c. search needs)
     (λ c κs. search needs)
-    (λ c. search needs)
+    returns
     (λ c. rw (c .before .before .answer .given .1, c .refusal-number .ensures)))
