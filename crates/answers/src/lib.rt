@@ -1,9 +1,8 @@
 // What every event, the reader and the writer answer: document 01's "Numbers answered".
 ghost use mathlib.Core.Path.{_≡_};
-ghost use Rattle.answers.specs.Number.{numberOf};
+ghost use Rattle.answers.specs.Number.{refusalNumber, numberOf};
 
-pub enum Answer {
-    Done,
+pub enum Refusal {
     // 1: a lent buffer of the wrong length, or a message over 44,544 bytes
     WrongLength,
     // 2: the record breaks its rules
@@ -46,37 +45,45 @@ pub enum Answer {
     TicketsUsedUp,
 }
 
-// The number of an answer.
+pub enum Answer {
+    Done,
+    Refused(Refusal),
+}
+
+// The number of a refusal, 1 to 20.
+pub fn refusal_number(refusal: Refusal) -> u8
+    ensures { λ r. ⌜ r ≡ refusalNumber refusal ⌝ }
+{
+    match refusal {
+        Refusal::WrongLength => 1,
+        Refusal::BrokenRecord => 2,
+        Refusal::ShortDatagram => 3,
+        Refusal::WrongVersion => 4,
+        Refusal::UnknownType => 5,
+        Refusal::UnknownRepresentation => 6,
+        Refusal::Authenticated => 7,
+        Refusal::WrongBodyLength => 8,
+        Refusal::OtherActivity => 9,
+        Refusal::WrongSide => 10,
+        Refusal::MaybeOrBroadcast => 11,
+        Refusal::WrongFragment => 12,
+        Refusal::OldCall => 13,
+        Refusal::MalformedBody => 14,
+        Refusal::NoRow => 15,
+        Refusal::Repeated => 16,
+        Refusal::Contradiction => 17,
+        Refusal::LateTimer => 18,
+        Refusal::NumbersUsedUp => 19,
+        Refusal::TicketsUsedUp => 20,
+    }
+}
+
+// The number of an answer: 0 for done.
 pub fn number(answer: Answer) -> u8
     ensures { λ r. ⌜ r ≡ numberOf answer ⌝ }
 {
     match answer {
         Answer::Done => 0,
-        Answer::WrongLength => 1,
-        Answer::BrokenRecord => 2,
-        Answer::ShortDatagram => 3,
-        Answer::WrongVersion => 4,
-        Answer::UnknownType => 5,
-        Answer::UnknownRepresentation => 6,
-        Answer::Authenticated => 7,
-        Answer::WrongBodyLength => 8,
-        Answer::OtherActivity => 9,
-        Answer::WrongSide => 10,
-        Answer::MaybeOrBroadcast => 11,
-        Answer::WrongFragment => 12,
-        Answer::OldCall => 13,
-        Answer::MalformedBody => 14,
-        Answer::NoRow => 15,
-        Answer::Repeated => 16,
-        Answer::Contradiction => 17,
-        Answer::LateTimer => 18,
-        Answer::NumbersUsedUp => 19,
-        Answer::TicketsUsedUp => 20,
+        Answer::Refused(refusal) => refusal_number(refusal),
     }
-}
-
-// What judging finds: nothing against it, or the refusal.
-pub enum Ground {
-    Pass,
-    Refuse(Answer),
 }

@@ -1,11 +1,12 @@
 // The bodies of fack, fault, reject, cancel and cancel_ack.
 use answers::Answer;
-use answers::Ground;
+use answers::Refusal;
 use words::PDU_SIZE;
 ghost use mathlib.Core.Path.{_≡_};
-ghost use Rattle.bodies.specs.Fack.{fackGround, fackOf, blankFack, fackReading, fackBytes, fackSent};
-ghost use Rattle.bodies.specs.Status.{statusReading, statusBytes};
-ghost use Rattle.bodies.specs.Cancel.{cancelFormed, cancelWhere, cancelReading, cancelBytes, cancelAckFormed, cancelAckWhere, cancelAckReading, cancelAckBytes};
+ghost use Rattle.bodies.specs.Fack.{fackMalformed, fackOf, blankFack, fackReading, fackBytes, fackSent};
+ghost use Rattle.bodies.specs.Status.{statusMalformed, statusReading, statusBytes};
+ghost use Rattle.bodies.specs.Cancel.{cancelMalformed, cancelReading, cancelBytes};
+ghost use Rattle.bodies.specs.Cancel.{cancelAckMalformed, cancelAckReading, cancelAckBytes};
 
 // A fack's body, with its first mask.
 pub struct Fack {
@@ -41,20 +42,20 @@ pub struct CancelAckReading {
     pub accepts: bool,
 }
 
-// Malformed is a body under 16 bytes, another version than 0, or another length than 16 + 4w.
-fn judge_fack(size: usize, version: u8, words: u16) -> Ground
-    ensures { λ r. ⌜ r ≡ fackGround size version words ⌝ }
+// Whether a fack's body is malformed: under 16 bytes, another version than 0, or another length than 16 + 4w.
+pub fn is_fack_malformed(body: &[u8], little: bool) -> bool
+    ensures { λ r. ⌜ r ≡ fackMalformed little (now (body .entry)) ⌝ }
 {
+    let size = body.len();
     if size < 16 {
-        return Ground::Refuse(Answer::MalformedBody);
+        return true;
     }
+    let version = words::byte_at(body, 0);
     if version != 0 {
-        return Ground::Refuse(Answer::MalformedBody);
+        return true;
     }
-    if size != 16 + 4 * (words as usize) {
-        return Ground::Refuse(Answer::MalformedBody);
-    }
-    Ground::Pass
+    let count = words::number16(body, 14, little);
+    size != 16 + 4 * (count as usize)
 }
 
 // The fields of a fack's body.
@@ -91,17 +92,16 @@ fn no_fack() -> Fack
 pub fn read_fack(body: &[u8], little: bool) -> FackReading
     ensures { λ r. ⌜ r ≡ fackReading little (now (body .entry)) ⌝ }
 {
-    let version = words::byte_at(body, 0);
-    let count = words::number16(body, 14, little);
-    match judge_fack(body.len(), version, count) {
-        Ground::Pass => FackReading {
-            answer: Answer::Done,
-            fack: fack_of(body, little),
-        },
-        Ground::Refuse(answer) => FackReading {
-            answer,
+    let malformed = is_fack_malformed(body, little);
+    if malformed {
+        return FackReading {
+            answer: Answer::Refused(Refusal::MalformedBody),
             fack: no_fack(),
-        },
+        };
+    }
+    FackReading {
+        answer: Answer::Done,
+        fack: fack_of(body, little),
     }
 }
 
@@ -136,20 +136,27 @@ pub fn write_fack(serial: u16, mask: u32) -> [u8; 20]
     ]
 }
 
+// Whether the body of a fault or reject is malformed: under 4 bytes, in either order.
+pub fn is_status_malformed(body: &[u8], _little: bool) -> bool
+    ensures { λ r. ⌜ r ≡ statusMalformed _little (now (body .entry)) ⌝ }
+{
+    body.len() < 4
+}
+
 // Reads the status of a fault or reject in the sender's order.
 pub fn read_status(body: &[u8], little: bool) -> StatusReading
     ensures { λ r. ⌜ r ≡ statusReading little (now (body .entry)) ⌝ }
 {
-    let status = words::number32(body, 0, little);
-    if body.len() < 4 {
+    let malformed = is_status_malformed(body, little);
+    if malformed {
         return StatusReading {
-            answer: Answer::MalformedBody,
+            answer: Answer::Refused(Refusal::MalformedBody),
             status: 0,
         };
     }
     StatusReading {
         answer: Answer::Done,
-        status,
+        status: words::number32(body, 0, little),
     }
 }
 
@@ -160,36 +167,32 @@ pub fn write_status(status: u32) -> [u8; 4]
     words::split32(status)
 }
 
-// Whether a cancel's body is well formed: 8 bytes, version 0.
-fn is_cancel_formed(size: usize, version: u32) -> bool
-    ensures { λ r. ⌜ r ≡ cancelFormed size version ⌝ }
+// Whether a cancel's body is malformed: not 8 bytes, or another version than 0.
+pub fn is_cancel_malformed(body: &[u8], little: bool) -> bool
+    ensures { λ r. ⌜ r ≡ cancelMalformed little (now (body .entry)) ⌝ }
 {
-    words::both(size == 8, version == 0)
-}
-
-// The number, where the body is well formed.
-fn cancel_where(formed: bool, number: u32) -> CancelReading
-    ensures { λ r. ⌜ r ≡ cancelWhere formed number ⌝ }
-{
-    if formed {
-        return CancelReading {
-            answer: Answer::Done,
-            number,
-        };
+    if body.len() != 8 {
+        return true;
     }
-    CancelReading {
-        answer: Answer::MalformedBody,
-        number: 0,
-    }
+    let version = words::number32(body, 0, little);
+    version != 0
 }
 
 // Reads a cancel's body in the sender's order.
 pub fn read_cancel(body: &[u8], little: bool) -> CancelReading
     ensures { λ r. ⌜ r ≡ cancelReading little (now (body .entry)) ⌝ }
 {
-    let version = words::number32(body, 0, little);
-    let number = words::number32(body, 4, little);
-    cancel_where(is_cancel_formed(body.len(), version), number)
+    let malformed = is_cancel_malformed(body, little);
+    if malformed {
+        return CancelReading {
+            answer: Answer::Refused(Refusal::MalformedBody),
+            number: 0,
+        };
+    }
+    CancelReading {
+        answer: Answer::Done,
+        number: words::number32(body, 4, little),
+    }
 }
 
 // The body of a cancel with that number.
@@ -200,40 +203,40 @@ pub fn write_cancel(number: u32) -> [u8; 8]
     [0, 0, 0, 0, n[0], n[1], n[2], n[3]]
 }
 
-// Whether a cancel_ack's body is well formed: 12 bytes, version 0, accepts 0 or 1.
-fn is_cancel_ack_formed(size: usize, version: u32, accepts: u32) -> bool
-    ensures { λ r. ⌜ r ≡ cancelAckFormed size version accepts ⌝ }
+// Whether a cancel_ack's body is malformed: not 12 bytes, another version than 0, or accepts above 1.
+pub fn is_cancel_ack_malformed(body: &[u8], little: bool) -> bool
+    ensures { λ r. ⌜ r ≡ cancelAckMalformed little (now (body .entry)) ⌝ }
 {
-    words::both(size == 12, words::both(version == 0, accepts <= 1))
-}
-
-// The fields, where the body is well formed.
-fn cancel_ack_where(formed: bool, number: u32, accepts: bool) -> CancelAckReading
-    ensures { λ r. ⌜ r ≡ cancelAckWhere formed number accepts ⌝ }
-{
-    if formed {
-        return CancelAckReading {
-            answer: Answer::Done,
-            number,
-            accepts,
-        };
+    if body.len() != 12 {
+        return true;
     }
-    CancelAckReading {
-        answer: Answer::MalformedBody,
-        number: 0,
-        accepts: false,
+    let version = words::number32(body, 0, little);
+    if version != 0 {
+        return true;
     }
+    let accepts = words::number32(body, 8, little);
+    accepts > 1
 }
 
 // Reads a cancel_ack's body in the sender's order.
 pub fn read_cancel_ack(body: &[u8], little: bool) -> CancelAckReading
     ensures { λ r. ⌜ r ≡ cancelAckReading little (now (body .entry)) ⌝ }
 {
-    let version = words::number32(body, 0, little);
+    let malformed = is_cancel_ack_malformed(body, little);
+    if malformed {
+        return CancelAckReading {
+            answer: Answer::Refused(Refusal::MalformedBody),
+            number: 0,
+            accepts: false,
+        };
+    }
     let number = words::number32(body, 4, little);
     let accepts = words::number32(body, 8, little);
-    let formed = is_cancel_ack_formed(body.len(), version, accepts);
-    cancel_ack_where(formed, number, accepts == 1)
+    CancelAckReading {
+        answer: Answer::Done,
+        number,
+        accepts: accepts == 1,
+    }
 }
 
 // The body of a cancel_ack for the cancel of that number.

@@ -16,8 +16,7 @@ use Rattle.calls.specs.declared.Sent.the-variants.{Nothing as Unsent}
 use Rattle.calls.specs.Sent.{sentBytes}
 use Rattle.incoming.specs.declared.Incoming.{Incoming}
 use Rattle.incoming.specs.Slots.{missing, contiguous}
-use Rattle.grounds.specs.Fack.{acknowledgedBy}
-use Rattle.facks.specs.Mask.{heldBit}
+use Rattle.facks.specs.Mask.{acknowledgedBy, heldBit}
 
 -- How many fragments a reader takes as acknowledged by a PDU, and what it reads in the body.
 abbrev pub acknowledgedIn : List ℕ → ℕ

@@ -3,14 +3,11 @@ use incoming::Incoming;
 use incoming::Slot;
 use words::WINDOW_SIZE;
 ghost use mathlib.Core.Path.{_≡_};
-ghost use Prim.Native.Nat.{_≤_};
 ghost use lib.ListN.{drop};
-ghost use Rattle.words.specs.Sizes.{windowSize};
-ghost use Rattle.incoming.specs.Slots.{contiguous};
-ghost use Rattle.facks.specs.Mask.{lastContiguous, heldBit, heldWord, Describes};
+ghost use Rattle.facks.specs.Mask.{lastContiguous, acknowledgedBy, acknowledgesMore, heldBit, heldWord, maskFrom};
 
-// The contiguous count less 1, or 65535 for none.
-fn number_of(count: u16) -> u16
+// The number of a fack for a contiguous count: the count less 1, or 65535 for none.
+pub fn number(count: u16) -> u16
     ensures { λ r. ⌜ r ≡ lastContiguous count ⌝ }
 {
     if count == 0 {
@@ -19,11 +16,21 @@ fn number_of(count: u16) -> u16
     count - 1
 }
 
-// The fragment number of a fack.
-pub fn number(m: Incoming) -> u16
-    ensures { λ r. ⌜ r ≡ lastContiguous (contiguous m) ⌝ }
+// How many fragments a fack acknowledges by its number; 65535 counts as none.
+pub fn acknowledged_by(g: u16) -> u16
+    ensures { λ r. ⌜ r ≡ acknowledgedBy g ⌝ }
 {
-    number_of(incoming::count(m))
+    if g == 65535 {
+        return 0;
+    }
+    g + 1
+}
+
+// Whether a fack acknowledges more than the `count` fragments of the message.
+pub fn acknowledges_more(count: u16, g: u16) -> bool
+    ensures { λ r. ⌜ r ≡ acknowledgesMore count g ⌝ }
+{
+    count < acknowledged_by(g)
 }
 
 fn bit_of(held: bool) -> u32
@@ -37,7 +44,6 @@ fn bit_of(held: bool) -> u32
 
 // The word of the slots from number `from` on, built from the last down.
 fn word_from(slots: [Slot; WINDOW_SIZE as usize], from: u16) -> u32
-    requires { ⌜ from ≤ windowSize ⌝ }
     ensures { λ r. ⌜ r ≡ heldWord (drop from slots) ⌝ }
 {
     let mut word: u32 = 0;
@@ -51,10 +57,10 @@ fn word_from(slots: [Slot; WINDOW_SIZE as usize], from: u16) -> u32
     word
 }
 
-// The mask of a fack.
-pub fn mask(m: Incoming) -> u32
-    ensures { λ r. ⌜ Describes m r ⌝ }
+// The mask of a fack for a contiguous count.
+pub fn mask(m: Incoming, count: u16) -> u32
+    ensures { λ r. ⌜ r ≡ maskFrom count m ⌝ }
 {
     let slots = m.slots;
-    word_from(slots, incoming::count(m))
+    word_from(slots, count)
 }

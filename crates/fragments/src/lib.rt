@@ -3,17 +3,62 @@ use incoming::Incoming;
 use incoming::Last;
 use incoming::Slot;
 use words::BODY_SIZE;
+use words::LAST_NUMBER;
+use words::PDU_SIZE;
 use words::SLOTS_SIZE;
 use words::WINDOW_SIZE;
 ghost use mathlib.Core.Path.{_≡_};
+ghost use Prim.Native.Nat.{_%_};
 ghost use lib.ListN.{getD, drop};
 ghost use lib.Dec.{eqb, leb};
 ghost use Rattle.words.specs.Choice.{both};
 ghost use Rattle.words.specs.Sizes.{bodySize, slotsSize};
 ghost use Rattle.incoming.specs.Slots.{missing};
+ghost use Rattle.fragments.specs.Fragment.{lentRight, isLast, wantsFack, wrongFragment};
 ghost use Rattle.fragments.specs.Judgement.{held, anyHeld, aboveLast, otherLast, contradicts};
 ghost use Rattle.fragments.specs.Slots.{filled, storing, isHandedUp, handedUp};
 ghost use Rattle.fragments.specs.Joined.{partOf};
+
+// Whether a slot buffer and a PDU buffer have their lengths.
+pub fn is_lent_right(slots: usize, out: usize) -> bool
+    ensures { λ r. ⌜ r ≡ lentRight slots out ⌝ }
+{
+    words::both(slots == SLOTS_SIZE, out == PDU_SIZE)
+}
+
+// Whether a fragment is the last: last set, or fragment clear.
+pub fn is_last(flags1: u8) -> bool
+    ensures { λ r. ⌜ r ≡ isLast flags1 ⌝ }
+{
+    let last = flags::is_last(flags1);
+    let part = flags::is_fragment(flags1);
+    words::either(last, !part)
+}
+
+// Whether what is put is answered by a fack: a fragment whose sender did not ask for none.
+pub fn wants_fack(flags1: u8) -> bool
+    ensures { λ r. ⌜ r ≡ wantsFack flags1 ⌝ }
+{
+    let unwanted = flags::has_no_fack(flags1);
+    let part = flags::is_fragment(flags1);
+    words::both(!unwanted, part)
+}
+
+// Whether a fragment number is above 31, or other than 0 where fragment is clear.
+pub fn is_wrong(flags1: u8, number: u16) -> bool
+    ensures { λ r. ⌜ r ≡ wrongFragment flags1 number ⌝ }
+{
+    let part = flags::is_fragment(flags1);
+    let alone = words::both(!part, number != 0);
+    words::either(LAST_NUMBER < number, alone)
+}
+
+// The length of a body as a record keeps it.
+pub fn body_length(length: usize) -> u16
+    ensures { λ r. ⌜ r ≡ length % 65536 ⌝ }
+{
+    (length % 65536) as u16
+}
 
 // The slot of number f; beyond the window it is a missing one.
 fn slot_of(slots: [Slot; WINDOW_SIZE as usize], f: u16) -> Slot

@@ -3,7 +3,7 @@ use words::BODY_SIZE;
 use words::LAST_NUMBER;
 use words::WINDOW_SIZE;
 ghost use mathlib.Core.Path.{_≡_};
-ghost use Rattle.incoming.specs.Slots.{within, slotSound, soundFrom, lastSound, sound, contiguousFrom, contiguous, allTo, complete, cleared, slotsWith, lastWith, stored};
+ghost use Rattle.incoming.specs.Slots.{within, slotSound, soundFrom, lastSound, sound, contiguousFrom, contiguous, allTo, complete, progressOf, cleared, slotsWith, lastWith, stored};
 
 // A fragment's place: held or missing, and its length where it is held.
 pub struct Slot {
@@ -20,6 +20,12 @@ pub enum Last {
 pub struct Incoming {
     pub slots: [Slot; WINDOW_SIZE as usize],
     pub last: Last,
+}
+
+// How far a message has come: the contiguous count, and whether all to the last are held.
+pub struct Progress {
+    pub count: u16,
+    pub complete: bool,
 }
 
 // Whether number i is not above the known last.
@@ -120,6 +126,18 @@ pub fn is_complete(m: Incoming) -> bool
 {
     let last = m.last;
     reaches(last, count(m))
+}
+
+// How far a message has come.
+pub fn progress(m: Incoming) -> Progress
+    ensures { λ r. ⌜ r ≡ progressOf m ⌝ }
+{
+    let last = m.last;
+    let count = count(m);
+    Progress {
+        count,
+        complete: reaches(last, count),
+    }
 }
 
 // Nothing held, no last known.

@@ -3,9 +3,11 @@ use flags::FRAGMENT;
 use flags::LAST_FRAGMENT;
 use words::BODY_SIZE;
 use words::MESSAGE_SIZE;
+use words::PDU_SIZE;
 ghost use mathlib.Core.Path.{_≡_};
 ghost use Prim.Native.Nat.{max};
 ghost use Rattle.outgoing.specs.Message.{fragments, fragmentOf, flagsOf};
+ghost use Rattle.outgoing.specs.Lent.{sameMessage, transmitLent};
 ghost use Rattle.outgoing.specs.Sending.{nextSerial, oneMore, inField, afterSend, sendsLast, afterPing, acknowledgedTo, firstToSend, rewound, messageOf, started, replied, noMessage, bounded, hasMessage, hasNothing};
 
 // Length and fragment count of the message; sent is the next fragment to send, so also how many are sent.
@@ -210,4 +212,21 @@ pub fn has_nothing(o: Outgoing) -> bool
     ensures { λ r. ⌜ r ≡ hasNothing o ⌝ }
 {
     o.count == 0
+}
+
+// Whether the message lent at a transmit is that of the call, where transmit has a row.
+fn is_same_message(sending: bool, message: usize, length: u32) -> bool
+    ensures { λ r. ⌜ r ≡ sameMessage sending message length ⌝ }
+{
+    words::either(!sending, message == length as usize)
+}
+
+// Whether what is lent at a transmit is right: the PDU buffer and the message, whose length the record has where it is
+// sending.
+pub fn is_transmit_lent(sending: bool, message: usize, length: u32, out: usize) -> bool
+    ensures { λ r. ⌜ r ≡ transmitLent sending message length out ⌝ }
+{
+    let same = is_same_message(sending, message, length);
+    let fits = words::both(message <= MESSAGE_SIZE as usize, same);
+    words::both(out == PDU_SIZE, fits)
 }

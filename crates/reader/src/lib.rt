@@ -1,12 +1,13 @@
 // The reader: any datagram, of any length.
 use answers::Answer;
-use answers::Ground;
+use answers::Refusal;
 use pdu::Header;
 use words::BODY_SIZE;
 use words::HEADER_SIZE;
 ghost use mathlib.Core.Path.{_≡_};
 ghost use Rattle.pdu.specs.Header.{bodyOf};
-ghost use Rattle.reader.specs.Reading.{represents, readGround, orderIs, groundBy, reading};
+ghost use Rattle.answers.specs.Table.{answerOf};
+ghost use Rattle.reader.specs.Reading.{orderIs, readerRefusals, reading};
 
 // What reading gives: the answer, whether the sender's order is little-endian, and the header.
 pub struct Reading {
@@ -15,78 +16,62 @@ pub struct Reading {
     pub header: Header,
 }
 
-// Whether bytes 4 to 6 are this mark, 0, 0.
-fn represents_order(mark: u8, a: u8, b: u8, c: u8) -> bool
-    ensures { λ r. ⌜ r ≡ represents mark a b c ⌝ }
+// Whether the bytes 4 to 6 of a datagram are this mark, 0, 0.
+fn order_is(d: &[u8], mark: u8) -> bool
+    ensures { λ r. ⌜ r ≡ orderIs mark (now (d .entry)) ⌝ }
 {
+    let a = words::byte_at(d, 4);
+    let b = words::byte_at(d, 5);
+    let c = words::byte_at(d, 6);
     words::both(a == mark, words::both(b == 0, c == 0))
 }
 
-// Refusals 3 to 8 in the table's order.
-fn judge(size: usize, version: u8, kind: u8, known: bool, authentication: u8, body: u16) -> Ground
-    ensures { λ r. ⌜ r ≡ readGround size version kind known authentication body ⌝ }
+// The first of refusals 3 to 8 that a datagram meets, its byte order told.
+fn judge(d: &[u8], little: bool, big: bool) -> Answer
+    ensures { λ r. ⌜ r ≡ answerOf (readerRefusals (now (d .entry)) little big) ⌝ }
 {
+    let size = d.len();
     if size < HEADER_SIZE {
-        return Ground::Refuse(Answer::ShortDatagram);
+        return Answer::Refused(Refusal::ShortDatagram);
     }
+    let version = words::byte_at(d, 0);
     if version != 4 {
-        return Ground::Refuse(Answer::WrongVersion);
+        return Answer::Refused(Refusal::WrongVersion);
     }
+    let kind = words::byte_at(d, 1);
     if kind > 10 {
-        return Ground::Refuse(Answer::UnknownType);
+        return Answer::Refused(Refusal::UnknownType);
     }
+    let known = words::either(little, big);
     if !known {
-        return Ground::Refuse(Answer::UnknownRepresentation);
+        return Answer::Refused(Refusal::UnknownRepresentation);
     }
+    let authentication = words::byte_at(d, 78);
     if authentication != 0 {
-        return Ground::Refuse(Answer::Authenticated);
+        return Answer::Refused(Refusal::Authenticated);
     }
-    let behind = body as usize;
-    if behind > BODY_SIZE {
-        return Ground::Refuse(Answer::WrongBodyLength);
+    let behind = words::number16(d, 74, little) as usize;
+    let wrong = words::either(behind > BODY_SIZE, size != HEADER_SIZE + behind);
+    if wrong {
+        return Answer::Refused(Refusal::WrongBodyLength);
     }
-    if size != HEADER_SIZE + behind {
-        return Ground::Refuse(Answer::WrongBodyLength);
-    }
-    Ground::Pass
-}
-
-// The ground of a datagram whose representation has been told.
-fn ground(s: &[u8], little: bool, big: bool) -> Ground
-    ensures { λ r. ⌜ r ≡ groundBy (now (s .entry)) little big ⌝ }
-{
-    let version = words::byte_at(s, 0);
-    let kind = words::byte_at(s, 1);
-    let told = words::either(little, big);
-    let authentication = words::byte_at(s, 78);
-    let body = words::number16(s, 74, little);
-    judge(s.len(), version, kind, told, authentication, body)
-}
-
-// Whether the bytes 4 to 6 of a datagram are this mark, 0, 0.
-fn order_is(s: &[u8], mark: u8) -> bool
-    ensures { λ r. ⌜ r ≡ orderIs mark (now (s .entry)) ⌝ }
-{
-    let a = words::byte_at(s, 4);
-    let b = words::byte_at(s, 5);
-    let c = words::byte_at(s, 6);
-    represents_order(mark, a, b, c)
+    Answer::Done
 }
 
 // Reads a datagram: the header and the sender's order, or the refusal.
-pub fn read(s: &[u8]) -> Reading
-    ensures { λ r. ⌜ r ≡ reading (now (s .entry)) ⌝ }
+pub fn read(d: &[u8]) -> Reading
+    ensures { λ r. ⌜ r ≡ reading (now (d .entry)) ⌝ }
 {
-    let little = order_is(s, 16);
-    let big = order_is(s, 0);
-    match ground(s, little, big) {
-        Ground::Pass => Reading {
+    let little = order_is(d, 16);
+    let big = order_is(d, 0);
+    match judge(d, little, big) {
+        Answer::Done => Reading {
             answer: Answer::Done,
             little,
-            header: pdu::fields(s, little),
+            header: pdu::fields(d, little),
         },
-        Ground::Refuse(answer) => Reading {
-            answer,
+        Answer::Refused(refusal) => Reading {
+            answer: Answer::Refused(refusal),
             little: false,
             header: pdu::no_header(),
         },
@@ -94,11 +79,11 @@ pub fn read(s: &[u8]) -> Reading
 }
 
 // The body of a datagram: the part of it from byte 80, empty where it ends before.
-pub fn body(s: &[u8]) -> &[u8]
-    ensures { λ r. ⌜ now r ≡ bodyOf (now (s .entry)) ⌝ }
+pub fn body(d: &[u8]) -> &[u8]
+    ensures { λ r. ⌜ now r ≡ bodyOf (now (d .entry)) ⌝ }
 {
-    if s.len() < HEADER_SIZE {
-        return &s[..0];
+    if d.len() < HEADER_SIZE {
+        return &d[..0];
     }
-    &s[HEADER_SIZE..]
+    &d[HEADER_SIZE..]
 }

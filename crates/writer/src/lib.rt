@@ -1,6 +1,6 @@
 // The writer: into a lent buffer of exactly 1,472 bytes, always little-endian.
 use answers::Answer;
-use answers::Ground;
+use answers::Refusal;
 use pdu::Header;
 use words::BODY_SIZE;
 use words::HEADER_SIZE;
@@ -12,7 +12,8 @@ ghost use lib.ListN.{length};
 ghost use Rattle.words.specs.Place.{placed};
 ghost use Rattle.words.specs.Sizes.{headerSize};
 ghost use Rattle.pdu.specs.Header.{frontBytes, numberBytes, hintBytes, backBytes, headerBytes};
-ghost use Rattle.writer.specs.Writing.{writeGround, writing, Wrote};
+ghost use Rattle.answers.specs.Table.{answerOf};
+ghost use Rattle.writer.specs.Writing.{writeRefusals, writing, Wrote};
 
 // What writing gives: the answer, and how many bytes of the buffer are the PDU, 0 where it is refused.
 pub struct Written {
@@ -20,23 +21,23 @@ pub struct Written {
     pub length: usize,
 }
 
-// Refusals 1, 5, 7 and 8 in the table's order.
-fn judge(lent: usize, kind: u8, authentication: u8, body: usize) -> Ground
-    ensures { λ r. ⌜ r ≡ writeGround lent kind authentication body ⌝ }
+// The first of refusals 1, 5, 7 and 8 that is met.
+fn judge(lent: usize, kind: u8, authentication: u8, body: usize) -> Answer
+    ensures { λ r. ⌜ r ≡ answerOf (writeRefusals lent kind authentication body) ⌝ }
 {
     if lent != PDU_SIZE {
-        return Ground::Refuse(Answer::WrongLength);
+        return Answer::Refused(Refusal::WrongLength);
     }
     if kind > 10 {
-        return Ground::Refuse(Answer::UnknownType);
+        return Answer::Refused(Refusal::UnknownType);
     }
     if authentication != 0 {
-        return Ground::Refuse(Answer::Authenticated);
+        return Answer::Refused(Refusal::Authenticated);
     }
     if body > BODY_SIZE {
-        return Ground::Refuse(Answer::WrongBodyLength);
+        return Answer::Refused(Refusal::WrongBodyLength);
     }
-    Ground::Pass
+    Answer::Done
 }
 
 // Bytes 0 to 7.
@@ -151,7 +152,7 @@ pub fn write(h: Header, body: &[u8], out: &mut [u8]) -> Written
     let kind = h.kind;
     let authentication = h.authentication;
     match judge(out.len(), kind, authentication, body.len()) {
-        Ground::Pass => {
+        Answer::Done => {
             put_header(h, body.len() as u16, out);
             words::put(out, HEADER_SIZE, body);
             Written {
@@ -159,6 +160,9 @@ pub fn write(h: Header, body: &[u8], out: &mut [u8]) -> Written
                 length: HEADER_SIZE + body.len(),
             }
         }
-        Ground::Refuse(answer) => Written { answer, length: 0 },
+        Answer::Refused(refusal) => Written {
+            answer: Answer::Refused(refusal),
+            length: 0,
+        },
     }
 }

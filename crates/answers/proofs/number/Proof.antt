@@ -1,7 +1,10 @@
--- `answers::number` meets its contract: each arm knows its variant, and the definition computes there.
+-- `answers::number` meets its contract.
 use borrow.Author.Needs.{needs}
 use Rattle.answers.proofs.number.Statement.{statement}
 use Rattle.answers.proofs.number.Tie as tie
+
+returns : tie.Need-returns
+returns c = search needs
 
 pub number-spec : {M : Type 1} → statement M
 number-spec =
@@ -9,43 +12,6 @@ number-spec =
     (tie.spec
     (λ c. search needs)
     (λ c. search needs)
-    (λ c. search needs)
-    (λ c. search needs)
-    (λ c. search needs)
-    (λ c. search needs)
-    (λ c. search needs)
-    (λ c. search needs)
-    (λ c. search needs)
-    (λ c. search needs)
-    (λ c. search needs)
-    (λ c. search needs)
-    (λ c. search needs)
-    (λ c. search needs)
-    (λ c. search needs)
-    (λ c. search needs)
-    (λ c. search needs)
-    (λ c. search needs)
-    (λ c. search needs)
-    (λ c. search needs)
-    (λ c. search needs)
-    (λ c. rw (c .enum-told .given .1))
-    (λ c. rw (c .enum-told2 .given .1))
-    (λ c. rw (c .enum-told3 .given .1))
-    (λ c. rw (c .enum-told4 .given .1))
-    (λ c. rw (c .enum-told5 .given .1))
-    (λ c. rw (c .enum-told6 .given .1))
-    (λ c. rw (c .enum-told7 .given .1))
-    (λ c. rw (c .enum-told8 .given .1))
-    (λ c. rw (c .enum-told9 .given .1))
-    (λ c. rw (c .enum-told10 .given .1))
-    (λ c. rw (c .enum-told11 .given .1))
-    (λ c. rw (c .enum-told12 .given .1))
-    (λ c. rw (c .enum-told13 .given .1))
-    (λ c. rw (c .enum-told14 .given .1))
-    (λ c. rw (c .enum-told15 .given .1))
-    (λ c. rw (c .enum-told16 .given .1))
-    (λ c. rw (c .enum-told17 .given .1))
-    (λ c. rw (c .enum-told18 .given .1))
-    (λ c. rw (c .enum-told19 .given .1))
-    (λ c. rw (c .enum-told20 .given .1))
-    (λ c. rw (c .enum-told21 .given .1)))
+    (λ c κs. search needs)
+    returns
+    (λ c. rw (c .before .before .answer .given .1, c .refusal-number .ensures)))

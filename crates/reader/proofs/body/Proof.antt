@@ -13,16 +13,16 @@ use Rattle.reader.proofs.body.Tie as tie
 returns : tie.Need-returns
 unfolding bodyOf
 returns c =
-    let s = c .before .before .args .s .now in
-    let short : length s ≤ headerSize = omega arith in
-    sym (drop-of-length-le s short)
+    let d = c .before .before .args .d .now in
+    let short : length d ≤ headerSize = omega arith in
+    sym (drop-of-length-le d short)
 
 returns-2 : tie.Need-returns-2
 unfolding bodyOf
 returns-2 c =
-    let s = c .before .before .args .s .now in
-    let rest : length (drop headerSize s) ≤ length s - headerSize = omega (arith, length-drop headerSize s) in
-    take-all (length s - headerSize) (drop headerSize s) rest
+    let d = c .before .before .args .d .now in
+    let rest : length (drop headerSize d) ≤ length d - headerSize = omega (arith, length-drop headerSize d) in
+    take-all (length d - headerSize) (drop headerSize d) rest
 
 pub body-spec : {M : Type 1} → statement M
 body-spec =

@@ -1,13 +1,13 @@
--- `grounds::same_uuid` meets its contract. Before each turn all bytes below i are equal.
+-- `words::same_uuid` meets its contract. Before each turn all bytes below i are equal.
 use Prim.Native.Nat.{_≤_, _-_}
 use mathlib.Core.Path.{_≡_, refl, sym, _∙_}
 use native.Mathlib.Omega.{arith}
 use borrow.Author.Needs.{needs}
 use lib.ListN.{length, drop, drop-of-length-le}
-use Rattle.grounds.specs.Entry.{same}
-use Rattle.grounds.proofs.EntryLaws.{same-on, same-ends}
-use Rattle.grounds.proofs.same_uuid.Statement.{statement}
-use Rattle.grounds.proofs.same_uuid.Tie as tie
+use Rattle.words.specs.Same.{same}
+use Rattle.words.proofs.SameLaws.{same-on, same-ends}
+use Rattle.words.proofs.same_uuid.Statement.{statement}
+use Rattle.words.proofs.same_uuid.Tie as tie
 
 abbrev Inv-loop : tie.InvT-loop
 Inv-loop a b i₀ i = (i ≤ 16) × (length a ≡ 16) × (length b ≡ 16) × (same a b ≡ same (drop i a) (drop i b))
