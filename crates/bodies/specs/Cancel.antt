@@ -15,11 +15,15 @@ use Rattle.bodies.specs.declared.CancelAckReading.{CancelAckReading}
 unfoldable pub cancelMalformed : Bool → List ℕ → Bool
 cancelMalformed little body = either (not (eqb (length body) 8)) (not (eqb (number 4 little body 0) 0))
 
+-- The number in the body of a cancel or cancel_ack, behind the version.
+abbrev pub cancelNumberIn : Bool → List ℕ → ℕ
+cancelNumberIn little body = number 4 little body 4
+
 -- What reading a cancel's body gives, in the sender's order.
 unfoldable pub cancelReading : Bool → List ℕ → CancelReading
 cancelReading little body =
     choose (cancelMalformed little body) (record { answer = Refused MalformedBody; number = 0 })
-    (record { answer = Done; number = number 4 little body 4 })
+    (record { answer = Done; number = cancelNumberIn little body })
 
 -- A cancel's body as it is written.
 unfoldable pub cancelBytes : ℕ → List ℕ
@@ -35,7 +39,7 @@ cancelAckMalformed little body =
 unfoldable pub cancelAckReading : Bool → List ℕ → CancelAckReading
 cancelAckReading little body =
     choose (cancelAckMalformed little body) (record { answer = Refused MalformedBody; number = 0; accepts = false })
-    (record { answer = Done; number = number 4 little body 4; accepts = eqb (number 4 little body 8) 1 })
+    (record { answer = Done; number = cancelNumberIn little body; accepts = eqb (number 4 little body 8) 1 })
 
 -- A cancel_ack's body as it is written.
 unfoldable pub cancelAckBytes : ℕ → Bool → List ℕ

@@ -1,31 +1,56 @@
-// The client's judgement of each event: the ground of document 01's refusals in their order, the
-// lowest position deciding. Nothing is written here.
+// The client's judgement of each event: the first refusal of document 01's table that it meets, or its row with all
+// that the step needs. Nothing is written here.
 use crate::records;
 use crate::records::Client;
 use crate::records::State;
 use crate::records::TimerKind;
 use answers::Answer;
-use answers::Ground;
-use incoming::Incoming;
-use reader::Reading;
+use answers::Refusal;
+use fragments::Fragment;
+use pdu::Header;
 use timers::Timer;
 use words::MESSAGE_SIZE;
+use words::PDU_SIZE;
+use words::RETRY_LIMIT;
 ghost use mathlib.Core.Path.{_≡_};
-ghost use Rattle.client.specs.judge.Events.{serverEvent, eventOf, byEvent, sideGround, hasRow, arms as armsTimer};
-ghost use Rattle.client.specs.judge.Arrival.{numberGround, isCurrent, pduGround, completes as completesMessage, rowGround, tableGround, arrivalGround};
-ghost use Rattle.client.specs.judge.Local.{startGround, transmitGround, timerGround, mayCancel, cancelGround};
+ghost use Rattle.client.specs.judge.Rows.{nextNumber, waitRow, timerRow as rowOfTimer, nocallRow, isCurrent, arms as armsRow};
+ghost use Rattle.client.specs.judge.Refusals.{startVerdict, transmitVerdict, timerVerdict, mayCancel, cancelVerdict, isOld, pduVerdict, activityVerdict, arrivalVerdict};
 
-// What an arriving PDU is to the client.
-pub enum Event {
-    Response,
-    Fault,
-    Reject,
+// A row of the client's table, with what judging found.
+pub enum Row {
+    // The next fragment is sent; whether it is the last.
+    Transmit(bool),
+    // WAIT below its limit: the count with this ping.
+    Ping(u8),
+    // ACK.
+    SendAck,
+    // A local cancel: its number.
+    Cancel(u32),
+    // A response is put.
+    Response(Fragment),
+    // A fault or reject: its status.
+    Fault(u32),
+    Reject(u32),
     Working,
-    Nocall,
-    Fack,
+    // Nocall below its limit: the count with this resend.
+    Resend(u8),
+    // WAIT or nocall at its limit, or CANCEL: the local cause.
+    GiveUp(u8),
+    // How many fragments it acknowledges.
+    Fack(u16),
+    // The current one.
     CancelAck,
-    // A type that is not for this side.
-    Foreign,
+}
+
+pub enum Verdict {
+    Refuse(Refusal),
+    Go(Row),
+}
+
+// Of a start: its row has the call's number.
+pub enum StartVerdict {
+    Refuse(Refusal),
+    Go(u32),
 }
 
 // The last call number.
@@ -34,265 +59,138 @@ const LAST_CALL_NUMBER: u32 = 4294967295;
 // The last cancel number.
 const LAST_CANCEL_NUMBER: u32 = 4294967295;
 
-// What the server answers a call with: types 2 to 6.
-fn server_event(kind: u8) -> Event
-    ensures { λ r. ⌜ r ≡ serverEvent kind ⌝ }
+// The number of the next call.
+fn next_number(queued: bool, number: u32) -> u32
+    ensures { λ r. ⌜ r ≡ nextNumber queued number ⌝ }
 {
-    match kind {
-        2 => Event::Response,
-        3 => Event::Fault,
-        4 => Event::Working,
-        5 => Event::Nocall,
-        _ => Event::Reject,
+    if queued {
+        return 0;
     }
+    std::num::wrapping_add_u32(number, 1)
 }
 
-// The client takes types 2 to 6, 9 and 10.
-pub fn event_of(kind: u8) -> Event
-    ensures { λ r. ⌜ r ≡ eventOf kind ⌝ }
-{
-    match kind {
-        2..=6 => server_event(kind),
-        9 => Event::Fack,
-        10 => Event::CancelAck,
-        0..=1 => Event::Foreign,
-        7..=8 => Event::Foreign,
-        11..=255 => Event::Foreign,
-    }
-}
-
-// What is judged of a response, of a fault or reject, of a fack, and of a cancel_ack.
-fn by_event(event: Event, response: Ground, status: Ground, fack: Ground, ack: Ground) -> Ground
-    ensures { λ r. ⌜ r ≡ byEvent event response status fack ack ⌝ }
-{
-    match event {
-        Event::Response => response,
-        Event::Fault => status,
-        Event::Reject => status,
-        Event::Working => Ground::Pass,
-        Event::Nocall => Ground::Pass,
-        Event::Fack => fack,
-        Event::CancelAck => ack,
-        Event::Foreign => Ground::Pass,
-    }
-}
-
-// 10.
-fn side(event: Event) -> Ground
-    ensures { λ r. ⌜ r ≡ sideGround event ⌝ }
-{
-    match event {
-        Event::Response => Ground::Pass,
-        Event::Fault => Ground::Pass,
-        Event::Reject => Ground::Pass,
-        Event::Working => Ground::Pass,
-        Event::Nocall => Ground::Pass,
-        Event::Fack => Ground::Pass,
-        Event::CancelAck => Ground::Pass,
-        Event::Foreign => Ground::Refuse(Answer::WrongSide),
-    }
-}
-
-// Whether the table has a row for the event: by whether the state is active, whether it is DISPATCHED, and
-// whether a cancel_ack is the current one.
-fn has_row(event: Event, active: bool, dispatched: bool, current: bool) -> bool
-    ensures { λ r. ⌜ r ≡ hasRow event active dispatched current ⌝ }
-{
-    match event {
-        Event::Response => active,
-        Event::Fault => active,
-        Event::Reject => active,
-        Event::Working => dispatched,
-        Event::Nocall => dispatched,
-        Event::Fack => active,
-        Event::CancelAck => current,
-        Event::Foreign => false,
-    }
-}
-
-// Whether the row arms a timer: a response unless it completes an idempotent call, and working.
-fn arms(event: Event, finishes: bool) -> bool
-    ensures { λ r. ⌜ r ≡ armsTimer event finishes ⌝ }
-{
-    match event {
-        Event::Response => !finishes,
-        Event::Fault => false,
-        Event::Reject => false,
-        Event::Working => true,
-        Event::Nocall => false,
-        Event::Fack => false,
-        Event::CancelAck => false,
-        Event::Foreign => false,
-    }
-}
-
-// 13: a number that is not the client's; in QUEUED it has none.
-fn number(state: State, mine: u32, theirs: u32) -> Ground
-    ensures { λ r. ⌜ r ≡ numberGround state mine theirs ⌝ }
-{
-    let queued = records::is_queued(state);
-    grounds::refuse_if(words::either(queued, mine != theirs), Answer::OldCall)
-}
-
-// Whether a cancel_ack is the current one: CANCEL is armed, and the number is the record's.
-fn is_current(cancel: Timer, mine: u32, theirs: u32) -> bool
-    ensures { λ r. ⌜ r ≡ isCurrent cancel mine theirs ⌝ }
-{
-    let off = timers::is_off(cancel);
-    words::both(!off, mine == theirs)
-}
-
-// 10, 12, 13, 14; ack is the ground of a cancel_ack's body.
-fn pdu_ground(
-    event: Event,
-    number: Ground,
-    ack: Ground,
-    flags1: u8,
-    f: u16,
-    body: &[u8],
-    little: bool,
-) -> Ground
-    ensures { λ r. ⌜ r ≡ pduGround event number ack flags1 f (now (body .entry)) little ⌝ }
-{
-    let part = grounds::fragment(flags1, f);
-    let fragment = by_event(event, part, Ground::Pass, Ground::Pass, Ground::Pass);
-    let status = grounds::status_body(body, little);
-    let fack = grounds::fack_body(body, little);
-    let malformed = by_event(event, Ground::Pass, status, fack, ack);
-    let rest = grounds::first_of(fragment, grounds::first_of(number, malformed));
-    grounds::first_of(side(event), rest)
-}
-
-// Whether all to the last are held once fragment f is put.
-fn completes(m: Incoming, f: u16, length: u16, last: bool) -> bool
-    ensures { λ r. ⌜ r ≡ completesMessage m f length last ⌝ }
-{
-    incoming::is_complete(incoming::with(m, f, length, last))
-}
-
-// 15, 16, 17, 20.
-fn row_ground(
-    event: Event,
-    row: bool,
-    m: Incoming,
-    count: u16,
-    f: u16,
-    last: bool,
-    finishes: bool,
-    tickets: u64,
-) -> Ground
-    ensures { λ r. ⌜ r ≡ rowGround event row m count f last finishes tickets ⌝ }
-{
-    let put = grounds::put(m, f, last);
-    let fack = grounds::fack(count, f);
-    let clash = by_event(event, put, Ground::Pass, fack, Ground::Pass);
-    let ticket = grounds::tickets(arms(event, finishes), tickets);
-    let rest = grounds::first_of(clash, ticket);
-    grounds::first_of(grounds::refuse_if(!row, Answer::NoRow), rest)
-}
-
-// 15 to 20, of a PDU that is the event; current tells whether a cancel_ack is the current one.
-fn table_ground(event: Event, c: Client, current: bool, flags1: u8, f: u16, length: u16) -> Ground
-    ensures { λ r. ⌜ r ≡ tableGround event c current flags1 f length ⌝ }
+// A start with a message of this length: 1, 2, 15, 19.
+pub fn start(c: Client, length: u32) -> StartVerdict
+    ensures { λ r. ⌜ r ≡ startVerdict c length ⌝ }
 {
     let state = c.state;
-    let m = c.incoming;
-    let call = c.call;
-    let o = c.outgoing;
-    let active = records::is_active(state);
-    let dispatched = records::is_dispatched(state);
-    let row = has_row(event, active, dispatched, current);
-    let last = grounds::is_last(flags1);
-    let finishes = words::both(completes(m, f, length, last), call.idempotent);
-    row_ground(event, row, m, o.count, f, last, finishes, c.tickets)
-}
-
-// The ground of an arriving datagram.
-pub fn arrival(c: Client, lent: Ground, reading: Reading, body: &[u8]) -> Ground
-    ensures { λ r. ⌜ r ≡ arrivalGround c lent reading (now (body .entry)) ⌝ }
-{
-    let h = reading.header;
-    let answer = reading.answer;
-    let mine = c.activity;
-    let theirs = h.activity;
-    let state = c.state;
+    if MESSAGE_SIZE < length {
+        return StartVerdict::Refuse(Refusal::WrongLength);
+    }
     let sound = records::is_sound(c);
-    let entry = grounds::entry(lent, sound, answer, mine, theirs);
-    let event = event_of(h.kind);
-    let old = number(state, c.number, h.number);
-    let ack = bodies::read_cancel_ack(body, reading.little);
-    let read = ack.answer;
-    let formed = grounds::of_answer(read);
-    let pdu = pdu_ground(
-        event,
-        old,
-        formed,
-        h.flags1,
-        h.fragment,
-        body,
-        reading.little,
-    );
-    let cancel = c.cancel;
-    let current = is_current(cancel, c.cancels, ack.number);
-    let length = grounds::body_length(body.len());
-    let table = table_ground(event, c, current, h.flags1, h.fragment, length);
-    grounds::first_of(entry, grounds::first_of(pdu, table))
-}
-
-// The ground of a start.
-pub fn start(c: Client, length: u32) -> Ground
-    ensures { λ r. ⌜ r ≡ startGround c length ⌝ }
-{
-    let state = c.state;
-    let long = grounds::refuse_if(MESSAGE_SIZE < length, Answer::WrongLength);
-    let sound = records::is_sound(c);
-    let rules = grounds::refuse_if(!sound, Answer::BrokenRecord);
+    if !sound {
+        return StartVerdict::Refuse(Refusal::BrokenRecord);
+    }
     let may = records::may_start(state);
-    let row = grounds::refuse_if(!may, Answer::NoRow);
+    if !may {
+        return StartVerdict::Refuse(Refusal::NoRow);
+    }
     let queued = records::is_queued(state);
     let up = words::both(!queued, c.number == LAST_CALL_NUMBER);
-    let numbers = grounds::refuse_if(up, Answer::NumbersUsedUp);
-    grounds::first_of(
-        long,
-        grounds::first_of(rules, grounds::first_of(row, numbers)),
-    )
+    if up {
+        return StartVerdict::Refuse(Refusal::NumbersUsedUp);
+    }
+    StartVerdict::Go(next_number(queued, c.number))
 }
 
-// The ground of a transmit.
-pub fn transmit(c: Client, message: usize, out: usize) -> Ground
-    ensures { λ r. ⌜ r ≡ transmitGround c message out ⌝ }
+// A transmit, by the lengths of what is lent: 1, 2, 15, 20.
+pub fn transmit(c: Client, message: usize, out: usize) -> Verdict
+    ensures { λ r. ⌜ r ≡ transmitVerdict c message out ⌝ }
 {
     let state = c.state;
     let o = c.outgoing;
     let sending = records::is_sending(state);
-    let lent = grounds::message_lent(sending, message, o.length, out);
+    let lent = outgoing::is_transmit_lent(sending, message, o.length, out);
+    if !lent {
+        return Verdict::Refuse(Refusal::WrongLength);
+    }
     let sound = records::is_sound(c);
-    let rules = grounds::refuse_if(!sound, Answer::BrokenRecord);
-    let row = grounds::refuse_if(!sending, Answer::NoRow);
-    let ticket = grounds::tickets(outgoing::sends_last(o), c.tickets);
-    grounds::first_of(
-        lent,
-        grounds::first_of(rules, grounds::first_of(row, ticket)),
-    )
+    if !sound {
+        return Verdict::Refuse(Refusal::BrokenRecord);
+    }
+    if !sending {
+        return Verdict::Refuse(Refusal::NoRow);
+    }
+    let last = outgoing::sends_last(o);
+    let up = words::both(last, timers::used_up(c.tickets));
+    if up {
+        return Verdict::Refuse(Refusal::TicketsUsedUp);
+    }
+    Verdict::Go(Row::Transmit(last))
 }
 
-// The ground of a timer event.
-pub fn timer(c: Client, kind: TimerKind, ticket: u64, out: usize) -> Ground
-    ensures { λ r. ⌜ r ≡ timerGround c kind ticket out ⌝ }
+// WAIT: ping, or at its limit local cause 1.
+fn wait_row(waits: u8) -> Row
+    ensures { λ r. ⌜ r ≡ waitRow waits ⌝ }
+{
+    if waits < RETRY_LIMIT {
+        return Row::Ping(waits + 1);
+    }
+    Row::GiveUp(1)
+}
+
+// The row of a timer.
+fn timer_row(kind: TimerKind, c: Client) -> Row
+    ensures { λ r. ⌜ r ≡ rowOfTimer kind c ⌝ }
+{
+    match kind {
+        TimerKind::Wait => wait_row(c.waits),
+        TimerKind::Ack => Row::SendAck,
+        TimerKind::Cancel => Row::GiveUp(3),
+    }
+}
+
+// A timer event: 1, 2, 15, 18, 20.
+pub fn timer(c: Client, kind: TimerKind, ticket: u64, out: usize) -> Verdict
+    ensures { λ r. ⌜ r ≡ timerVerdict c kind ticket out ⌝ }
 {
     let state = c.state;
     let wait = c.wait;
     let ack = c.ack;
     let cancel = c.cancel;
-    let lent = grounds::refuse_if(out != words::PDU_SIZE, Answer::WrongLength);
+    if out != PDU_SIZE {
+        return Verdict::Refuse(Refusal::WrongLength);
+    }
     let sound = records::is_sound(c);
-    let rules = grounds::refuse_if(!sound, Answer::BrokenRecord);
+    if !sound {
+        return Verdict::Refuse(Refusal::BrokenRecord);
+    }
     let named = records::is_named(kind, state);
-    let row = grounds::refuse_if(!named, Answer::NoRow);
-    let late = grounds::late(records::timer_of(kind, wait, ack, cancel), ticket);
-    let fresh = grounds::tickets(records::arms_afresh(kind, c.waits), c.tickets);
-    let rest = grounds::first_of(row, grounds::first_of(late, fresh));
-    grounds::first_of(lent, grounds::first_of(rules, rest))
+    if !named {
+        return Verdict::Refuse(Refusal::NoRow);
+    }
+    let armed = timers::is_armed_with(records::timer_of(kind, wait, ack, cancel), ticket);
+    if !armed {
+        return Verdict::Refuse(Refusal::LateTimer);
+    }
+    let row = timer_row(kind, c);
+    let up = words::both(arms(c, row), timers::used_up(c.tickets));
+    if up {
+        return Verdict::Refuse(Refusal::TicketsUsedUp);
+    }
+    Verdict::Go(row)
+}
+
+// Whether a row arms a timer.
+fn arms(c: Client, row: Row) -> bool
+    ensures { λ r. ⌜ r ≡ armsRow c row ⌝ }
+{
+    let call = c.call;
+    let cancel = c.cancel;
+    match row {
+        Row::Transmit(last) => last,
+        Row::Ping(_) => true,
+        Row::SendAck => false,
+        Row::Cancel(_) => timers::is_off(cancel),
+        Row::Response(p) => !words::both(p.complete, call.idempotent),
+        Row::Fault(_) => false,
+        Row::Reject(_) => false,
+        Row::Working => true,
+        Row::Resend(_) => false,
+        Row::GiveUp(_) => false,
+        Row::Fack(_) => false,
+        Row::CancelAck => false,
+    }
 }
 
 // Whether a local cancel has a row.
@@ -303,20 +201,269 @@ fn may_cancel(state: State, cancels: u32) -> bool
     words::both(active, cancels != LAST_CANCEL_NUMBER)
 }
 
-// The ground of a local cancel.
-pub fn cancel(c: Client, out: usize) -> Ground
-    ensures { λ r. ⌜ r ≡ cancelGround c out ⌝ }
+// A local cancel: 1, 2, 15, 20.
+pub fn cancel(c: Client, out: usize) -> Verdict
+    ensures { λ r. ⌜ r ≡ cancelVerdict c out ⌝ }
 {
     let state = c.state;
     let timer = c.cancel;
-    let lent = grounds::refuse_if(out != words::PDU_SIZE, Answer::WrongLength);
+    if out != PDU_SIZE {
+        return Verdict::Refuse(Refusal::WrongLength);
+    }
     let sound = records::is_sound(c);
-    let rules = grounds::refuse_if(!sound, Answer::BrokenRecord);
+    if !sound {
+        return Verdict::Refuse(Refusal::BrokenRecord);
+    }
     let may = may_cancel(state, c.cancels);
-    let row = grounds::refuse_if(!may, Answer::NoRow);
-    let ticket = grounds::tickets(timers::is_off(timer), c.tickets);
-    grounds::first_of(
-        lent,
-        grounds::first_of(rules, grounds::first_of(row, ticket)),
-    )
+    if !may {
+        return Verdict::Refuse(Refusal::NoRow);
+    }
+    let up = words::both(timers::is_off(timer), timers::used_up(c.tickets));
+    if up {
+        return Verdict::Refuse(Refusal::TicketsUsedUp);
+    }
+    Verdict::Go(Row::Cancel(std::num::wrapping_add_u32(c.cancels, 1)))
+}
+
+// 13: a number that is not the client's; in QUEUED it has none.
+fn is_old(state: State, mine: u32, theirs: u32) -> bool
+    ensures { λ r. ⌜ r ≡ isOld state mine theirs ⌝ }
+{
+    let queued = records::is_queued(state);
+    words::either(queued, mine != theirs)
+}
+
+// A response: 12, 13, 15, 16, 17, 20.
+fn response(c: Client, h: Header, little: bool, body: &[u8]) -> Verdict
+    requires { ⌜ h .kind ≡ 2 ⌝ }
+    ensures { λ r. ⌜ r ≡ pduVerdict c h little (now (body .entry)) ⌝ }
+{
+    let state = c.state;
+    let m = c.incoming;
+    let call = c.call;
+    let wrong = fragments::is_wrong(h.flags1, h.fragment);
+    if wrong {
+        return Verdict::Refuse(Refusal::WrongFragment);
+    }
+    let old = is_old(state, c.number, h.number);
+    if old {
+        return Verdict::Refuse(Refusal::OldCall);
+    }
+    let active = records::is_active(state);
+    if !active {
+        return Verdict::Refuse(Refusal::NoRow);
+    }
+    let held = fragments::is_held(m, h.fragment);
+    if held {
+        return Verdict::Refuse(Refusal::Repeated);
+    }
+    let last = fragments::is_last(h.flags1);
+    let clash = fragments::contradicts_held(m, h.fragment, last);
+    if clash {
+        return Verdict::Refuse(Refusal::Contradiction);
+    }
+    let length = fragments::body_length(body.len());
+    let p = fragments::put_of(m, h.flags1, h.serial, h.fragment, length);
+    let finishes = words::both(p.complete, call.idempotent);
+    let up = words::both(!finishes, timers::used_up(c.tickets));
+    if up {
+        return Verdict::Refuse(Refusal::TicketsUsedUp);
+    }
+    Verdict::Go(Row::Response(p))
+}
+
+// A fault: 13, 14, 15.
+fn fault(c: Client, h: Header, little: bool, body: &[u8]) -> Verdict
+    requires { ⌜ h .kind ≡ 3 ⌝ }
+    ensures { λ r. ⌜ r ≡ pduVerdict c h little (now (body .entry)) ⌝ }
+{
+    let state = c.state;
+    let old = is_old(state, c.number, h.number);
+    if old {
+        return Verdict::Refuse(Refusal::OldCall);
+    }
+    let malformed = bodies::is_status_malformed(body, little);
+    if malformed {
+        return Verdict::Refuse(Refusal::MalformedBody);
+    }
+    let active = records::is_active(state);
+    if !active {
+        return Verdict::Refuse(Refusal::NoRow);
+    }
+    Verdict::Go(Row::Fault(words::number32(body, 0, little)))
+}
+
+// A reject: 13, 14, 15.
+fn reject(c: Client, h: Header, little: bool, body: &[u8]) -> Verdict
+    requires { ⌜ h .kind ≡ 6 ⌝ }
+    ensures { λ r. ⌜ r ≡ pduVerdict c h little (now (body .entry)) ⌝ }
+{
+    let state = c.state;
+    let old = is_old(state, c.number, h.number);
+    if old {
+        return Verdict::Refuse(Refusal::OldCall);
+    }
+    let malformed = bodies::is_status_malformed(body, little);
+    if malformed {
+        return Verdict::Refuse(Refusal::MalformedBody);
+    }
+    let active = records::is_active(state);
+    if !active {
+        return Verdict::Refuse(Refusal::NoRow);
+    }
+    Verdict::Go(Row::Reject(words::number32(body, 0, little)))
+}
+
+// Working: 13, 15, 20.
+fn working(c: Client, h: Header, little: bool, body: &[u8]) -> Verdict
+    requires { ⌜ h .kind ≡ 4 ⌝ }
+    ensures { λ r. ⌜ r ≡ pduVerdict c h little (now (body .entry)) ⌝ }
+{
+    let state = c.state;
+    let old = is_old(state, c.number, h.number);
+    if old {
+        return Verdict::Refuse(Refusal::OldCall);
+    }
+    let dispatched = records::is_dispatched(state);
+    if !dispatched {
+        return Verdict::Refuse(Refusal::NoRow);
+    }
+    let up = timers::used_up(c.tickets);
+    if up {
+        return Verdict::Refuse(Refusal::TicketsUsedUp);
+    }
+    Verdict::Go(Row::Working)
+}
+
+// The row of a nocall: the request goes out again, or at the limit local cause 2.
+fn nocall_row(resends: u8) -> Row
+    ensures { λ r. ⌜ r ≡ nocallRow resends ⌝ }
+{
+    if resends < RETRY_LIMIT {
+        return Row::Resend(resends + 1);
+    }
+    Row::GiveUp(2)
+}
+
+// Nocall: 13, 15.
+fn nocall(c: Client, h: Header, little: bool, body: &[u8]) -> Verdict
+    requires { ⌜ h .kind ≡ 5 ⌝ }
+    ensures { λ r. ⌜ r ≡ pduVerdict c h little (now (body .entry)) ⌝ }
+{
+    let state = c.state;
+    let old = is_old(state, c.number, h.number);
+    if old {
+        return Verdict::Refuse(Refusal::OldCall);
+    }
+    let dispatched = records::is_dispatched(state);
+    if !dispatched {
+        return Verdict::Refuse(Refusal::NoRow);
+    }
+    Verdict::Go(nocall_row(c.resends))
+}
+
+// A fack: 13, 14, 15, 17.
+fn fack(c: Client, h: Header, little: bool, body: &[u8]) -> Verdict
+    requires { ⌜ h .kind ≡ 9 ⌝ }
+    ensures { λ r. ⌜ r ≡ pduVerdict c h little (now (body .entry)) ⌝ }
+{
+    let state = c.state;
+    let o = c.outgoing;
+    let old = is_old(state, c.number, h.number);
+    if old {
+        return Verdict::Refuse(Refusal::OldCall);
+    }
+    let malformed = bodies::is_fack_malformed(body, little);
+    if malformed {
+        return Verdict::Refuse(Refusal::MalformedBody);
+    }
+    let active = records::is_active(state);
+    if !active {
+        return Verdict::Refuse(Refusal::NoRow);
+    }
+    let count = facks::acknowledged_by(h.fragment);
+    if o.count < count {
+        return Verdict::Refuse(Refusal::Contradiction);
+    }
+    Verdict::Go(Row::Fack(count))
+}
+
+// Whether a cancel_ack is the current one: CANCEL is armed, and the number is the record's.
+fn is_current(cancel: Timer, mine: u32, theirs: u32) -> bool
+    ensures { λ r. ⌜ r ≡ isCurrent cancel mine theirs ⌝ }
+{
+    let off = timers::is_off(cancel);
+    words::both(!off, mine == theirs)
+}
+
+// A cancel_ack: 13, 14, 15.
+fn cancel_ack(c: Client, h: Header, little: bool, body: &[u8]) -> Verdict
+    requires { ⌜ h .kind ≡ 10 ⌝ }
+    ensures { λ r. ⌜ r ≡ pduVerdict c h little (now (body .entry)) ⌝ }
+{
+    let state = c.state;
+    let cancel = c.cancel;
+    let old = is_old(state, c.number, h.number);
+    if old {
+        return Verdict::Refuse(Refusal::OldCall);
+    }
+    let malformed = bodies::is_cancel_ack_malformed(body, little);
+    if malformed {
+        return Verdict::Refuse(Refusal::MalformedBody);
+    }
+    let current = is_current(cancel, c.cancels, words::number32(body, 4, little));
+    if !current {
+        return Verdict::Refuse(Refusal::NoRow);
+    }
+    Verdict::Go(Row::CancelAck)
+}
+
+// 10 to 20, of a header and a body that were read, by the type.
+fn pdu(c: Client, h: Header, little: bool, body: &[u8]) -> Verdict
+    ensures { λ r. ⌜ r ≡ pduVerdict c h little (now (body .entry)) ⌝ }
+{
+    let kind = h.kind;
+    match kind {
+        2 => response(c, h, little, body),
+        3 => fault(c, h, little, body),
+        4 => working(c, h, little, body),
+        5 => nocall(c, h, little, body),
+        6 => reject(c, h, little, body),
+        9 => fack(c, h, little, body),
+        10 => cancel_ack(c, h, little, body),
+        _ => Verdict::Refuse(Refusal::WrongSide),
+    }
+}
+
+// 9 to 20, of a datagram that was read.
+fn of_mine(c: Client, h: Header, little: bool, body: &[u8]) -> Verdict
+    ensures { λ r. ⌜ r ≡ activityVerdict c h little (now (body .entry)) ⌝ }
+{
+    let mine = c.activity;
+    let theirs = h.activity;
+    let same = words::same_uuid(mine, theirs);
+    if !same {
+        return Verdict::Refuse(Refusal::OtherActivity);
+    }
+    pdu(c, h, little, body)
+}
+
+// An arriving datagram, by the lengths of what is lent: 1, 2, those of the reader, 9, those of the PDU.
+pub fn arrival(c: Client, slots: usize, out: usize, d: &[u8]) -> Verdict
+    ensures { λ r. ⌜ r ≡ arrivalVerdict c slots out (now (d .entry)) ⌝ }
+{
+    let lent = fragments::is_lent_right(slots, out);
+    if !lent {
+        return Verdict::Refuse(Refusal::WrongLength);
+    }
+    let sound = records::is_sound(c);
+    if !sound {
+        return Verdict::Refuse(Refusal::BrokenRecord);
+    }
+    let reading = reader::read(d);
+    let answer = reading.answer;
+    match answer {
+        Answer::Refused(refusal) => Verdict::Refuse(refusal),
+        Answer::Done => of_mine(c, reading.header, reading.little, reader::body(d)),
+    }
 }

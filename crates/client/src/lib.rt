@@ -1,24 +1,17 @@
 // The client call machine: a console's side of an activity. Each event takes the record by value and
 // the lent memory, judges, steps and only then acts.
-mod arrivals;
 mod judge;
 mod records;
 mod step;
 
 use answers::Answer;
-use answers::Ground;
+use answers::Refusal;
 use calls::Call;
 use calls::Notice;
 use calls::Sent;
+use judge::StartVerdict;
+use judge::Verdict;
 use pdu::Header;
-use reader::Reading;
-pub use records::Client;
-pub use records::State;
-pub use records::TimerKind;
-pub use records::fresh;
-pub use records::is_queued;
-pub use records::is_sending;
-pub use records::is_sound;
 use step::Plan;
 use step::Send;
 ghost use mathlib.Core.Path.{_≡_};
@@ -26,7 +19,7 @@ ghost use mathlib.Core.List.{[]};
 ghost use Rattle.calls.specs.Sent.{Posted};
 ghost use Rattle.client.specs.Sending.{pduHeader, requestSent, emptySent, fackSent, cancelSent, sentOut};
 ghost use Rattle.calls.specs.Events.{Stepped, Arrived};
-ghost use Rattle.client.specs.Machine.{outcomeOf, starting, transmitting, timing, cancelling, planOf, acted, arriving, handedUpOf};
+ghost use Rattle.client.specs.Machine.{refused as refusedOutcome, done as doneOutcome, startBy, starting, sending, stepBy, transmitting, timing, cancelling, acted, arriving, handedUpOf};
 
 // What an event gives back.
 pub struct Outcome {
@@ -74,13 +67,13 @@ fn send_empty(kind: u8, c: Client, out: &mut [u8]) -> Sent
     calls::post(h, &none, out)
 }
 
-// Sends a fack for the serial answered.
-fn send_fack(serial: u16, c: Client, out: &mut [u8]) -> Sent
-    ensures { λ r. ⌜ Posted (fackSent serial c (now (out .entry))) r (now (out .exit)) ⌝ }
+// Sends a fack for the serial answered; count is the contiguous count of what is held.
+fn send_fack(serial: u16, count: u16, c: Client, out: &mut [u8]) -> Sent
+    ensures { λ r. ⌜ Posted (fackSent serial count c (now (out .entry))) r (now (out .exit)) ⌝ }
 {
     let m = c.incoming;
-    let h = header(9, 0, facks::number(m), c);
-    let body = bodies::write_fack(serial, facks::mask(m));
+    let h = header(9, 0, facks::number(count), c);
+    let body = bodies::write_fack(serial, facks::mask(m, count));
     calls::post(h, &body, out)
 }
 
@@ -102,20 +95,31 @@ fn send_out(send: Send, c: Client, lent: &[u8], out: &mut [u8]) -> Sent
         Send::Request(f) => send_request(f, c, lent, out),
         Send::Ping => send_empty(1, c, out),
         Send::Ack => send_empty(7, c, out),
-        Send::Fack(serial) => send_fack(serial, c, out),
+        Send::Fack(serial, count) => send_fack(serial, count, c, out),
         Send::Cancel(number) => send_cancel(number, c, out),
     }
 }
 
-// What an event gives back of its plan and of what was sent.
-fn outcome_of(plan: Plan, sent: Sent) -> Outcome
-    ensures { λ r. ⌜ r ≡ outcomeOf plan sent ⌝ }
+// A refusal: the record stays, nothing is sent or told.
+fn refused(c: Client, refusal: Refusal) -> Outcome
+    ensures { λ r. ⌜ r ≡ refusedOutcome c refusal ⌝ }
 {
-    let answer = plan.answer;
+    Outcome {
+        answer: Answer::Refused(refusal),
+        client: c,
+        sent: Sent::Nothing,
+        notice: Notice::Nothing,
+    }
+}
+
+// What a row's plan gives back with what was sent.
+fn done(plan: Plan, sent: Sent) -> Outcome
+    ensures { λ r. ⌜ r ≡ doneOutcome plan sent ⌝ }
+{
     let client = plan.client;
     let notice = plan.notice;
     Outcome {
-        answer,
+        answer: Answer::Done,
         client,
         sent,
         notice,
@@ -126,79 +130,81 @@ fn outcome_of(plan: Plan, sent: Sent) -> Outcome
 pub fn start(c: Client, call: Call, length: u32) -> Outcome
     ensures { λ r. ⌜ r ≡ starting c call length ⌝ }
 {
-    let ground = judge::start(c, length);
-    outcome_of(step::start(ground, c, call, length), Sent::Nothing)
+    match judge::start(c, length) {
+        StartVerdict::Refuse(refusal) => refused(c, refusal),
+        StartVerdict::Go(number) => Outcome {
+            answer: Answer::Done,
+            client: step::start(c, number, call, length),
+            sent: Sent::Nothing,
+            notice: Notice::Nothing,
+        },
+    }
+}
+
+// Sends the PDU of a plan; the bytes of a fragment that is sent are lent.
+fn send(plan: Plan, lent: &[u8], out: &mut [u8]) -> Outcome
+    ensures { λ r. ⌜ Stepped (sending plan (now (lent .entry)) (now (out .entry))) r (now (out .exit)) ⌝ }
+{
+    let client = plan.client;
+    let send = plan.send;
+    done(plan, send_out(send, client, lent, out))
+}
+
+// An event with a PDU buffer, judged.
+fn act(verdict: Verdict, c: Client, lent: &[u8], out: &mut [u8]) -> Outcome
+    ensures { λ r. ⌜ Stepped (stepBy verdict c (now (lent .entry)) (now (out .entry))) r (now (out .exit)) ⌝ }
+{
+    match verdict {
+        Verdict::Refuse(refusal) => refused(c, refusal),
+        Verdict::Go(row) => send(step::step(row, c), lent, out),
+    }
 }
 
 // Transmit: the next fragment of the lent message.
 pub fn transmit(c: Client, message: &[u8], out: &mut [u8]) -> Outcome
     ensures { λ r. ⌜ Stepped (transmitting c (now (message .entry)) (now (out .entry))) r (now (out .exit)) ⌝ }
 {
-    let ground = judge::transmit(c, message.len(), out.len());
-    let plan = step::transmit(ground, c);
-    let client = plan.client;
-    let send = plan.send;
     let o = c.outgoing;
-    let fragment = outgoing::fragment(message, o.sent);
-    outcome_of(plan, send_out(send, client, fragment, out))
+    let verdict = judge::transmit(c, message.len(), out.len());
+    act(verdict, c, outgoing::fragment(message, o.sent), out)
 }
 
 // A timer of that kind and ticket.
 pub fn timer(c: Client, kind: TimerKind, ticket: u64, out: &mut [u8]) -> Outcome
     ensures { λ r. ⌜ Stepped (timing c kind ticket (now (out .entry))) r (now (out .exit)) ⌝ }
 {
-    let ground = judge::timer(c, kind, ticket, out.len());
-    let plan = step::timer(ground, kind, c);
-    let client = plan.client;
-    let send = plan.send;
+    let verdict = judge::timer(c, kind, ticket, out.len());
     let none: [u8; 0] = [];
-    outcome_of(plan, send_out(send, client, &none, out))
+    act(verdict, c, &none, out)
 }
 
 // Local cancel: the client's user asks that the call be stopped; the call goes on.
 pub fn cancel(c: Client, out: &mut [u8]) -> Outcome
     ensures { λ r. ⌜ Stepped (cancelling c (now (out .entry))) r (now (out .exit)) ⌝ }
 {
-    let ground = judge::cancel(c, out.len());
-    let plan = step::cancel(ground, c);
-    let client = plan.client;
-    let send = plan.send;
+    let verdict = judge::cancel(c, out.len());
     let none: [u8; 0] = [];
-    outcome_of(plan, send_out(send, client, &none, out))
+    act(verdict, c, &none, out)
 }
 
-// The plan of an arriving PDU.
-fn plan_arrival(c: Client, lent: Ground, reading: Reading, body: &[u8]) -> Plan
-    ensures { λ r. ⌜ r ≡ planOf c lent reading (now (body .entry)) ⌝ }
+// Acts on the plan of an arriving PDU: its body goes into its slot, the PDU into the buffer.
+fn store_and_send(plan: Plan, body: &[u8], slots: &mut [u8], out: &mut [u8]) -> Outcome
+    ensures { λ r. ⌜ Arrived (acted plan (now (body .entry)) (now (slots .entry)) (now (out .entry))) r (now (slots .exit)) (now (out .exit)) ⌝ }
 {
-    let h = reading.header;
-    let ground = judge::arrival(c, lent, reading, body);
-    let status = bodies::read_status(body, reading.little);
-    let length = grounds::body_length(body.len());
-    arrivals::arrive(ground, c, h, length, status.status)
-}
-
-// Acts on the plan of an arriving PDU.
-fn act(plan: Plan, f: u16, body: &[u8], slots: &mut [u8], out: &mut [u8]) -> Outcome
-    ensures { λ r. ⌜ Arrived (acted plan f (now (body .entry)) (now (slots .entry)) (now (out .entry))) r (now (slots .exit)) (now (out .exit)) ⌝ }
-{
-    let client = plan.client;
-    let send = plan.send;
+    let place = plan.store;
     let none: [u8; 0] = [];
-    fragments::store(plan.put, f, body, slots);
-    outcome_of(plan, send_out(send, client, &none, out))
+    fragments::store(place, body, slots);
+    send(plan, &none, out)
 }
 
 // An arriving PDU.
 pub fn arrive(c: Client, datagram: &[u8], slots: &mut [u8], out: &mut [u8]) -> Outcome
     ensures { λ r. ⌜ Arrived (arriving c (now (datagram .entry)) (now (slots .entry)) (now (out .entry))) r (now (slots .exit)) (now (out .exit)) ⌝ }
 {
-    let reading = reader::read(datagram);
-    let body = reader::body(datagram);
-    let h = reading.header;
-    let lent = grounds::lent(slots.len(), out.len());
-    let plan = plan_arrival(c, lent, reading, body);
-    act(plan, h.fragment, body, slots, out)
+    match judge::arrival(c, slots.len(), out.len(), datagram) {
+        Verdict::Refuse(refusal) => refused(c, refusal),
+        Verdict::Go(row) => store_and_send(step::step(row, c), reader::body(datagram), slots, out),
+    }
 }
 
 // The part of the slot buffer that is fragment f of what was received; empty where f is not

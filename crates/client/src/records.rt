@@ -9,7 +9,7 @@ ghost use mathlib.Core.Path.{_≡_};
 ghost use Rattle.client.specs.records.States.{mayStart, isQueued, isSending, isActive, isDispatched, isWaiting, isAckPending};
 ghost use Rattle.client.specs.records.Rules.{countsSound, messageRule, outgoingSound, timersSound, sound};
 ghost use Rattle.client.specs.records.Record.{fresh as freshRecord, timed, waiting, sending, ackPending, unarmed, cancelArmed, cancelDisarmed, withOutgoing, withIncoming, withWaits, withResends, withCancels, withCall};
-ghost use Rattle.client.specs.records.Arming.{namedTimer, namedBy, pings};
+ghost use Rattle.client.specs.records.Arming.{namedTimer, namedBy};
 
 pub enum State {
     Queued,
@@ -205,11 +205,16 @@ pub fn is_sound(c: Client) -> bool
     let wait = c.wait;
     let ack = c.ack;
     let cancel = c.cancel;
-    let counts = counts_are_sound(c.waits, c.resends);
-    let sending = outgoing_is_sound(state, o);
-    let receiving = incoming::is_sound(m);
-    let timing = timers_are_sound(state, wait, ack, cancel, c.tickets);
-    words::both(counts, words::both(sending, words::both(receiving, timing)))
+    if !counts_are_sound(c.waits, c.resends) {
+        return false;
+    }
+    if !outgoing_is_sound(state, o) {
+        return false;
+    }
+    if !incoming::is_sound(m) {
+        return false;
+    }
+    timers_are_sound(state, wait, ack, cancel, c.tickets)
 }
 
 // A fresh client: QUEUED, nothing held or armed.
@@ -415,16 +420,5 @@ pub fn is_named(kind: TimerKind, state: State) -> bool
         TimerKind::Wait => is_waiting(state),
         TimerKind::Ack => is_ack_pending(state),
         TimerKind::Cancel => is_active(state),
-    }
-}
-
-// Whether the timer's row arms it afresh.
-pub fn arms_afresh(kind: TimerKind, waits: u8) -> bool
-    ensures { λ r. ⌜ r ≡ pings kind waits ⌝ }
-{
-    match kind {
-        TimerKind::Wait => waits < RETRY_LIMIT,
-        TimerKind::Ack => false,
-        TimerKind::Cancel => false,
     }
 }

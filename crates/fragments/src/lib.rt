@@ -16,7 +16,8 @@ ghost use Rattle.words.specs.Sizes.{bodySize, slotsSize};
 ghost use Rattle.incoming.specs.Slots.{missing};
 ghost use Rattle.fragments.specs.Fragment.{lentRight, isLast, wantsFack, wrongFragment};
 ghost use Rattle.fragments.specs.Judgement.{held, anyHeld, aboveLast, otherLast, contradicts};
-ghost use Rattle.fragments.specs.Slots.{filled, storing, isHandedUp, handedUp};
+ghost use Rattle.fragments.specs.Put.{putOf, putInto, storing};
+ghost use Rattle.fragments.specs.Slots.{filled, isHandedUp, handedUp};
 ghost use Rattle.fragments.specs.Joined.{partOf};
 
 // Whether a slot buffer and a PDU buffer have their lengths.
@@ -58,6 +59,24 @@ pub fn body_length(length: usize) -> u16
     ensures { λ r. ⌜ r ≡ length % 65536 ⌝ }
 {
     (length % 65536) as u16
+}
+
+// A fragment that is put: its number, length and serial, whether it is the last, whether a fack is wanted for it; then
+// what is held with it: the contiguous count, and whether all to the last are.
+pub struct Fragment {
+    pub number: u16,
+    pub length: u16,
+    pub last: bool,
+    pub serial: u16,
+    pub facked: bool,
+    pub count: u16,
+    pub complete: bool,
+}
+
+// What of an arriving body is stored: nothing, or all of it as the fragment of that number.
+pub enum Store {
+    Nothing,
+    At(u16),
 }
 
 // The slot of number f; beyond the window it is a missing one.
@@ -148,13 +167,38 @@ pub fn fill(buffer: &mut [u8], f: u16, body: &[u8])
     }
 }
 
-// Puts an arriving fragment where the plan says so.
-pub fn store(put: bool, f: u16, body: &[u8], slots: &mut [u8])
-    ensures { λ _. ⌜ now (slots .exit) ≡ storing put f (now (body .entry)) (now (slots .entry)) ⌝ }
+// Puts an arriving fragment's body where the plan says so.
+pub fn store(place: Store, body: &[u8], slots: &mut [u8])
+    ensures { λ _. ⌜ now (slots .exit) ≡ storing place (now (body .entry)) (now (slots .entry)) ⌝ }
 {
-    if put {
-        fill(slots, f, body);
+    match place {
+        Store::Nothing => {}
+        Store::At(f) => fill(slots, f, body),
     }
+}
+
+// A fragment that is put into what is held, by its PDU's flags, serial, number and body length.
+pub fn put_of(m: Incoming, flags1: u8, serial: u16, f: u16, length: u16) -> Fragment
+    ensures { λ r. ⌜ r ≡ putOf m flags1 serial f length ⌝ }
+{
+    let last = is_last(flags1);
+    let then = incoming::progress(incoming::with(m, f, length, last));
+    Fragment {
+        number: f,
+        length,
+        last,
+        serial,
+        facked: wants_fack(flags1),
+        count: then.count,
+        complete: then.complete,
+    }
+}
+
+// What is held once such a fragment is put.
+pub fn put_into(m: Incoming, p: Fragment) -> Incoming
+    ensures { λ r. ⌜ r ≡ putInto m p ⌝ }
+{
+    incoming::with(m, p.number, p.length, p.last)
 }
 
 // Whether number f is handed up: a buffer of the right length, a sound record, a contiguous fragment.

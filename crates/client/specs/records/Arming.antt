@@ -1,8 +1,5 @@
--- Which timer an event names, and when its row arms it: what judging and stepping both ask of a record.
-use Prim.Native.Nat.{ℕ}
-use mathlib.Core.Bool.{Bool, false}
-use lib.Dec.{ltb}
-use Rattle.words.specs.Sizes.{retryLimit}
+-- Which timer an event names, and the states that have its row.
+use mathlib.Core.Bool.{Bool}
 use Rattle.timers.specs.declared.Timer.{Timer}
 use Rattle.client.specs.declared.records.State.{State}
 use Rattle.client.specs.declared.records.TimerKind.{TimerKind}
@@ -20,9 +17,3 @@ unfoldable pub namedBy : TimerKind → State → Bool
 namedBy Wait state = isWaiting state
 namedBy Ack state = isAckPending state
 namedBy Cancel state = isActive state
-
--- WAIT arms afresh while its count is below 5; ACK and CANCEL arm nothing.
-unfoldable pub pings : TimerKind → ℕ → Bool
-pings Wait waits = ltb waits retryLimit
-pings Ack waits = false
-pings Cancel waits = false
