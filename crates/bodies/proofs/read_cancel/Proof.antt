@@ -5,6 +5,10 @@ use Rattle.bodies.specs.Cancel.{cancelReading}
 use Rattle.bodies.proofs.read_cancel.Statement.{statement}
 use Rattle.bodies.proofs.read_cancel.Tie as tie
 
+returns-2 : tie.Need-returns-2
+unfolding cancelReading
+returns-2 c = rw (c .number32 .ensures, ← c .before .before .is-cancel-malformed .ensures) (search tests)
+
 pub read-cancel-spec : {M : Type 1} → statement M
 unfolding cancelReading
 read-cancel-spec =
@@ -13,4 +17,4 @@ read-cancel-spec =
     (λ c κs. search needs)
     (λ c. rw (← c .before .is-cancel-malformed .ensures) (search tests))
     (λ c κs. search needs)
-    (λ c. rw (c .number32 .ensures, ← c .before .before .is-cancel-malformed .ensures) (search tests)))
+    returns-2)

@@ -5,6 +5,10 @@ use Rattle.bodies.specs.Cancel.{cancelAckReading}
 use Rattle.bodies.proofs.read_cancel_ack.Statement.{statement}
 use Rattle.bodies.proofs.read_cancel_ack.Tie as tie
 
+returns-2 : tie.Need-returns-2
+unfolding cancelAckReading
+returns-2 c = rw (c .before .number32 .ensures, c .number322 .ensures, ← c .before .before .before .is-cancel-ack-malformed .ensures) (search tests)
+
 pub read-cancel-ack-spec : {M : Type 1} → statement M
 unfolding cancelAckReading
 read-cancel-ack-spec =
@@ -14,4 +18,4 @@ read-cancel-ack-spec =
     (λ c. rw (← c .before .is-cancel-ack-malformed .ensures) (search tests))
     (λ c κs. search needs)
     (λ c κs. search needs)
-    (λ c. rw (c .before .number32 .ensures, c .number322 .ensures, ← c .before .before .before .is-cancel-ack-malformed .ensures) (search tests)))
+    returns-2)
