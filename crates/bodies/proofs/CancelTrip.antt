@@ -5,60 +5,54 @@ use mathlib.Core.List.{List, _++_}
 use mathlib.Core.Path.{_≡_, refl, sym, ap, _∙_}
 use native.Mathlib.Omega.{arith}
 use lib.ListN.{length, getD}
-use lib.Dec.{leb, eqb}
-use borrow.Author.Tests.{eqb-true, leb-true}
-use Rattle.words.specs.Choice.{choose, both, markOf}
+use lib.Dec.{ltb, eqb}
+use borrow.Author.Tests.{eqb-true, ltb-false, not-false}
+use Rattle.words.specs.Choice.{choose, either, markOf}
 use Rattle.words.specs.Number.{digits, part, number}
 use Rattle.words.proofs.Number.{value-bytes, digits-part, part-all}
-use Rattle.words.proofs.Tests.{both-true}
-use Rattle.answers.specs.declared.Answer.the-variants.{Done, MalformedBody}
-use Rattle.answers.specs.Number.{numberOf}
+use Rattle.words.proofs.Tests.{choose-false, either-false}
+use Rattle.answers.specs.declared.Refusal.the-variants.{MalformedBody}
+use Rattle.answers.specs.declared.Answer.the-variants.{Done}
+use Rattle.answers.proofs.NumberLaws.{refused-not-done}
 use Rattle.bodies.specs.declared.CancelReading.{CancelReading}
 use Rattle.bodies.specs.declared.CancelAckReading.{CancelAckReading}
-use Rattle.bodies.specs.Cancel.{cancelFormed, cancelWhere, cancelReading, cancelBytes, cancelAckFormed, cancelAckWhere, cancelAckReading, cancelAckBytes}
+use Rattle.bodies.specs.Cancel.{cancelMalformed, cancelReading, cancelBytes}
+use Rattle.bodies.specs.Cancel.{cancelAckMalformed, cancelAckReading, cancelAckBytes}
+use Rattle.bodies.proofs.Returns.{chosen-second}
 
 -- Reading the cancel that was written gives back its number,
 pub read-written-cancel : (n : ℕ) → n < 4294967296 → cancelReading true (cancelBytes n) ≡ record { answer = Done; number = n }
-unfolding cancelReading cancelWhere cancelFormed cancelBytes choose both number
+unfolding cancelReading cancelMalformed cancelBytes choose either number
 read-written-cancel n h = λ i. record { answer = Done; number = value-bytes 4 true n h i }
 
 -- and reading the cancel_ack that was written gives back its number and whether cancels are accepted.
 pub read-written-cancel-ack : (n : ℕ) (accepts : Bool) → n < 4294967296
     → cancelAckReading true (cancelAckBytes n accepts) ≡ record { answer = Done; number = n; accepts = accepts }
-unfolding cancelAckReading cancelAckWhere cancelAckFormed cancelAckBytes choose both number markOf
+unfolding cancelAckReading cancelAckMalformed cancelAckBytes choose either number markOf
 read-written-cancel-ack n true h = λ i. record { answer = Done; number = value-bytes 4 true n h i; accepts = true }
 read-written-cancel-ack n false h = λ i. record { answer = Done; number = value-bytes 4 true n h i; accepts = false }
 
-malformed-is-not-done : MalformedBody ≡ Done → ⊥
-malformed-is-not-done e = let n : numberOf MalformedBody ≡ numberOf Done = ap numberOf e in omega arith
-
--- A body that was read is well formed,
-cancel-formed : (formed : Bool) (n : ℕ) → cancelWhere formed n .answer ≡ Done → formed ≡ true
-unfolding cancelWhere choose
-cancel-formed true n e = refl
-cancel-formed false n e = absurd (malformed-is-not-done e)
-
-cancel-ack-formed : (formed : Bool) (n : ℕ) (accepts : Bool) → cancelAckWhere formed n accepts .answer ≡ Done → formed ≡ true
-unfolding cancelAckWhere choose
-cancel-ack-formed true n accepts e = refl
-cancel-ack-formed false n accepts e = absurd (malformed-is-not-done e)
-
--- 8 bytes with version 0,
+-- A body that was read is well formed: 8 bytes with version 0,
 pub record FormedCancel (little : Bool) (body : List ℕ) : Type 0 where
   pub size : length body ≡ 8
   pub version : number 4 little body 0 ≡ 0
   pub reading : cancelReading little body ≡ record { answer = Done; number = number 4 little body 4 }
 
-pub cancel-read : (little : Bool) (body : List ℕ) → cancelReading little body .answer ≡ Done → FormedCancel little body
-unfolding cancelReading cancelFormed
-cancel-read little body done =
-    let formed = cancel-formed (both (eqb (length body) 8) (eqb (number 4 little body 0) 0)) _ done in
-    let parts = both-true (eqb (length body) 8) (eqb (number 4 little body 0) 0) formed in
+pub cancel-formed : (little : Bool) (body : List ℕ) → cancelMalformed little body ≡ false → FormedCancel little body
+unfolding cancelMalformed cancelReading
+cancel-formed little body formed =
+    let parts = either-false _ _ formed in
     record {
-      size = eqb-true (length body) 8 (parts .0);
-      version = eqb-true (number 4 little body 0) 0 (parts .1);
-      reading = ap (λ (t : Bool). cancelWhere t (number 4 little body 4)) formed ∙ unfold cancelWhere choose in refl;
+      size = eqb-true (length body) 8 (not-false _ (parts .0));
+      version = eqb-true (number 4 little body 0) 0 (not-false _ (parts .1));
+      reading = choose-false (cancelMalformed little body) _ _ formed;
     }
+
+pub cancel-read : (little : Bool) (body : List ℕ) → cancelReading little body .answer ≡ Done → FormedCancel little body
+unfolding cancelReading
+cancel-read little body done =
+    cancel-formed little body
+    (chosen-second (cancelMalformed little body) (λ (r : CancelReading). r .answer) _ _ Done (refused-not-done MalformedBody) done)
 
 -- or 12 bytes with version 0 and a third number of 0 or 1.
 pub record FormedCancelAck (little : Bool) (body : List ℕ) : Type 0 where
@@ -68,21 +62,23 @@ pub record FormedCancelAck (little : Bool) (body : List ℕ) : Type 0 where
   pub reading :
       cancelAckReading little body ≡ record { answer = Done; number = number 4 little body 4; accepts = eqb (number 4 little body 8) 1 }
 
-pub cancel-ack-read : (little : Bool) (body : List ℕ) → cancelAckReading little body .answer ≡ Done → FormedCancelAck little body
-unfolding cancelAckReading cancelAckFormed
-cancel-ack-read little body done =
-    let rest = both (eqb (number 4 little body 0) 0) (leb (number 4 little body 8) 1) in
-    let formed = cancel-ack-formed (both (eqb (length body) 12) rest) _ _ done in
-    let parts = both-true (eqb (length body) 12) rest formed in
-    let inner = both-true (eqb (number 4 little body 0) 0) (leb (number 4 little body 8) 1) (parts .1) in
+pub cancel-ack-formed : (little : Bool) (body : List ℕ) → cancelAckMalformed little body ≡ false → FormedCancelAck little body
+unfolding cancelAckMalformed cancelAckReading
+cancel-ack-formed little body formed =
+    let parts = either-false _ _ formed in
+    let inner = either-false _ _ (parts .1) in
     record {
-      size = eqb-true (length body) 12 (parts .0);
-      version = eqb-true (number 4 little body 0) 0 (inner .0);
-      accepts = leb-true (number 4 little body 8) 1 (inner .1);
-      reading =
-          ap (λ (t : Bool). cancelAckWhere t (number 4 little body 4) (eqb (number 4 little body 8) 1)) formed
-          ∙ unfold cancelAckWhere choose in refl;
+      size = eqb-true (length body) 12 (not-false _ (parts .0));
+      version = eqb-true (number 4 little body 0) 0 (not-false _ (inner .0));
+      accepts = ltb-false 1 (number 4 little body 8) (inner .1);
+      reading = choose-false (cancelAckMalformed little body) _ _ formed;
     }
+
+pub cancel-ack-read : (little : Bool) (body : List ℕ) → cancelAckReading little body .answer ≡ Done → FormedCancelAck little body
+unfolding cancelAckReading
+cancel-ack-read little body done =
+    cancel-ack-formed little body
+    (chosen-second (cancelAckMalformed little body) (λ (r : CancelAckReading). r .answer) _ _ Done (refused-not-done MalformedBody) done)
 
 -- Writing what was read of a little-endian cancel gives back its bytes,
 pub written-read-cancel : (body : List ℕ) → ((i : ℕ) → getD body i 0 < 256) → cancelReading true body .answer ≡ Done

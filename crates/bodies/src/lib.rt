@@ -137,8 +137,8 @@ pub fn write_fack(serial: u16, mask: u32) -> [u8; 20]
 }
 
 // Whether the body of a fault or reject is malformed: under 4 bytes, in either order.
-pub fn is_status_malformed(body: &[u8], _little: bool) -> bool
-    ensures { λ r. ⌜ r ≡ statusMalformed _little (now (body .entry)) ⌝ }
+pub fn is_status_malformed(body: &[u8], little: bool) -> bool
+    ensures { λ r. ⌜ r ≡ statusMalformed little (now (body .entry)) ⌝ }
 {
     body.len() < 4
 }

@@ -3,7 +3,7 @@ use words::BODY_SIZE;
 use words::LAST_NUMBER;
 use words::WINDOW_SIZE;
 ghost use mathlib.Core.Path.{_≡_};
-ghost use Rattle.incoming.specs.Slots.{within, slotSound, soundFrom, lastSound, sound, contiguousFrom, contiguous, allTo, complete, progressOf, cleared, slotsWith, lastWith, stored};
+ghost use Rattle.incoming.specs.Slots.{within, heldSound, soundFrom, lastSound, sound, contiguousFrom, contiguous, allTo, complete, progressOf, cleared, slotsWith, lastWith, stored};
 
 // A fragment's place: held or missing, and its length where it is held.
 pub struct Slot {
@@ -39,17 +39,13 @@ fn is_within(last: Last, i: u16) -> bool
 }
 
 // Whether what is held at number i keeps the rules.
-fn slot_is_sound(last: Last, i: u16, is_held: bool, length: u16) -> bool
-    ensures { λ r. ⌜ r ≡ slotSound last i «is_held» length ⌝ }
+fn held_is_sound(last: Last, i: u16, length: u16) -> bool
+    ensures { λ r. ⌜ r ≡ heldSound last i length ⌝ }
 {
-    let allowed = is_within(last, i);
-    if is_held {
-        if length as usize <= BODY_SIZE {
-            return allowed;
-        }
+    if length as usize > BODY_SIZE {
         return false;
     }
-    true
+    is_within(last, i)
 }
 
 fn last_is_sound(last: Last) -> bool
@@ -61,7 +57,7 @@ fn last_is_sound(last: Last) -> bool
     }
 }
 
-// Whether every slot keeps the rules.
+// Whether every slot keeps the rules; one that is not held does.
 fn slots_are_sound(slots: [Slot; WINDOW_SIZE as usize], last: Last) -> bool
     ensures { λ r. ⌜ r ≡ soundFrom last 0 slots ⌝ }
 {
@@ -69,8 +65,10 @@ fn slots_are_sound(slots: [Slot; WINDOW_SIZE as usize], last: Last) -> bool
     while i < WINDOW_SIZE {
         let at = i as usize;
         let slot = slots[at];
-        if !slot_is_sound(last, i, slot.held, slot.length) {
-            return false;
+        if slot.held {
+            if !held_is_sound(last, i, slot.length) {
+                return false;
+            }
         }
         i += 1;
     }
@@ -83,7 +81,10 @@ pub fn is_sound(m: Incoming) -> bool
 {
     let slots = m.slots;
     let last = m.last;
-    words::both(last_is_sound(last), slots_are_sound(slots, last))
+    if !last_is_sound(last) {
+        return false;
+    }
+    slots_are_sound(slots, last)
 }
 
 // How many slots from the first on are held without a gap.
@@ -129,7 +130,7 @@ pub fn is_complete(m: Incoming) -> bool
 }
 
 // How far a message has come.
-pub fn progress(m: Incoming) -> Progress
+pub fn progress_of(m: Incoming) -> Progress
     ensures { λ r. ⌜ r ≡ progressOf m ⌝ }
 {
     let last = m.last;

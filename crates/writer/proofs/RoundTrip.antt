@@ -1,6 +1,6 @@
 -- Reading what was written gives back header and body; writing what was read of a little-endian datagram gives back its bytes.
 use Prim.Native.Nat.{ℕ, _+_, _*_, _≤_, _<_, _/_, _%_}
-use mathlib.Core.Bool.{Bool, true, false, true≢false}
+use mathlib.Core.Bool.{Bool, true, false}
 use mathlib.Core.List.{List, _++_, [], _∷_}
 use mathlib.Core.Path.{_≡_, refl, sym, ap, _∙_, subst}
 use native.Mathlib.Omega.{arith}
@@ -10,22 +10,23 @@ use lib.Dec.{eqb}
 use borrow.Author.Tests.{eqb-true}
 use Rattle.words.specs.Choice.{choose, both, either}
 use Rattle.words.specs.Number.{le, digits, part, number}
+use Rattle.words.proofs.Tests.{both-true}
 use Rattle.words.proofs.Number.{value-bytes, part-all, part-take, digits-part}
-use Rattle.answers.specs.declared.Answer.the-variants.{Done}
-use Rattle.answers.specs.declared.Ground.{Ground}
-use Rattle.answers.specs.declared.Ground.the-variants.{Pass, Refuse}
-use Rattle.answers.specs.Number.{answerOf}
+use Rattle.answers.specs.declared.Answer.{Answer}
+use Rattle.answers.specs.declared.Answer.the-variants.{Done, Refused}
+use Rattle.answers.specs.Table.{answerOf}
+use Rattle.answers.proofs.TableLaws.{answer-done}
 use Rattle.pdu.specs.declared.Header.{Header}
 use Rattle.reader.specs.declared.Reading.{Reading}
 use Rattle.pdu.specs.Header.{uuidAt, headerOf, frontBytes, numberBytes, hintBytes, backBytes, headerBytes, datagram, bodyOf}
-use Rattle.reader.specs.Reading.{represents, orderIs, groundBy, readBy, reading}
+use Rattle.reader.specs.Reading.{orderIs, readerRefusals, readRefusals, readBy, reading}
 use Rattle.words.specs.Place.{placed}
 use Rattle.words.specs.Sizes.{headerSize, bodySize, pduSize}
 use Rattle.words.proofs.Place.{placed-front}
-use Rattle.writer.specs.Writing.{writeGround, writeBy, writing}
+use Rattle.writer.specs.Writing.{writeRefusals, writeBy, writing}
 use Rattle.pdu.proofs.HeaderLaws.{same-header}
-use Rattle.reader.proofs.Readable.{Readable, readable, readable-passes}
-use Rattle.writer.proofs.Returns.{Sized, length-header, length-datagram, writable, writable-passes}
+use Rattle.reader.proofs.Readable.{ReadableBy, readable-passes, accepted-readable, accepted-reading}
+use Rattle.writer.proofs.Returns.{Sized, length-header, length-datagram, Writable, writable, writable-passes}
 
 -- Every field of a header is within its width.
 pub record Fits (h : Header) : Type 0 where
@@ -74,14 +75,14 @@ header-spelled h body f =
     (value-bytes 2 true (h .operation) (f .operation)) (value-bytes 2 true (h .ihint) (f .ihint)) (value-bytes 2 true (h .ahint) (f .ahint))
     (value-bytes 2 true (h .fragment) (f .fragment)) refl
 
-ground-spelled : (h : Header) (body : List ℕ) → h .kind ≤ 10 → h .authentication ≡ 0 → length body ≤ bodySize
-    → groundBy (datagram (spelled h) body) true false ≡ Pass
-unfolding groundBy either choose datagram headerBytes spelled number
-ground-spelled h body k a n =
+answer-spelled : (h : Header) (body : List ℕ) → h .kind ≤ 10 → h .authentication ≡ 0 → length body ≤ bodySize
+    → answerOf (readerRefusals (datagram (spelled h) body) true false) ≡ Done
+unfolding either choose datagram headerBytes spelled number
+answer-spelled h body k a n =
     let told : number 2 true (datagram (spelled h) body) 74 ≡ length body = value-bytes 2 true (length body) (omega arith) in
     let size : length (datagram (spelled h) body) ≡ headerSize + length body =
     length-datagram (spelled h) body (record { object = refl; interface = refl; activity = refl }) in
-    readable-passes (length (datagram (spelled h) body)) 4 (h .kind) true (h .authentication) (number 2 true (datagram (spelled h) body) 74)
+    readable-passes (datagram (spelled h) body) true false
     (record {
       whole = size ∙ ap (λ (m : ℕ). headerSize + m) (sym told);
       version-4 = refl;
@@ -96,15 +97,15 @@ abbrev pub accepted : Header → Reading
 accepted h = record { answer = Done; little = true; header = h }
 
 order-spelled : (h : Header) (body : List ℕ) → (orderIs 16 (datagram (spelled h) body) ≡ true) × (orderIs 0 (datagram (spelled h) body) ≡ false)
-unfolding orderIs represents both choose datagram headerBytes spelled
+unfolding orderIs both choose datagram headerBytes spelled
 order-spelled h body = (refl, refl)
 
 reading-spelled : (h : Header) (body : List ℕ) → Fits h → h .kind ≤ 10 → h .authentication ≡ 0 → length body ≤ bodySize
     → reading (datagram (spelled h) body) ≡ accepted (spelled h)
-unfolding reading readBy
+unfolding reading readBy readRefusals
 reading-spelled h body f k a n =
     let order = order-spelled h body in
-    rw (order .0, order .1, ground-spelled h body k a n, header-spelled h body f)
+    rw (order .0, order .1, answer-spelled h body k a n, header-spelled h body f)
 
 -- Reading what was written gives back the header,
 pub read-written : (h : Header) (body : List ℕ) → Fits h → h .kind ≤ 10 → h .authentication ≡ 0 → length body ≤ bodySize
@@ -115,10 +116,10 @@ read-written h body f k a n =
 -- its type whatever the other fields are,
 taken-spelled : (h : Header) (body : List ℕ) → h .kind ≤ 10 → h .authentication ≡ 0 → length body ≤ bodySize
     → reading (datagram (spelled h) body) ≡ accepted (headerOf true (datagram (spelled h) body))
-unfolding reading readBy
+unfolding reading readBy readRefusals
 taken-spelled h body k a n =
     let order = order-spelled h body in
-    rw (order .0, order .1, ground-spelled h body k a n)
+    rw (order .0, order .1, answer-spelled h body k a n)
 
 kind-spelled : (h : Header) (body : List ℕ) → headerOf true (datagram (spelled h) body) .kind ≡ h .kind
 unfolding spelled headerOf datagram headerBytes
@@ -146,42 +147,18 @@ pub body-written : (h : Header) (body : List ℕ) → Sized h → bodyOf (datagr
 unfolding bodyOf datagram
 body-written h body z = drop-at (headerBytes h (length body)) body headerSize (length-header h (length body) z)
 
--- Bytes 4 to 6 of a little-endian datagram.
-representation : (mark a b c : ℕ) → represents mark a b c ≡ true → (a ≡ mark) × (b ≡ 0) × (c ≡ 0)
-unfolding represents both choose
-representation mark a b c e = told (eqb a mark) (eqb b 0) (eqb c 0) refl refl refl e
-  where
-    told : (x y z : Bool) → eqb a mark ≡ x → eqb b 0 ≡ y → eqb c 0 ≡ z → choose x (choose y z false) false ≡ true → (a ≡ mark) × (b ≡ 0) × (c ≡ 0)
-    told true true true p q r k = (eqb-true a mark p, eqb-true b 0 q, eqb-true c 0 r)
-    told true true false p q r k = absurd (true≢false (sym k))
-    told true false z p q r k = absurd (true≢false (sym k))
-    told false y z p q r k = absurd (true≢false (sym k))
+-- Bytes 4 to 6 of a datagram with this mark.
+representation : (mark : ℕ) (d : List ℕ) → orderIs mark d ≡ true → (getD d 4 0 ≡ mark) × (getD d 5 0 ≡ 0) × (getD d 6 0 ≡ 0)
+unfolding orderIs
+representation mark d e =
+    let first = both-true (eqb (getD d 4 0) mark) _ e in
+    let rest = both-true (eqb (getD d 5 0) 0) (eqb (getD d 6 0) 0) (first .1) in
+    (eqb-true (getD d 4 0) mark (first .0), eqb-true (getD d 5 0) 0 (rest .0), eqb-true (getD d 6 0) 0 (rest .1))
 
-read-answers : (g : Ground) (little : Bool) (h : Header) → readBy g little h .answer ≡ answerOf g
-unfolding readBy
-read-answers Pass little h = refl
-read-answers (Refuse a) little h = refl
-
--- What is known of an accepted datagram.
-module _ (s : List ℕ) (done : reading s .answer ≡ Done) where
-  pub accepted-readable : Readable (length s) (getD s 0 0) (getD s 1 0) (either (orderIs 16 s) (orderIs 0 s)) (getD s 78 0) (number 2 (orderIs 16 s) s 74)
-  unfolding reading groundBy
-  accepted-readable =
-      readable (length s) (getD s 0 0) (getD s 1 0) (either (orderIs 16 s) (orderIs 0 s)) (getD s 78 0) (number 2 (orderIs 16 s) s 74)
-      (sym (read-answers (groundBy s (orderIs 16 s) (orderIs 0 s)) (orderIs 16 s) (headerOf (orderIs 16 s) s)) ∙ done)
-
-  -- It gives the sender's order and the header in that order.
-  pub accepted-reading : reading s ≡ record { answer = Done; little = orderIs 16 s; header = headerOf (orderIs 16 s) s }
-  unfolding reading readBy
-  accepted-reading = rw passes
-    where
-      passes : groundBy s (orderIs 16 s) (orderIs 0 s) ≡ Pass
-      passes = unfold groundBy in readable-passes _ _ _ _ _ _ accepted-readable
-
-  -- Its body is at most 1,392 bytes.
-  pub body-short : length (bodyOf s) ≤ bodySize
-  unfolding bodyOf
-  body-short = let known = accepted-readable in rw length-drop (omega arith)
+-- The body of an accepted datagram is at most 1,392 bytes.
+pub body-short : (s : List ℕ) → reading s .answer ≡ Done → length (bodyOf s) ≤ bodySize
+unfolding bodyOf
+body-short s done = let known = accepted-readable s done in rw length-drop (omega arith)
 
 -- A datagram that reads has the call number that was written.
 pub number-written : (h : Header) (body : List ℕ) → Sized h → h .number < 4294967296 → reading (datagram h body) .answer ≡ Done
@@ -221,7 +198,7 @@ module _ (s : List ℕ) (octets : (i : ℕ) → getD s i 0 < 256) where
 -- Writing the header and the body of an accepted little-endian datagram gives back its bytes.
 pub written-read : (s : List ℕ) → ((i : ℕ) → getD s i 0 < 256) → reading s .answer ≡ Done → reading s .little ≡ true
     → datagram (reading s .header) (bodyOf s) ≡ s
-unfolding datagram bodyOf orderIs
+unfolding datagram bodyOf
 written-read s octets done little =
     let r = accepted-readable s done in
     let is = accepted-reading s done in
@@ -230,13 +207,13 @@ written-read s octets done little =
     let size : length s ≡ headerSize + number 2 true s 74 = rw order at (r .whole) in
     let rest : length (drop headerSize s) ≡ number 2 true s 74 = omega (arith, length-drop headerSize s) in
     let front : headerBytes (headerOf true s) (length (drop headerSize s)) ≡ part headerSize s 0 =
-    header-same s octets (length (drop headerSize s)) (r .version-4) (representation 16 (getD s 4 0) (getD s 5 0) (getD s 6 0) order) rest in
+    header-same s octets (length (drop headerSize s)) (r .version-4) (representation 16 s order) rest in
     ap (λ (h : Header). headerBytes h (length (drop headerSize s)) ++ drop headerSize s) header
     ∙ ap (λ (l : List ℕ). l ++ drop headerSize s) (front ∙ part-take headerSize s 0 (omega arith)) ∙ take-append-drop headerSize s
 
 -- So the write of an accepted little-endian datagram's header and body is answered 0, and leaves its bytes at the front of the buffer.
 module _ (s out : List ℕ) (octets : (i : ℕ) → getD s i 0 < 256) (done : reading s .answer ≡ Done) (room : length out ≡ pduSize) where
-  write-passes : writeGround (length out) (reading s .header .kind) (reading s .header .authentication) (length (bodyOf s)) ≡ Pass
+  write-passes : answerOf (writeRefusals (length out) (reading s .header .kind) (reading s .header .authentication) (length (bodyOf s))) ≡ Done
   unfolding headerOf
   write-passes =
       let r = accepted-readable s done in
@@ -261,18 +238,30 @@ module _ (s out : List ℕ) (octets : (i : ℕ) → getD s i 0 < 256) (done : re
       let bytes = written-read s octets done little in
       rw write-passes (ap (λ (n : ℕ). record { answer = Done; length = n }) size, ap (λ (d : List ℕ). placed 0 d out) bytes)
 
-write-answers : (g : Ground) (h : Header) (body out : List ℕ) → writeBy g h body out .result .answer ≡ answerOf g
+answered : (a : Answer) (h : Header) (body out : List ℕ) → writeBy a h body out .result .answer ≡ a
 unfolding writeBy
-write-answers Pass h body out = refl
-write-answers (Refuse a) h body out = refl
+answered Done h body out = refl
+answered (Refused r) h body out = refl
+
+module _ (h : Header) (body out : List ℕ) where
+  -- The writer answers by its table.
+  pub write-answers : writing h body out .result .answer
+      ≡ answerOf (writeRefusals (length out) (h .kind) (h .authentication) (length body))
+  unfolding writing
+  write-answers = answered (answerOf (writeRefusals (length out) (h .kind) (h .authentication) (length body))) h body out
+
+  -- What is known of a write that answers 0.
+  pub accepted-writable : writing h body out .result .answer ≡ Done
+      → Writable (length out) (h .kind) (h .authentication) (length body)
+  accepted-writable done =
+      writable (length out) (h .kind) (h .authentication) (length body) (answer-done _ (sym write-answers ∙ done))
 
 -- Where a write answers 0, the PDU stands at the front of the buffer, as long as the result says.
 pub written-datagram : (h : Header) (body out : List ℕ) → Sized h → writing h body out .result .answer ≡ Done
     → take (writing h body out .result .length) (writing h body out .out) ≡ datagram h body
 unfolding writing writeBy
 written-datagram h body out z done =
-    let g = writeGround (length out) (h .kind) (h .authentication) (length body) in
-    let w = writable (length out) (h .kind) (h .authentication) (length body) (sym (write-answers g h body out) ∙ done) in
+    let w = accepted-writable h body out done in
     let size : length (datagram h body) ≡ headerSize + length body = length-datagram h body z in
     rw (writable-passes (length out) (h .kind) (h .authentication) (length body) w)
     (placed-front (datagram h body) out (headerSize + length body) size (omega arith))
@@ -281,9 +270,7 @@ written-datagram h body out z done =
 pub read-back : (h : Header) (body out : List ℕ) → Fits h → writing h body out .result .answer ≡ Done
     → (reading (take (writing h body out .result .length) (writing h body out .out)) ≡ accepted h)
     × (bodyOf (take (writing h body out .result .length) (writing h body out .out)) ≡ body)
-unfolding writing
 read-back h body out f done =
-    let w = writable (length out) (h .kind) (h .authentication) (length body)
-    (sym (write-answers (writeGround (length out) (h .kind) (h .authentication) (length body)) h body out) ∙ done) in
+    let w = accepted-writable h body out done in
     rw (written-datagram h body out (f .sized) done)
     (read-written h body f (w .known-type) (w .unauthenticated) (w .short), body-written h body (f .sized))

@@ -1,20 +1,21 @@
 -- `bodies::read_cancel_ack` meets its contract.
-use Rattle.bodies.specs.Cancel.{cancelAckReading}
 use borrow.Author.Needs.{needs}
+use Rattle.words.proofs.Tests.{tests}
+use Rattle.bodies.specs.Cancel.{cancelAckReading}
 use Rattle.bodies.proofs.read_cancel_ack.Statement.{statement}
 use Rattle.bodies.proofs.read_cancel_ack.Tie as tie
 
-returns : tie.Need-returns
+returns-2 : tie.Need-returns-2
 unfolding cancelAckReading
-returns c = rw (c .cancel-ack-where .ensures, c .before .is-cancel-ack-formed .ensures, c .before .before .number323 .ensures, c .before .before .before .number322 .ensures, c .before .before .before .before .number32 .ensures)
+returns-2 c = rw (c .before .number32 .ensures, c .number322 .ensures, ← c .before .before .before .is-cancel-ack-malformed .ensures) (search tests)
 
 pub read-cancel-ack-spec : {M : Type 1} → statement M
+unfolding cancelAckReading
 read-cancel-ack-spec =
     tie.close
     (tie.spec
     (λ c κs. search needs)
+    (λ c. rw (← c .before .is-cancel-ack-malformed .ensures) (search tests))
     (λ c κs. search needs)
     (λ c κs. search needs)
-    (λ c κs. search needs)
-    (λ c κs. search needs)
-    returns)
+    returns-2)

@@ -1,5 +1,6 @@
 -- `incoming::slots_are_sound` meets its contract. Before each turn the rules hold of all slots below i.
 use Prim.Native.Nat.{_≤_, _-_}
+use mathlib.Core.Logic.{⊎-elim}
 use mathlib.Core.Path.{_≡_, refl, sym, ap, _∙_}
 use native.Mathlib.Omega.{arith}
 use borrow.Author.Needs.{needs}
@@ -7,7 +8,7 @@ use borrow.Author.Tests.{not-true, not-false}
 use lib.ListN.{length, drop, drop-of-length-le}
 use Rattle.words.specs.Sizes.{windowSize}
 use Rattle.incoming.specs.Slots.{soundFrom}
-use Rattle.incoming.proofs.SlotLaws.{sound-on, sound-fails}
+use Rattle.incoming.proofs.SlotLaws.{slot-by-held, slot-missing, sound-on, sound-fails}
 use Rattle.incoming.proofs.slots_are_sound.Statement.{statement}
 use Rattle.incoming.proofs.slots_are_sound.Tie as tie
 
@@ -22,23 +23,27 @@ loop-holds c = (omega arith, search needs, refl)
 
 returns : tie.Need-returns Inv-loop μ-loop
 returns c =
-    let d = c .before .before .before in
+    let d = c .before .before .before .before in
     let slots = d .before .before .args .t1 in
     let last = d .before .before .args .last in
     let l = d .before .loop in
     sym (l .inv .2 ∙ sound-fails last slots (l .i) (l .i) _ (omega arith)
-    (sym (c .before .slot-is-sound .ensures) ∙ not-true _ (c .if1 .taken)))
+    (slot-by-held last (l .i) _ _ (c .before .before .if1 .taken)
+    ∙ sym (c .before .held-is-sound .ensures) ∙ not-true _ (c .if2 .taken)))
 
 loop-again : tie.Need-loop-again Inv-loop μ-loop
 loop-again c =
-    let d = c .before .before .before in
+    let d = c .before .before in
     let slots = d .before .before .args .t1 in
     let last = d .before .before .args .last in
     let l = d .before .loop in (
       omega arith,
       l .inv .1,
       l .inv .2 ∙ sound-on last slots (l .i) (l .i) _ (omega arith)
-          (sym (c .before .slot-is-sound .ensures) ∙ not-false _ (c .if1 .left)),
+          (⊎-elim
+          (λ held. slot-by-held last (l .i) _ _ (held .0 .taken) ∙ sym (held .1 .ensures) ∙ not-false _ (held .2 .left))
+          (λ missing. slot-missing last (l .i) _ _ (missing .left))
+          (c .if1 .came)),
     )
 
 returns-2 : tie.Need-returns-2 Inv-loop μ-loop

@@ -2,7 +2,7 @@
 use mathlib.Core.Path.{refl}
 use native.Mathlib.Omega.{arith}
 use borrow.Author.Needs.{needs}
-use Rattle.writer.proofs.Returns.{Sized, writable-here, write-passed, write-refused}
+use Rattle.writer.proofs.Returns.{Sized, writable-here, write-accepted, write-refused}
 use Rattle.writer.proofs.write.Statement.{statement}
 use Rattle.writer.proofs.write.Tie as tie
 
@@ -26,14 +26,14 @@ returns c =
     let j = c .before .before .before .before .before .before .before .before .before .before in
     let start = j .before .before .before in
     let a = start .args in
-    write-passed (a .h) (a .body .now) (a .out .now) _ _ (j .judge .ensures) (c .before .before .before .before .before .before .before .before .enum-told .given .1) (sized start)
+    write-accepted (a .h) (a .body .now) (a .out .now) _ _ (j .judge .ensures) (c .before .before .before .before .before .before .before .before .enum-told .given .1) (sized start)
     (rw (c .before .before .put .ensures, c .before .before .before .before .before .before .put-header .ensures))
 
 returns-2 : tie.Need-returns-2
 returns-2 c =
     let j = c .before .before .before in
     let a = j .before .before .before .args in
-    write-refused (a .h) (a .body .now) (a .out .now) _ _ (j .judge .ensures) _ (c .before .answer .given .1) refl
+    write-refused (a .h) (a .body .now) (a .out .now) _ _ (j .judge .ensures) _ (c .before .refusal .given .1) refl
 
 pub write-spec : {M : Type 1} → statement M
 write-spec =
