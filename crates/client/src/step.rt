@@ -6,7 +6,7 @@ use crate::records::State;
 use calls::Call;
 use calls::Notice;
 use fragments::Fragment;
-use fragments::Store;
+use fragments::Stored;
 use incoming::Incoming;
 ghost use mathlib.Core.Path.{_≡_};
 ghost use Rattle.client.specs.step.Plan.{going as goingPlan, failed as failedPlan};
@@ -28,7 +28,7 @@ pub struct Plan {
     pub client: Client,
     pub send: Send,
     pub notice: Notice,
-    pub store: Store,
+    pub store: Stored,
 }
 
 // A row that puts no fragment.
@@ -39,7 +39,7 @@ fn going(c: Client, send: Send, notice: Notice) -> Plan
         client: c,
         send,
         notice,
-        store: Store::Nothing,
+        store: Stored::Nothing,
     }
 }
 
@@ -141,7 +141,7 @@ fn response(c: Client, p: Fragment) -> Plan
         client: received(next, fragments::put_into(m, p)),
         send: fack_for(p.facked, p.serial, p.count),
         notice: put_notice(p.complete, p.count),
-        store: Store::At(p.number),
+        store: Stored::At(p.number),
     }
 }
 

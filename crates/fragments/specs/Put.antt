@@ -4,8 +4,8 @@ use mathlib.Core.List.{List}
 use Rattle.incoming.specs.declared.Incoming.{Incoming}
 use Rattle.incoming.specs.Slots.{contiguous, complete, stored}
 use Rattle.fragments.specs.declared.Fragment.{Fragment}
-use Rattle.fragments.specs.declared.Store.{Store}
-use Rattle.fragments.specs.declared.Store.the-variants.{Nothing, At}
+use Rattle.fragments.specs.declared.Stored.{Stored}
+use Rattle.fragments.specs.declared.Stored.the-variants.{Nothing, At}
 use Rattle.fragments.specs.Fragment.{isLast, wantsFack}
 use Rattle.fragments.specs.Slots.{filled}
 
@@ -26,6 +26,6 @@ abbrev pub putInto : Incoming → Fragment → Incoming
 putInto m p = stored m (p .number) (p .length) (p .last)
 
 -- The slot buffer after a plan: only the bytes of the fragment put differ.
-unfoldable pub storing : Store → List ℕ → List ℕ → List ℕ
+unfoldable pub storing : Stored → List ℕ → List ℕ → List ℕ
 storing Nothing body slots = slots
 storing (At f) body slots = filled f body slots

@@ -74,7 +74,7 @@ pub struct Fragment {
 }
 
 // What of an arriving body is stored: nothing, or all of it as the fragment of that number.
-pub enum Store {
+pub enum Stored {
     Nothing,
     At(u16),
 }
@@ -168,12 +168,12 @@ pub fn fill(buffer: &mut [u8], f: u16, body: &[u8])
 }
 
 // Puts an arriving fragment's body where the plan says so.
-pub fn store(place: Store, body: &[u8], slots: &mut [u8])
+pub fn store(place: Stored, body: &[u8], slots: &mut [u8])
     ensures { λ _. ⌜ now (slots .exit) ≡ storing place (now (body .entry)) (now (slots .entry)) ⌝ }
 {
     match place {
-        Store::Nothing => {}
-        Store::At(f) => fill(slots, f, body),
+        Stored::Nothing => {}
+        Stored::At(f) => fill(slots, f, body),
     }
 }
 
@@ -182,7 +182,7 @@ pub fn put_of(m: Incoming, flags1: u8, serial: u16, f: u16, length: u16) -> Frag
     ensures { λ r. ⌜ r ≡ putOf m flags1 serial f length ⌝ }
 {
     let last = is_last(flags1);
-    let then = incoming::progress(incoming::with(m, f, length, last));
+    let then = incoming::progress_of(incoming::with(m, f, length, last));
     Fragment {
         number: f,
         length,

@@ -1,6 +1,6 @@
 -- What a row is to do, before anything is written.
 use Rattle.calls.specs.declared.Notice.{Notice}
-use Rattle.fragments.specs.declared.Store.the-variants.{Nothing as Unstored}
+use Rattle.fragments.specs.declared.Stored.the-variants.{Nothing as Unstored}
 use Rattle.client.specs.declared.records.State.the-variants.{Fault}
 use Rattle.client.specs.declared.records.Client.{Client}
 use Rattle.client.specs.records.Record.{unarmed}

@@ -6,7 +6,7 @@ use Rattle.calls.specs.declared.Call.{Call}
 use Rattle.calls.specs.declared.Notice.{Notice}
 use Rattle.calls.specs.declared.Notice.the-variants.{Nothing as Untold, Last, Count, Fault as FaultNotice, Reject as RejectNotice, Cause}
 use Rattle.fragments.specs.declared.Fragment.{Fragment}
-use Rattle.fragments.specs.declared.Store.the-variants.{At}
+use Rattle.fragments.specs.declared.Stored.the-variants.{At}
 use Rattle.fragments.specs.Put.{putInto}
 use Rattle.incoming.specs.declared.Incoming.{Incoming}
 use Rattle.outgoing.specs.Sending.{started as startedMessage, afterSend, afterPing, acknowledgedTo, rewound}
