@@ -27,8 +27,7 @@ use Rattle.calls.proofs.PostLaws.{whole, whole-bytes}
 use Rattle.incoming.specs.declared.Incoming.{Incoming}
 use Rattle.incoming.specs.Slots.{missing, contiguous}
 use Rattle.incoming.proofs.SlotLaws.{count-held}
-use Rattle.grounds.specs.Fack.{acknowledgedBy}
-use Rattle.facks.specs.Mask.{lastContiguous, heldBit, maskOf}
+use Rattle.facks.specs.Mask.{lastContiguous, acknowledgedBy, heldBit, maskFrom, maskOf}
 use Rattle.facks.specs.Telling.{acknowledgedIn, bodyIn, TellsHeld, OtherType}
 use Rattle.facks.proofs.MaskLaws.{word-below, count-small, mask-behind}
 
@@ -57,7 +56,7 @@ number-small count most = by-test (eqb count 0)
 
 -- So does the mask.
 pub mask-small : (m : Incoming) → length (m .slots) ≡ windowSize → maskOf m < 4294967296
-unfolding maskOf
+unfolding maskOf maskFrom
 mask-small m long =
     let size : length (drop (contiguous m) (m .slots)) ≤ 32 = omega (arith, length-drop (contiguous m) (m .slots)) in
     lt-of-lt-of-le (word-below (drop (contiguous m) (m .slots))) (pow-mono size)

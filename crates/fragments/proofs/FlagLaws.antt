@@ -5,7 +5,7 @@ use mathlib.Core.List.{List}
 use mathlib.Core.Logic.{_⊎_, inl, inr}
 use mathlib.Core.Path.{_≡_, refl, ap, _∙_}
 use native.Mathlib.Omega.{arith}
-use lib.Dec.{ltb, eqb}
+use lib.Dec.{eqb}
 use lib.ListN.{length}
 use borrow.Author.Tests.{eq-eqb, eqb-true, ltb-false, ne-eqb}
 use Rattle.words.specs.Bit.{bit}
@@ -28,7 +28,7 @@ lent-right slots out e =
 -- A fragment number that is not wrong is at most 31.
 pub fragment-passes : (flags1 f : ℕ) → wrongFragment flags1 f ≡ false → f ≤ lastNumber
 unfolding wrongFragment
-fragment-passes flags1 f e = ltb-false lastNumber f (either-false (ltb lastNumber f) _ e .0)
+fragment-passes flags1 f e = ltb-false lastNumber f (either-false _ _ e .0)
 
 -- A fragment that is not wrong, missing and without contradiction may be put.
 pub put-can : (m : Incoming) (flags1 f : ℕ) → wrongFragment flags1 f ≡ false → held m f ≡ false
