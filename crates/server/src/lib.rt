@@ -1,18 +1,15 @@
 // The server call machine: a controller's side of an activity. Each event takes the record by value
 // and the lent memory, judges, steps and only then acts.
-mod arrivals;
 mod judge;
 mod records;
-mod rows;
 mod step;
 
 use answers::Answer;
-use answers::Ground;
+use answers::Refusal;
 use calls::Call;
 use calls::Notice;
 use calls::Sent;
 use pdu::Header;
-use reader::Reading;
 pub use records::Idle;
 pub use records::Reply;
 pub use records::Server;
