@@ -62,7 +62,8 @@ pub passed-where : {A : Type 0} (refuse : Refusal → A) (table : List Line) (be
     → ((r : Refusal) → refuse r ≡ v → ⊥) → firstOf refuse table behind ≡ v → AllPassed table × (behind ≡ v)
 unfolding firstOf choose
 passed-where refuse [] behind v other e = (tt, e)
-passed-where {A} refuse (line ∷ more) behind v other e = by-test (line .test) refl e (passed-where refuse more behind v other)
+passed-where {A} refuse (line ∷ more) behind v other e =
+    by-test (line .test) refl e (passed-where refuse more behind v other)
   where
     by-test : (t : Bool) → line .test ≡ t → choose t (refuse (line .refusal)) (firstOf refuse more behind) ≡ v
         → (firstOf refuse more behind ≡ v → AllPassed more × (behind ≡ v))

@@ -5,7 +5,7 @@ use mathlib.Core.List.{List, _++_}
 use mathlib.Core.Path.{_≡_, refl, sym, ap, _∙_}
 use native.Mathlib.Omega.{arith}
 use lib.ListN.{length, getD}
-use lib.Dec.{ltb, eqb}
+use lib.Dec.{eqb}
 use borrow.Author.Tests.{eqb-true, ltb-false, not-false}
 use Rattle.words.specs.Choice.{choose, either, markOf}
 use Rattle.words.specs.Number.{digits, part, number}
@@ -52,7 +52,8 @@ pub cancel-read : (little : Bool) (body : List ℕ) → cancelReading little bod
 unfolding cancelReading
 cancel-read little body done =
     cancel-formed little body
-    (chosen-second (cancelMalformed little body) (λ (r : CancelReading). r .answer) _ _ Done (refused-not-done MalformedBody) done)
+    (chosen-second (cancelMalformed little body) (λ (r : CancelReading). r .answer) _ _ Done
+    (refused-not-done MalformedBody) done)
 
 -- or 12 bytes with version 0 and a third number of 0 or 1.
 pub record FormedCancelAck (little : Bool) (body : List ℕ) : Type 0 where
@@ -62,7 +63,8 @@ pub record FormedCancelAck (little : Bool) (body : List ℕ) : Type 0 where
   pub reading :
       cancelAckReading little body ≡ record { answer = Done; number = number 4 little body 4; accepts = eqb (number 4 little body 8) 1 }
 
-pub cancel-ack-formed : (little : Bool) (body : List ℕ) → cancelAckMalformed little body ≡ false → FormedCancelAck little body
+pub cancel-ack-formed : (little : Bool) (body : List ℕ) → cancelAckMalformed little body ≡ false
+    → FormedCancelAck little body
 unfolding cancelAckMalformed cancelAckReading
 cancel-ack-formed little body formed =
     let parts = either-false _ _ formed in
@@ -78,7 +80,8 @@ pub cancel-ack-read : (little : Bool) (body : List ℕ) → cancelAckReading lit
 unfolding cancelAckReading
 cancel-ack-read little body done =
     cancel-ack-formed little body
-    (chosen-second (cancelAckMalformed little body) (λ (r : CancelAckReading). r .answer) _ _ Done (refused-not-done MalformedBody) done)
+    (chosen-second (cancelAckMalformed little body) (λ (r : CancelAckReading). r .answer) _ _ Done
+    (refused-not-done MalformedBody) done)
 
 -- Writing what was read of a little-endian cancel gives back its bytes,
 pub written-read-cancel : (body : List ℕ) → ((i : ℕ) → getD body i 0 < 256) → cancelReading true body .answer ≡ Done

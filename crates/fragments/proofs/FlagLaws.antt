@@ -1,4 +1,4 @@
--- Laws of a request or response as a fragment: its number, its length, whether a fack is wanted, and what is lent for it.
+-- Laws of a request or response as a fragment: its number, its length, the fack for it, and what is lent.
 use Prim.Native.Nat.{ℕ, zero, suc, _≤_, _<_}
 use mathlib.Core.Bool.{Bool, true, false, not}
 use mathlib.Core.List.{List}
@@ -33,7 +33,8 @@ fragment-passes flags1 f e = ltb-false lastNumber f (either-false _ _ e .0)
 -- A fragment that is not wrong, missing and without contradiction may be put.
 pub put-can : (m : Incoming) (flags1 f : ℕ) → wrongFragment flags1 f ≡ false → held m f ≡ false
     → contradicts m f (isLast flags1) ≡ false → CanPut m f (isLast flags1)
-put-can m flags1 f numbered missing alone = record { number = fragment-passes flags1 f numbered; new = missing; fits = alone }
+put-can m flags1 f numbered missing alone =
+    record { number = fragment-passes flags1 f numbered; new = missing; fits = alone }
 
 -- The record keeps the very length of a body that is at most 1,392 bytes.
 pub body-length : (body : List ℕ) → length body ≤ bodySize → bodyLength body ≡ length body

@@ -5,7 +5,8 @@ use lib.Dec.{leb, eqb}
 use Rattle.words.specs.Choice.{both, either}
 use Rattle.words.specs.Sizes.{pduSize, messageSize}
 
--- The message lent has the length that its start or reply gave, where transmit has a row; only the limit is judged elsewhere.
+-- The message lent has the length that its start or reply gave, where transmit has a row. Elsewhere only the limit is
+-- judged.
 unfoldable pub sameMessage : Bool → ℕ → ℕ → Bool
 sameMessage sending message length = either (not sending) (eqb message length)
 

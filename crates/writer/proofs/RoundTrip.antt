@@ -25,7 +25,7 @@ use Rattle.words.specs.Sizes.{headerSize, bodySize, pduSize}
 use Rattle.words.proofs.Place.{placed-front}
 use Rattle.writer.specs.Writing.{writeRefusals, writeBy, writing}
 use Rattle.pdu.proofs.HeaderLaws.{same-header}
-use Rattle.reader.proofs.Readable.{ReadableBy, readable-passes, accepted-readable, accepted-reading}
+use Rattle.reader.proofs.Readable.{readable-passes, accepted-readable, accepted-reading}
 use Rattle.writer.proofs.Returns.{Sized, length-header, length-datagram, Writable, writable, writable-passes}
 
 -- Every field of a header is within its width.

@@ -1,5 +1,4 @@
 -- `bodies::is_status_malformed` meets its contract.
-use borrow.Author.Needs.{needs}
 use Rattle.words.proofs.Tests.{tests}
 use Rattle.bodies.specs.Status.{statusMalformed}
 use Rattle.bodies.proofs.is_status_malformed.Statement.{statement}

@@ -4,6 +4,9 @@ use borrow.Author.Needs.{needs}
 use Rattle.facks.proofs.acknowledges_more.Statement.{statement}
 use Rattle.facks.proofs.acknowledges_more.Tie as tie
 
-pub acknowledges-more-spec : {M : Type 1} → statement M
+returns : tie.Need-returns
 unfolding acknowledgesMore
-acknowledges-more-spec = tie.close (tie.spec (λ c κs. search needs) (λ c. rw (c .acknowledged-by .ensures)))
+returns c = rw (c .acknowledged-by .ensures)
+
+pub acknowledges-more-spec : {M : Type 1} → statement M
+acknowledges-more-spec = tie.close (tie.spec (λ c κs. search needs) returns)

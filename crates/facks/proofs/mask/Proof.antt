@@ -4,6 +4,9 @@ use Rattle.facks.specs.Mask.{maskFrom}
 use Rattle.facks.proofs.mask.Statement.{statement}
 use Rattle.facks.proofs.mask.Tie as tie
 
-pub mask-spec : {M : Type 1} → statement M
+returns : tie.Need-returns
 unfolding maskFrom
-mask-spec = tie.close (tie.spec (λ c κs. search needs) (λ c. c .word-from .ensures))
+returns c = c .word-from .ensures
+
+pub mask-spec : {M : Type 1} → statement M
+mask-spec = tie.close (tie.spec (λ c κs. search needs) returns)
