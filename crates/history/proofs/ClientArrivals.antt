@@ -5,15 +5,15 @@ use mathlib.Core.List.{List, []}
 use mathlib.Core.Logic.{_⊎_, inl, inr}
 use mathlib.Core.Path.{_≡_, refl, sym, ap, subst, _∙_}
 use native.Mathlib.Omega.{arith}
-use lib.Dec.{ltb}
 use lib.ListN.{length}
 use Rattle.words.specs.Choice.{choose}
-use Rattle.words.specs.Sizes.{retryLimit}
 use Rattle.answers.specs.declared.Answer.the-variants.{Done}
-use Rattle.answers.specs.declared.Ground.{Ground}
-use Rattle.bodies.specs.Status.{statusReading}
-use Rattle.calls.specs.declared.Notice.the-variants.{Nothing as Untold, Fault as FaultNotice, Reject as RejectNotice, Cause}
-use Rattle.fragments.specs.Slots.{filled, storing}
+use Rattle.calls.specs.declared.Notice.{Notice}
+use Rattle.fragments.specs.declared.Fragment.{Fragment}
+use Rattle.fragments.specs.Fragment.{isLast, bodyLength}
+use Rattle.fragments.specs.Put.{putOf, putInto, storing}
+use Rattle.fragments.specs.Slots.{filled}
+use Rattle.fragments.proofs.FlagLaws.{body-length}
 use Rattle.fragments.proofs.PutLaws.{CanPut}
 use Rattle.incoming.specs.declared.Incoming.{Incoming}
 use Rattle.incoming.specs.Slots.{contiguous, complete, stored, sound as incomingSound}
@@ -21,44 +21,38 @@ use Rattle.pdu.specs.declared.Header.{Header}
 use Rattle.pdu.specs.Header.{bodyOf}
 use Rattle.reader.specs.Reading.{reading}
 use Rattle.writer.proofs.RoundTrip.{body-short}
-use Rattle.grounds.specs.Entry.{lentGround}
-use Rattle.grounds.specs.Fragment.{isLast, wantsFack, bodyLength}
-use Rattle.grounds.proofs.GroundLaws.{lent-passes, body-length}
 use Rattle.client.specs.declared.records.Client.{Client}
+use Rattle.client.specs.declared.judge.Row.{Row}
+use Rattle.client.specs.declared.judge.Row.the-variants.{Transmit, Ping, SendAck, Cancel, Response as ResponseRow, Fault, Reject, Working, Resend, GiveUp, Fack, CancelAck}
+use Rattle.client.specs.declared.judge.Verdict.{Verdict}
+use Rattle.client.specs.declared.judge.Verdict.the-variants.{Go}
 use Rattle.client.specs.records.States.{isQueued}
-use Rattle.client.specs.records.Rules.{sound}
 use Rattle.client.specs.records.Record.{waiting, ackPending, unarmed, withIncoming, withWaits}
-use Rattle.client.proofs.StateLaws.{dispatched-state, active-state}
-use Rattle.client.proofs.RuleLaws.{rules-told}
-use Rattle.client.proofs.EventLaws.{response-kind}
-use Rattle.client.specs.declared.judge.Event.{Event}
-use Rattle.client.specs.declared.judge.Event.the-variants.{Response as ResponseEvent, Fault, Reject, Working, Nocall, Fack as FackEvent, CancelAck, Foreign}
-use Rattle.client.specs.judge.Events.{eventOf, byEvent, hasRow}
-use Rattle.client.specs.declared.step.Send.{Send}
-use Rattle.client.specs.declared.step.Send.the-variants.{Nothing, Request as SendRequest, Ping, Ack, Fack, Cancel}
-use Rattle.client.specs.step.Plan.{refused, accepted, failed}
-use Rattle.client.specs.arrivals.Rows.{putNotice, fackPlan, putRecord, fackFor, putPlan, responsePlan, workingPlan, resent, nocallPlan, cancelAckPlan, received}
-use Rattle.client.specs.arrivals.Table.{arrivalRow, arrivalPlan}
-use Rattle.client.proofs.ArrivalLaws.{nocall-puts-none}
-use Rattle.client.specs.Machine.{sending, planOf, acted, arriving}
-use Rattle.client.proofs.Judging.{CanArrive, arrived-active, response-can, arrival-passes}
+use Rattle.client.specs.judge.Rows.{arrivalRow}
+use Rattle.client.specs.judge.Refusals.{arrivalVerdict}
+use Rattle.client.specs.step.Plan.{going, failed}
+use Rattle.client.specs.step.Steps.{putRecord, received, putNotice, responsePlan, workingPlan, stepOf}
+use Rattle.client.specs.Machine.{sending, acted, arrivalBy, arriving}
+use Rattle.client.proofs.Judging.{CanTake, Judged, arrive-taken, response-row}
 use Rattle.client.proofs.Accepting.{arrive-accepted}
 use Rattle.client.proofs.Keeping.{row-sound}
+use Rattle.client.proofs.StateLaws.{active-state}
+use Rattle.client.proofs.RuleLaws.{rules-told}
+use Rattle.client.proofs.Growing.{hands-joined}
 use Rattle.history.specs.Lists.{In}
 use Rattle.history.specs.World.{Started, Completed, Replied, SentPdu, World}
 use Rattle.history.specs.Steps.{lastStart, completionsAfter, completionEntry}
 use Rattle.history.specs.Replies.{WholeReply, hasReply}
 use Rattle.history.proofs.Holding.{Buffer, Short, PartOf, unheld-unfinished, holding-whole, Holding, Single, empty-holding, put-holding, other-empty}
 use Rattle.history.proofs.Types.{IsResponse}
-use Rattle.history.proofs.Network.{Request, Response}
+use Rattle.history.proofs.Network.{Response}
 use Rattle.history.proofs.Ordinals.{equal-start}
 use Rattle.history.proofs.More.{current-on}
 use Rattle.history.proofs.Invariant.{ClientHolds, nothing, fragments-of, ClientInv, Inv, clientStep}
-use Rattle.history.proofs.ClientSteps.{GoesOn, goes-on, failed-goes-on, fack-goes-on, working-goes-on, nocall-goes-on, cancel-ack-goes-on}
-use Rattle.history.proofs.ClientSends.{asks, acknowledges, cancels, others-known, planned, none-told}
+use Rattle.history.proofs.ClientSteps.{puts, row-goes-on}
+use Rattle.history.proofs.ClientSends.{none-told}
+use Rattle.history.proofs.ClientRows.{kept-on, arrival-arrives, row-inv}
 use Rattle.history.proofs.ListLaws.{tellsLast, completed-more}
-use Rattle.client.proofs.Growing.{hands-joined}
-use Rattle.calls.specs.declared.Notice.{Notice}
 
 -- The client's holdings after a response that passed 16 and 17: fragments of one reply.
 module _ (ordinal : ℕ) (m : Incoming) (slots : List ℕ) (replies : List Replied) (flags1 f : ℕ) (body : List ℕ)
@@ -146,142 +140,119 @@ put-same true true c m = record { activity = refl; number = refl; call = refl; s
 put-same true false c m = record { activity = refl; number = refl; call = refl; size = refl }
 put-same false mark c m = record { activity = refl; number = refl; call = refl; size = refl }
 
--- The row of an arriving PDU that passed: what is known of the client stays known.
-module _ (w : World) (inv : Inv w) (o : ℕ) (h : Header) (body : List ℕ) (status : ℕ) (kept : sound (w .client .machine) ≡ true) (whole : Buffer (w .client .slots))
-    (short : Short body) (known : IsResponse (h .kind) → Response (w .books .replies) o h body) where
+-- The row of an arriving PDU: what is known of the client stays known.
+module _ (w : World) (inv : Inv w) (o : ℕ) (h : Header) (little : Bool) (body : List ℕ) (whole : Buffer (w .client .slots)) (short : Short body)
+    (known : IsResponse (h .kind) → Response (w .books .replies) o h body) (mine : w .client .machine .number ≡ h .number) where
   -- A response that has the client's number is of its last start.
-  mine : (from : Response (w .books .replies) o h body) → isQueued (w .client .machine .state) ≡ false → w .client .machine .number ≡ h .number → from .reply .ordinal ≡ lastStart (w .books .starts)
-  mine from begun e =
+  own : (from : Response (w .books .replies) o h body) → isQueued (w .client .machine .state) ≡ false
+      → from .reply .ordinal ≡ lastStart (w .books .starts)
+  own from begun =
       let run = inv .calls .replied (from .reply) (from .given) in
       let of = inv .calls .whole (run .dispatch) (run .dispatched) in
       let below = inv .calls .below (of .start) (of .started) in
       let same : of .start .ordinal ≡ o = of .ordinal ∙ run .same ∙ from .is in
       let number = inv .client .current begun .number in
       from .is
-      ∙ sym (equal-start o (lastStart (w .books .starts)) (lastStart (w .books .starts)) (omega arith) (omega arith) (sym number ∙ e ∙ from .number))
+      ∙ sym (equal-start o (lastStart (w .books .starts)) (lastStart (w .books .starts)) (omega arith) (omega arith) (sym number ∙ mine ∙ from .number))
 
   -- A response is put,
-  response-inv : CanArrive ResponseEvent (w .client .machine) h (bodyLength body) → eventOf (h .kind) ≡ ResponseEvent
-      → ClientInv (responsePlan (w .client .machine) (h .flags1) (h .serial) (h .fragment) (bodyLength body) .client) (filled (h .fragment) body (w .client .slots)) (w .books .starts)
-      (w .books .replies)
-  unfolding responsePlan putPlan byEvent hasRow withIncoming withWaits arrivalRow
-  response-inv j e =
+  response-inv : (p : Fragment) → p ≡ putOf (w .client .machine .incoming) (h .flags1) (h .serial) (h .fragment) (bodyLength body) → h .kind ≡ 2
+      → Judged (w .client .machine) (ResponseRow p)
+      → ClientInv (responsePlan (w .client .machine) p .client) (filled (p .number) body (w .client .slots)) (w .books .starts) (w .books .replies)
+  unfolding responsePlan withIncoming withWaits stepOf
+  response-inv p is kind j =
       let c = w .client .machine in
-      let m = stored (c .incoming) (h .fragment) (bodyLength body) (isLast (h .flags1)) in
-      let begun = active-state (c .state) (j .row) in
-      let same = put-same (complete m) (c .call .idempotent) c m in
-      let from = known (response-kind (h .kind) e) in
+      let m = putInto (c .incoming) p in
+      let begun = active-state (c .state) (j .can .row) in
+      let same = put-same (p .complete) (c .call .idempotent) c m in
+      let from = known kind in
       record {
-        kept = row-sound c h (bodyLength body) status kept (omega arith) ResponseEvent j;
+        kept = row-sound c (ResponseRow p) j;
         activity = rw (same .activity) (inv .client .activity);
-        unbegun = λ q. absurd (false≢true (sym (put-started (complete m) (c .call .idempotent) c m) ∙ q));
+        unbegun = λ q. absurd (false≢true (sym (put-started (p .complete) (c .call .idempotent) c m) ∙ q));
         current =
             λ q.
-            current-on c (received (putRecord (complete m) (c .call .idempotent) c) m) (w .books .starts) (same .number) (same .call) (same .size)
+            current-on c (received (putRecord (p .complete) (c .call .idempotent) c) m) (w .books .starts) (same .number) (same .call) (same .size)
             (inv .client .current begun);
-        whole = put-ends (complete m) (c .call .idempotent) c m;
-        unasked = λ e. absurd (false≢true (sym (put-started (complete m) (c .call .idempotent) c m) ∙ e));
-        holds =
-            λ q.
-            rw (body-length body short)
-            (put-holds (lastStart (w .books .starts)) (c .incoming) (w .client .slots) (w .books .replies) (h .flags1) (h .fragment) body (rules-told c kept .incoming)
-            whole (inv .calls .alike) (from .reply) (from .given) (mine from begun (j .mine)) (from .part)
-            (response-can c h (bodyLength body) j) (inv .client .holds begun));
+        whole = λ q. sym (j .can .complete) ∙ put-ends (p .complete) (c .call .idempotent) c m q;
+        unasked = λ e. absurd (false≢true (sym (put-started (p .complete) (c .call .idempotent) c m) ∙ e));
+        holds = λ q. put-held p is (j .can .can) begun;
       }
+    where
+      put-held : (p : Fragment) → p ≡ putOf (w .client .machine .incoming) (h .flags1) (h .serial) (h .fragment) (bodyLength body)
+          → CanPut (w .client .machine .incoming) (p .number) (p .last) → isQueued (w .client .machine .state) ≡ false
+          → ClientHolds (lastStart (w .books .starts)) (putInto (w .client .machine .incoming) p) (filled (p .number) body (w .client .slots)) (w .books .replies)
+      unfolding putOf
+      put-held p is can begun =
+          let c = w .client .machine in
+          let from = known kind in
+          subst
+          (λ (x : Fragment).
+          CanPut (c .incoming) (x .number) (x .last)
+          → ClientHolds (lastStart (w .books .starts)) (putInto (c .incoming) x) (filled (x .number) body (w .client .slots)) (w .books .replies))
+          (sym is)
+          (λ (able : CanPut (c .incoming) (h .fragment) (isLast (h .flags1))).
+          rw (body-length body short)
+          (put-holds (lastStart (w .books .starts)) (c .incoming) (w .client .slots) (w .books .replies) (h .flags1) (h .fragment) body
+          (rules-told c (inv .client .kept) .incoming) whole (inv .calls .alike) (from .reply) (from .given) (own from begun) (from .part)
+          able (inv .client .holds begun)))
+          can
 
-  other : (event : Event) → CanArrive event (w .client .machine) h (bodyLength body) → isQueued (w .client .machine .state) ≡ false
-      → GoesOn (w .client .machine) (arrivalRow event (w .client .machine) h (bodyLength body) status .client)
-      → ClientInv (arrivalRow event (w .client .machine) h (bodyLength body) status .client) (w .client .slots) (w .books .starts) (w .books .replies)
-  other event j begun g =
-      goes-on (w .client .machine) (arrivalRow event (w .client .machine) h (bodyLength body) status .client) (w .client .slots) (w .books .starts) (w .books .replies) (inv .client) begun
-      (row-sound (w .client .machine) h (bodyLength body) status kept (omega arith) event j) g
+  other : (row : Row) → Judged (w .client .machine) row → puts row ≡ false
+      → ClientInv (stepOf row (w .client .machine) .client) (w .client .slots) (w .books .starts) (w .books .replies)
+  other row j none = kept-on w inv row j none
 
   -- and every other row goes on with the call.
-  row-inv : (event : Event) → CanArrive event (w .client .machine) h (bodyLength body) → eventOf (h .kind) ≡ event
-      → ClientInv (arrivalRow event (w .client .machine) h (bodyLength body) status .client)
-      (storing (arrivalRow event (w .client .machine) h (bodyLength body) status .put) (h .fragment) body (w .client .slots)) (w .books .starts) (w .books .replies)
-  unfolding arrivalRow failed accepted fackPlan workingPlan cancelAckPlan responsePlan putPlan storing choose hasRow isQueued
-  row-inv ResponseEvent j e = response-inv j e
-  row-inv Fault j e = other Fault j (active-state (w .client .machine .state) (j .row)) (failed-goes-on (w .client .machine) (FaultNotice status))
-  row-inv Reject j e = other Reject j (active-state (w .client .machine .state) (j .row)) (failed-goes-on (w .client .machine) (RejectNotice status))
-  row-inv Working j e = other Working j (ap isQueued (dispatched-state (w .client .machine .state) (j .row))) (working-goes-on (w .client .machine))
-  row-inv Nocall j e =
-      subst
-      (λ (put : Bool). ClientInv (nocallPlan (w .client .machine) .client) (storing put (h .fragment) body (w .client .slots)) (w .books .starts) (w .books .replies))
-      (sym (nocall-puts-none (w .client .machine)))
-      (other Nocall j (ap isQueued (dispatched-state (w .client .machine .state) (j .row))) (nocall-goes-on (w .client .machine)))
-  row-inv FackEvent j e = other FackEvent j (active-state (w .client .machine .state) (j .row)) (fack-goes-on (w .client .machine) (h .fragment) (active-state (w .client .machine .state) (j .row)))
-  row-inv CancelAck j e =
-      let begun = active-state (w .client .machine .state) (arrived-active CancelAck (w .client .machine) h (bodyLength body) kept j) in
-      other CancelAck j begun (cancel-ack-goes-on (w .client .machine) begun)
-  row-inv Foreign j e = absurd (false≢true (j .row))
-
--- A row of an arriving PDU sends nothing or a fack, so no request, no ack and no cancel.
-abbrev sendsFack : Send → Bool
-sendsFack Nothing = true
-sendsFack (SendRequest f) = false
-sendsFack Ping = false
-sendsFack Ack = false
-sendsFack (Fack serial) = true
-sendsFack (Cancel n) = false
-
-fack-alone : (send : Send) → sendsFack send ≡ true → (asks send ≡ false) × (acknowledges send ≡ false) × (cancels send ≡ false)
-fack-alone Nothing e = (refl, refl, refl)
-fack-alone (SendRequest f) e = absurd (false≢true e)
-fack-alone Ping e = absurd (false≢true e)
-fack-alone Ack e = absurd (false≢true e)
-fack-alone (Fack serial) e = (refl, refl, refl)
-fack-alone (Cancel n) e = absurd (false≢true e)
-
-row-sends : (event : Event) (c : Client) (h : Header) (n status : ℕ) → sendsFack (arrivalRow event c h n status .send) ≡ true
-unfolding arrivalRow responsePlan putPlan failed accepted workingPlan nocallPlan fackPlan cancelAckPlan refused choose
-row-sends ResponseEvent c h n status = by-fack (wantsFack (h .flags1))
-  where
-    by-fack : (wanted : Bool) → sendsFack (fackFor wanted (h .serial)) ≡ true
-    by-fack true = unfold fackFor choose in refl
-    by-fack false = unfold fackFor choose in refl
-row-sends Fault c h n status = refl
-row-sends Reject c h n status = refl
-row-sends Working c h n status = refl
-row-sends Nocall c h n status = by-count (ltb (c .resends) retryLimit)
-  where
-    by-count : (t : Bool) → sendsFack (choose t (accepted (resent c) Nothing Untold) (failed c (Cause 2)) .send) ≡ true
-    by-count true = refl
-    by-count false = refl
-row-sends FackEvent c h n status = refl
-row-sends CancelAck c h n status = refl
-row-sends Foreign c h n status = refl
+  arrival-inv : (row : Row) → arrivalRow (w .client .machine) h little body ≡ Go row → Judged (w .client .machine) row
+      → ClientInv (stepOf row (w .client .machine) .client) (storing (stepOf row (w .client .machine) .store) body (w .client .slots))
+      (w .books .starts) (w .books .replies)
+  unfolding stepOf going failed responsePlan workingPlan storing
+  arrival-inv (ResponseRow p) is j =
+      let told = response-row (w .client .machine) h little body p is in
+      response-inv p (told .1) (told .0) j
+  arrival-inv (Transmit last) is j = other (Transmit last) j refl
+  arrival-inv (Ping waits) is j = other (Ping waits) j refl
+  arrival-inv SendAck is j = other SendAck j refl
+  arrival-inv (Cancel number) is j = other (Cancel number) j refl
+  arrival-inv (Fault status) is j = other (Fault status) j refl
+  arrival-inv (Reject status) is j = other (Reject status) j refl
+  arrival-inv Working is j = other Working j refl
+  arrival-inv (Resend resends) is j = other (Resend resends) j refl
+  arrival-inv (GiveUp cause) is j = other (GiveUp cause) j refl
+  arrival-inv (Fack count) is j = other (Fack count) j refl
+  arrival-inv CancelAck is j = other CancelAck j refl
 
 -- A row that tells "last" leaves all held.
-row-tells : (event : Event) (c : Client) (h : Header) (n status : ℕ) → tellsLast (arrivalRow event c h n status .notice) ≡ true
-    → complete (arrivalRow event c h n status .client .incoming) ≡ true
-unfolding arrivalRow responsePlan putPlan withIncoming withWaits failed accepted workingPlan nocallPlan fackPlan cancelAckPlan refused choose
-row-tells ResponseEvent c h n status e =
-    let m = stored (c .incoming) (h .fragment) n (isLast (h .flags1)) in notice-told (complete m) (contiguous m) e
-row-tells Fault c h n status e = absurd (false≢true e)
-row-tells Reject c h n status e = absurd (false≢true e)
-row-tells Working c h n status e = absurd (false≢true e)
-row-tells Nocall c h n status e = absurd (false≢true (sym (by-count (ltb (c .resends) retryLimit)) ∙ e))
-  where
-    by-count : (t : Bool) → tellsLast (choose t (accepted (resent c) Nothing Untold) (failed c (Cause 2)) .notice) ≡ false
-    by-count true = refl
-    by-count false = refl
-row-tells FackEvent c h n status e = absurd (false≢true e)
-row-tells CancelAck c h n status e = absurd (false≢true e)
-row-tells Foreign c h n status e = absurd (false≢true e)
+row-tells : (row : Row) (c : Client) → CanTake row c → tellsLast (stepOf row c .notice) ≡ true → complete (stepOf row c .client .incoming) ≡ true
+unfolding stepOf going failed responsePlan workingPlan withIncoming withWaits
+row-tells (ResponseRow p) c can e = sym (can .complete) ∙ notice-told (p .complete) (p .count) e
+row-tells (Transmit last) c can e = absurd (false≢true e)
+row-tells (Ping waits) c can e = absurd (false≢true e)
+row-tells SendAck c can e = absurd (false≢true e)
+row-tells (Cancel number) c can e = absurd (false≢true e)
+row-tells (Fault status) c can e = absurd (false≢true e)
+row-tells (Reject status) c can e = absurd (false≢true e)
+row-tells Working c can e = absurd (false≢true e)
+row-tells (Resend resends) c can e = absurd (false≢true e)
+row-tells (GiveUp cause) c can e = absurd (false≢true e)
+row-tells (Fack count) c can e = absurd (false≢true e)
+row-tells CancelAck c can e = absurd (false≢true e)
 
 -- A client with a call still has one after the row.
-still : (event : Event) (c : Client) (h : Header) (n status : ℕ) → isQueued (c .state) ≡ false → isQueued (arrivalRow event c h n status .client .state) ≡ false
-unfolding arrivalRow responsePlan putPlan refused
-still ResponseEvent c h n status e =
-    let m = stored (c .incoming) (h .fragment) n (isLast (h .flags1)) in put-started (complete m) (c .call .idempotent) c m
-still Fault c h n status e = failed-goes-on c (FaultNotice status) .started
-still Reject c h n status e = failed-goes-on c (RejectNotice status) .started
-still Working c h n status e = working-goes-on c .started
-still Nocall c h n status e = nocall-goes-on c .started
-still FackEvent c h n status e = fack-goes-on c (h .fragment) e .started
-still CancelAck c h n status e = cancel-ack-goes-on c e .started
-still Foreign c h n status e = e
+still : (row : Row) (c : Client) → CanTake row c → isQueued (stepOf row c .client .state) ≡ false
+unfolding stepOf responsePlan
+still (ResponseRow p) c can = put-started (p .complete) (c .call .idempotent) c (putInto (c .incoming) p)
+still (Transmit last) c can = row-goes-on (Transmit last) c can refl .started
+still (Ping waits) c can = row-goes-on (Ping waits) c can refl .started
+still SendAck c can = row-goes-on SendAck c can refl .started
+still (Cancel number) c can = row-goes-on (Cancel number) c can refl .started
+still (Fault status) c can = row-goes-on (Fault status) c can refl .started
+still (Reject status) c can = row-goes-on (Reject status) c can refl .started
+still Working c can = row-goes-on Working c can refl .started
+still (Resend resends) c can = row-goes-on (Resend resends) c can refl .started
+still (GiveUp cause) c can = row-goes-on (GiveUp cause) c can refl .started
+still (Fack count) c can = row-goes-on (Fack count) c can refl .started
+still CancelAck c can = row-goes-on CancelAck c can refl .started
 
 -- An arriving datagram keeps what is known of the world, where the server sent it and the buffer lent is the
 -- client's own.
@@ -290,34 +261,24 @@ pub client-arrive-inv : (w : World) (p : SentPdu) (out : List ℕ) → Inv w →
     → Inv
     (clientStep w (arriving (w .client .machine) (p .bytes) (w .client .slots) out .outcome) (arriving (w .client .machine) (p .bytes) (w .client .slots) out .out)
     (arriving (w .client .machine) (p .bytes) (w .client .slots) out .slots))
-unfolding arriving acted planOf arrivalPlan
+unfolding arriving arrivalBy acted
 client-arrive-inv w p out inv done sent =
     let c = w .client .machine in
-    let lent = lentGround (length (w .client .slots)) (length out) in
+    let slots = w .client .slots in
     let r = reading (p .bytes) in
     let body = bodyOf (p .bytes) in
-    let status = statusReading (r .little) body .status in
-    let n = bodyLength body in
-    let pass = arrive-accepted c (p .bytes) (w .client .slots) out done in
-    let j = arrival-passes c lent r body pass in
-    let buffers = lent-passes (length (w .client .slots)) (length out) (j .0 .buffers) in
-    let event = eventOf (r .header .kind) in
-    let next = row-inv w inv (p .ordinal) (r .header) body status (j .0 .kept) (buffers .0) (body-short (p .bytes) (j .0 .done))
-    (inv .responses p sent .told (j .0 .done)) event (j .1) refl in
-    let active = arrived-active event c (r .header) n (j .0 .kept) (j .1) in
-    let begun = active-state (c .state) active in
-    let sends = fack-alone (arrivalRow event c (r .header) n status .send) (row-sends event c (r .header) n status) in
+    let taken = arrive-accepted c (p .bytes) slots out done in
+    let row = taken .row in
+    let told = arrive-taken c (length slots) (length out) (p .bytes) row (taken .is) in
+    let next =
+    arrival-inv w inv (p .ordinal) (r .header) (r .little) body (told .slots) (body-short (p .bytes) (told .read)) (inv .responses p sent .told (told .read))
+    (told .mine) row (told .is) (told .judged) in
     subst
-    (λ (x : Ground).
+    (λ (x : Verdict).
     Inv
-    (clientStep w (sending (arrivalPlan x c (r .header) n status) [] out .outcome) (sending (arrivalPlan x c (r .header) n status) [] out .out)
-    (storing (arrivalPlan x c (r .header) n status .put) (r .header .fragment) body (w .client .slots))))
-    (sym pass)
-    (planned w (arrivalRow event c (r .header) n status) [] out
-    (storing (arrivalRow event c (r .header) n status .put) (r .header .fragment) body (w .client .slots)) inv next
-    (still event c (r .header) n status begun) (omega arith) (buffers .1) (λ idle. absurd (false≢true (sym idle ∙ active)))
-    (λ e. absurd (false≢true (sym (sends .1) ∙ e))) (completed-known w inv (arrivalRow event c (r .header) n status .client)
-    (storing (arrivalRow event c (r .header) n status .put) (r .header .fragment) body (w .client .slots)) next (arrivalRow event c (r .header) n status .notice)
-    (row-tells event c (r .header) n status))
-    (others-known (Request (w .books .starts)) (lastStart (w .books .starts)) (arrivalRow event c (r .header) n status .send)
-    (arrivalRow event c (r .header) n status .client) [] (sends .0)) (sends .2))
+    (clientStep w (arrivalBy x c body slots out .outcome) (arrivalBy x c body slots out .out) (arrivalBy x c body slots out .slots)))
+    (sym (taken .is))
+    (row-inv w row [] out (storing (stepOf row c .store) body slots) inv (told .judged) next (still row c (told .judged .can))
+    (arrival-arrives c (r .header) (r .little) body row (told .is)) (omega arith) (told .buffer)
+    (completed-known w inv (stepOf row c .client) (storing (stepOf row c .store) body slots) next (stepOf row c .notice)
+    (row-tells row c (told .judged .can))))

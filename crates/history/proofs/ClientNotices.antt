@@ -1,29 +1,26 @@
--- Which notices the client gives: never "dispatch" or "cancel", and "last" only where it has its reply then.
+-- Which notices the client gives: never "dispatch" or "cancel", "last" only where it has its reply then, and what tells of a
+-- failure only in FAULT.
 use Prim.Native.Nat.{ℕ}
 use mathlib.Core.Bool.{Bool, true, false}
+use mathlib.Core.List.{List}
 use mathlib.Core.Path.{_≡_, refl}
 use Rattle.words.specs.Choice.{choose}
-use Rattle.answers.specs.declared.Ground.{Ground}
-use Rattle.answers.specs.declared.Ground.the-variants.{Pass, Refuse}
 use Rattle.calls.specs.declared.Call.{Call}
 use Rattle.calls.specs.declared.Notice.{Notice}
 use Rattle.calls.specs.declared.Notice.the-variants.{Nothing as Untold, Last, Count, Fault as FaultNotice, Reject as RejectNotice, Cause, Dispatch, Cancel as CancelNotice}
-use Rattle.pdu.specs.declared.Header.{Header}
 use Rattle.client.specs.declared.records.Client.{Client}
 use Rattle.client.specs.declared.records.State.{State}
-use Rattle.client.specs.declared.records.TimerKind.{TimerKind}
-use Rattle.client.specs.declared.records.TimerKind.the-variants.{Wait, Ack, Cancel}
+use Rattle.client.specs.declared.records.State.the-variants.{Fault as FaultState}
+use Rattle.client.specs.declared.judge.Row.{Row}
+use Rattle.client.specs.declared.judge.Row.the-variants.{Transmit, Ping, SendAck, Cancel, Response, Fault, Reject, Working, Resend, GiveUp, Fack, CancelAck}
+use Rattle.client.specs.declared.judge.Verdict.{Verdict}
+use Rattle.client.specs.declared.judge.Verdict.the-variants.{Refuse, Go}
+use Rattle.client.specs.declared.judge.StartVerdict.{StartVerdict}
+use Rattle.client.specs.declared.judge.StartVerdict.the-variants.{Refuse as RefuseStart, Go as GoStart}
 use Rattle.client.specs.records.Record.{ackPending, unarmed, withIncoming, withWaits}
-use Rattle.client.specs.declared.judge.Event.{Event}
-use Rattle.client.specs.declared.judge.Event.the-variants.{Response, Fault as FaultRow, Reject, Working as WorkingRow, Nocall as NocallRow, Fack, CancelAck, Foreign}
-use Rattle.client.specs.judge.Events.{eventOf}
-use Rattle.client.specs.declared.step.Plan.{Plan}
-use Rattle.client.specs.declared.step.Send.the-variants.{Nothing, Ping}
-use Rattle.client.specs.step.Plan.{refused, accepted, failed}
-use Rattle.client.specs.step.Rows.{startPlan, transmitPlan, pinged, waitPlan, ackPlan, cancelTimerPlan, timerRow, timerPlan, cancelPlan}
-use Rattle.client.specs.arrivals.Rows.{putRecord, putNotice, putPlan, responsePlan, workingPlan, resent, nocallPlan, fackPlan, cancelAckPlan}
-use Rattle.client.specs.arrivals.Table.{arrivalRow, arrivalPlan}
-use Rattle.client.specs.Machine.{outcomeOf, starting, sending, transmitting, timing, cancelling, planOf, acted, arriving}
+use Rattle.client.specs.step.Plan.{going, failed}
+use Rattle.client.specs.step.Steps.{putRecord, putNotice, responsePlan, workingPlan, stepOf}
+use Rattle.client.specs.Machine.{refused, done, startBy, starting, sending, stepBy, transmitting, timing, cancelling, acted, arrivalBy, arriving}
 use Rattle.history.specs.World.{Side}
 use Rattle.history.specs.Events.{ClientEvent, Start, ClientTransmit, ClientArrive, ClientTimer, ClientCancel}
 use Rattle.history.specs.Steps.{clientTurn}
@@ -34,43 +31,13 @@ abbrev pub ClientTells : State → Notice → Type 0
 ClientTells state Untold = Unit {0}
 ClientTells state Last = hasReply state ≡ true
 ClientTells state (Count n) = Unit {0}
-ClientTells state (FaultNotice status) = Unit {0}
-ClientTells state (RejectNotice status) = Unit {0}
-ClientTells state (Cause cause) = Unit {0}
+ClientTells state (FaultNotice status) = state ≡ FaultState
+ClientTells state (RejectNotice status) = state ≡ FaultState
+ClientTells state (Cause cause) = state ≡ FaultState
 ClientTells state Dispatch = ⊥
 ClientTells state CancelNotice = ⊥
 
-abbrev PlanTells : Plan → Type 0
-PlanTells plan = ClientTells (plan .client .state) (plan .notice)
-
-either-tells : (t : Bool) (p q : Plan) → PlanTells p → PlanTells q → PlanTells (choose t p q)
-unfolding choose
-either-tells true p q one other = one
-either-tells false p q one other = other
-
 module _ (c : Client) where
-  start-tells : (g : Ground) (call : Call) (n : ℕ) → PlanTells (startPlan g c call n)
-  unfolding startPlan refused accepted
-  start-tells Pass call n = tt
-  start-tells (Refuse a) call n = tt
-
-  transmit-tells : (g : Ground) → PlanTells (transmitPlan g c)
-  unfolding transmitPlan refused accepted
-  transmit-tells Pass = tt
-  transmit-tells (Refuse a) = tt
-
-  timer-tells : (g : Ground) (kind : TimerKind) → PlanTells (timerPlan g kind c)
-  unfolding timerPlan timerRow waitPlan ackPlan cancelTimerPlan refused accepted failed
-  timer-tells (Refuse a) kind = tt
-  timer-tells Pass Wait = either-tells _ (accepted (pinged c) Ping Untold) (failed c (Cause 1)) tt tt
-  timer-tells Pass Ack = tt
-  timer-tells Pass Cancel = tt
-
-  cancel-tells : (g : Ground) → PlanTells (cancelPlan g c)
-  unfolding cancelPlan refused accepted
-  cancel-tells Pass = tt
-  cancel-tells (Refuse a) = tt
-
   put-tells : (all idempotent : Bool) (count : ℕ)
       → ClientTells (putRecord all idempotent c .state) (putNotice all count)
   unfolding putRecord putNotice choose unarmed ackPending
@@ -78,29 +45,42 @@ module _ (c : Client) where
   put-tells true false count = refl
   put-tells false idempotent count = tt
 
-  row-tells : (event : Event) (h : Header) (n status : ℕ) → PlanTells (arrivalRow event c h n status)
-  unfolding arrivalRow responsePlan putPlan withIncoming withWaits workingPlan nocallPlan fackPlan
-      cancelAckPlan refused accepted failed
-  row-tells Response h n status = put-tells _ (c .call .idempotent) _
-  row-tells FaultRow h n status = tt
-  row-tells Reject h n status = tt
-  row-tells WorkingRow h n status = tt
-  row-tells NocallRow h n status = either-tells _ (accepted (resent c) Nothing Untold) (failed c (Cause 2)) tt tt
-  row-tells Fack h n status = tt
-  row-tells CancelAck h n status = tt
-  row-tells Foreign h n status = tt
+  row-tells : (row : Row) → ClientTells (stepOf row c .client .state) (stepOf row c .notice)
+  unfolding stepOf responsePlan withIncoming withWaits workingPlan going failed unarmed
+  row-tells (Transmit last) = tt
+  row-tells (Ping waits) = tt
+  row-tells SendAck = tt
+  row-tells (Cancel number) = tt
+  row-tells (Response p) = put-tells (p .complete) (c .call .idempotent) (p .count)
+  row-tells (Fault status) = refl
+  row-tells (Reject status) = refl
+  row-tells Working = tt
+  row-tells (Resend resends) = tt
+  row-tells (GiveUp cause) = refl
+  row-tells (Fack count) = tt
+  row-tells CancelAck = tt
 
-  arrival-tells : (g : Ground) (h : Header) (n status : ℕ) → PlanTells (arrivalPlan g c h n status)
-  unfolding arrivalPlan refused
-  arrival-tells (Refuse a) h n status = tt
-  arrival-tells Pass h n status = row-tells (eventOf (h .kind)) h n status
+  start-tells : (v : StartVerdict) (call : Call) (n : ℕ) → ClientTells (startBy v c call n .client .state) (startBy v c call n .notice)
+  unfolding startBy refused
+  start-tells (RefuseStart r) call n = tt
+  start-tells (GoStart number) call n = tt
+
+  step-tells : (v : Verdict) (lent out : List ℕ) → ClientTells (stepBy v c lent out .outcome .client .state) (stepBy v c lent out .outcome .notice)
+  unfolding stepBy refused sending done
+  step-tells (Refuse r) lent out = tt
+  step-tells (Go row) lent out = row-tells row
+
+  arrival-tells : (v : Verdict) (body slots out : List ℕ)
+      → ClientTells (arrivalBy v c body slots out .outcome .client .state) (arrivalBy v c body slots out .outcome .notice)
+  unfolding arrivalBy refused acted sending done
+  arrival-tells (Refuse r) body slots out = tt
+  arrival-tells (Go row) body slots out = row-tells row
 
 pub client-tells : (c : Side Client) (e : ClientEvent)
     → ClientTells (clientTurn c e .machine .state) (clientTurn c e .notice)
-unfolding starting transmitting timing cancelling arriving acted planOf sending
-    outcomeOf
+unfolding starting transmitting timing cancelling arriving
 client-tells c (Start call n message) = start-tells (c .machine) _ call n
-client-tells c (ClientTransmit message out) = transmit-tells (c .machine) _
+client-tells c (ClientTransmit message out) = step-tells (c .machine) _ _ _
 client-tells c (ClientArrive p lent out) = arrival-tells (c .machine) _ _ _ _
-client-tells c (ClientTimer kind ticket out) = timer-tells (c .machine) _ kind
-client-tells c (ClientCancel out) = cancel-tells (c .machine) _
+client-tells c (ClientTimer kind ticket out) = step-tells (c .machine) _ _ _
+client-tells c (ClientCancel out) = step-tells (c .machine) _ _ _

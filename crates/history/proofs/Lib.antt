@@ -10,6 +10,7 @@ pub mod Beginning
 pub mod Refused
 pub mod ClientSteps
 pub mod ClientSends
+pub mod ClientRows
 pub mod ClientEvents
 pub mod ClientArrivals
 pub mod StartStep

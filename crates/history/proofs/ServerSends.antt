@@ -18,31 +18,26 @@ use Rattle.calls.specs.declared.Notice.{Notice}
 use Rattle.calls.specs.declared.Notice.the-variants.{Nothing as Untold, Last, Count, Fault as FaultNotice, Reject, Cause, Dispatch, Cancel as CancelTold}
 use Rattle.calls.specs.Sent.{sentHeader}
 use Rattle.flags.specs.Flags.{idempotent, withFlag}
-use Rattle.facks.specs.Mask.{lastContiguous, maskOf}
-use Rattle.incoming.specs.Slots.{contiguous}
+use Rattle.facks.specs.Mask.{lastContiguous, maskFrom}
 use Rattle.outgoing.specs.Message.{fragments, fragmentOf, flagsOf}
-use Rattle.outgoing.specs.Sending.{nextSerial, afterSend, hasMessage}
+use Rattle.outgoing.specs.Sending.{hasMessage}
 use Rattle.outgoing.proofs.OutgoingLaws.{fragment-most}
 use Rattle.outgoing.proofs.SendLaws.{message-count-told, message-count-range}
 use Rattle.pdu.specs.declared.Header.{Header}
 use Rattle.pdu.specs.Header.{datagram, blank}
 use Rattle.writer.proofs.Returns.{Sized}
-use Rattle.server.specs.declared.records.Reply.{Reply}
-use Rattle.server.specs.declared.records.Reply.the-variants.{Data}
 use Rattle.server.specs.declared.records.State.{State}
 use Rattle.server.specs.declared.records.Server.{Server}
 use Rattle.server.specs.records.States.{isReplying}
 use Rattle.server.specs.records.Rules.{sound, outgoingSound}
-use Rattle.server.specs.records.Record.{holding, unarmed, withOutgoing}
 use Rattle.server.specs.records.Arming.{runsAgain}
 use Rattle.server.proofs.StateLaws.{replying-state}
 use Rattle.server.proofs.RuleLaws.{rules-told, replying-told}
 use Rattle.server.specs.declared.step.Send.{Send}
 use Rattle.server.specs.declared.step.Send.the-variants.{Nothing, Response as SendResponse, Fault as SendFault, Working, Nocall, Fack, CancelAck}
 use Rattle.server.specs.declared.step.Plan.{Plan}
-use Rattle.server.specs.step.Rows.{settled, transmitted}
 use Rattle.server.specs.Sending.{replyHeader, echoed, echoHeader, responseSent, faultSent, emptySent, fackSent, cancelAckSent, sentOut}
-use Rattle.server.specs.Machine.{outcomeOf, sending}
+use Rattle.server.specs.Machine.{done, sending}
 use Rattle.history.specs.Lists.{In}
 use Rattle.history.specs.World.{Started, Dispatched, Replied, SentPdu, World}
 use Rattle.history.specs.Steps.{sentAfter, dispatchesAfter, Subject, dispatchEntry}
@@ -61,7 +56,7 @@ answers (SendResponse f) = true
 answers (SendFault status) = false
 answers Working = false
 answers Nocall = false
-answers (Fack serial) = false
+answers (Fack serial count) = false
 answers (CancelAck n accepts) = false
 
 -- Only a fault besides speaks of the record's call.
@@ -71,7 +66,7 @@ ofCall (SendResponse f) = true
 ofCall (SendFault status) = true
 ofCall Working = false
 ofCall Nocall = false
-ofCall (Fack serial) = false
+ofCall (Fack serial count) = false
 ofCall (CancelAck n accepts) = false
 
 -- What the server sends, as it stands among what it has sent: nothing, or one PDU of that start; h is the header of
@@ -82,8 +77,8 @@ serverPdus o (SendResponse f) s h lent = pduOf o (datagram (replyHeader 2 (flags
 serverPdus o (SendFault status) s h lent = pduOf o (datagram (replyHeader 3 0 0 s) (statusBytes status)) ∷ []
 serverPdus o Working s h lent = pduOf o (datagram (echoHeader 4 0 s h) []) ∷ []
 serverPdus o Nocall s h lent = pduOf o (datagram (echoHeader 5 0 s h) []) ∷ []
-serverPdus o (Fack serial) s h lent =
-    pduOf o (datagram (echoHeader 9 (lastContiguous (contiguous (s .incoming))) s h) (fackBytes (fackFields serial (maskOf (s .incoming))))) ∷ []
+serverPdus o (Fack serial count) s h lent =
+    pduOf o (datagram (echoHeader 9 (lastContiguous count) s h) (fackBytes (fackFields serial (maskFrom count (s .incoming))))) ∷ []
 serverPdus o (CancelAck n accepts) s h lent = pduOf o (datagram (echoHeader 10 0 s h) (cancelAckBytes n accepts)) ∷ []
 
 -- The UUIDs that it speaks of: those of the record's call, or those of the PDU answered.
@@ -112,8 +107,8 @@ server-sent (SendFault status) s h lent out before o z short room =
     posted 3 _ _ _ _ _ _ _ (statusBytes status) out before o (omega arith) (omega arith) (z .0 refl) room
 server-sent Working s h lent out before o z short room = posted 4 _ _ _ _ _ _ _ [] out before o (omega arith) (omega arith) (z .1) room
 server-sent Nocall s h lent out before o z short room = posted 5 _ _ _ _ _ _ _ [] out before o (omega arith) (omega arith) (z .1) room
-server-sent (Fack serial) s h lent out before o z short room =
-    posted 9 _ _ _ _ _ _ _ (fackBytes (fackFields serial (maskOf (s .incoming)))) out before o (omega arith) (omega arith) (z .1) room
+server-sent (Fack serial count) s h lent out before o z short room =
+    posted 9 _ _ _ _ _ _ _ (fackBytes (fackFields serial (maskFrom count (s .incoming)))) out before o (omega arith) (omega arith) (z .1) room
 server-sent (CancelAck n accepts) s h lent out before o z short room =
     posted 10 _ _ _ _ _ _ _ (cancelAckBytes n accepts) out before o (omega arith) (omega arith) (z .1) room
 
@@ -133,7 +128,7 @@ others-known P o (SendResponse f) s h message e = absurd (false≢true (sym e))
 others-known P o (SendFault status) s h message e = (other-known IsResponse P o (replyHeader 3 0 0 s) (statusBytes status) (eqb-false 3 2 refl), tt)
 others-known P o Working s h message e = (other-known IsResponse P o (echoHeader 4 0 s h) [] (eqb-false 4 2 refl), tt)
 others-known P o Nocall s h message e = (other-known IsResponse P o (echoHeader 5 0 s h) [] (eqb-false 5 2 refl), tt)
-others-known P o (Fack serial) s h message e = (other-known IsResponse P o (echoHeader 9 _ s h) _ (eqb-false 9 2 refl), tt)
+others-known P o (Fack serial count) s h message e = (other-known IsResponse P o (echoHeader 9 _ s h) _ (eqb-false 9 2 refl), tt)
 others-known P o (CancelAck n accepts) s h message e = (other-known IsResponse P o (echoHeader 10 0 s h) _ (eqb-false 10 2 refl), tt)
 
 -- A response that transmit sends is a fragment of the reply that is out.
@@ -199,21 +194,6 @@ module _ (s : Server) (standing : ℕ) (starts : List Started) (replies : List R
         tt,
       )
 
--- After a transmit the count is the same, and the serial within its width.
-settled-counts : (again : Bool) (s : Server) (reply : Reply) → settled again s reply .outgoing ≡ s .outgoing
-unfolding settled unarmed holding choose
-settled-counts true s reply = refl
-settled-counts false s reply = refl
-
-transmitted-sent : (last : Bool) (s : Server) → transmitted last s .outgoing ≡ afterSend (s .outgoing)
-unfolding transmitted withOutgoing choose
-transmitted-sent true s = settled-counts (runsAgain (s .call .idempotent) (s .outgoing)) (withOutgoing s (afterSend (s .outgoing))) Data
-transmitted-sent false s = refl
-
-pub transmitted-counts : (last : Bool) (s : Server) → (transmitted last s .outgoing .count ≡ s .outgoing .count) × (transmitted last s .outgoing .serial < 65536)
-unfolding afterSend nextSerial
-transmitted-counts last s = rw (transmitted-sent last s) (refl, omega arith)
-
 -- A notice other than "dispatch" dispatches nothing.
 abbrev pub tellsDispatch : Notice → Bool
 tellsDispatch Untold = false
@@ -241,7 +221,7 @@ pub planned : (w : World) (plan : Plan) (h : Header) (lent out slots : List ℕ)
     → ServerInv (plan .server) (of .standing) slots (w .books .starts) (w .books .dispatches) (w .books .replies) → SentUuids (plan .send) (plan .server) h
     → Short lent → length out ≡ pduSize → All (Known IsResponse (Response (w .books .replies))) (serverPdus (of .ordinal) (plan .send) (plan .server) h lent)
     → Inv (serverStep w (sending plan h lent out .outcome) (sending plan h lent out .out) slots of)
-unfolding sending outcomeOf
+unfolding sending done
 planned w plan h lent out slots of inv quiet server uuids short room responses =
     let same = none-dispatched (w .books .dispatches) (plan .notice) (dispatchEntry of (plan .server) slots) quiet in
     record {

@@ -3,12 +3,8 @@ use Prim.Native.Nat.{ℕ, _+_}
 use mathlib.Core.Bool.{Bool, true, false, false≢true}
 use mathlib.Core.List.{List}
 use mathlib.Core.Path.{_≡_, refl, sym, ap, _∙_}
-use lib.Dec.{ltb}
 use lib.ListN.{length}
-use Rattle.words.specs.Choice.{choose}
-use Rattle.words.specs.Sizes.{retryLimit}
-use Rattle.flags.specs.Flags.{idempotent}
-use Rattle.outgoing.specs.Sending.{afterSend, rewound}
+use Rattle.outgoing.specs.Sending.{rewound}
 use Rattle.server.specs.declared.records.Idle.the-variants.{Fresh, Spent, Repeatable}
 use Rattle.server.specs.declared.records.Reply.{Reply}
 use Rattle.server.specs.declared.records.Reply.the-variants.{Data, Fault}
@@ -17,11 +13,8 @@ use Rattle.server.specs.declared.records.State.the-variants.{Idle as IdleState,
 use Rattle.server.specs.declared.records.Server.{Server}
 use Rattle.server.specs.records.States.{neverCalled, isFresh}
 use Rattle.server.specs.records.Rules.{sound}
-use Rattle.server.specs.records.Record.{holding, unarmed, withOutgoing, withResends, withSeen}
-use Rattle.server.specs.records.Arming.{runsAgain}
-use Rattle.server.specs.declared.step.Send.the-variants.{Nothing}
-use Rattle.server.specs.step.Plan.{accepted}
-use Rattle.server.specs.step.Rows.{settled, transmitted, rewinding, resendHeld, resendRow}
+use Rattle.server.specs.records.Record.{holding, unarmed, withOutgoing, withSeen}
+use Rattle.server.specs.step.Steps.{repeatable, rewinding}
 use Rattle.server.specs.HandUp.{handsUp}
 use Rattle.history.specs.Lists.{In}
 use Rattle.history.specs.World.{Started, Dispatched, Replied}
@@ -91,13 +84,12 @@ goes-on s t standing slots starts dispatches replies inv called kept g =
           };
     }
 
--- The rows that go on with a call. To IDLE repeatable where every reply is single, else to HELD:
-pub settled-goes-on : (again : Bool) (s t : Server) (reply : Reply) (standing : ℕ) (replies : List Replied) → t .activity ≡ s .activity → t .boot ≡ s .boot
+-- The ways in which a row goes on with a call: to IDLE repeatable where every reply is single,
+pub repeatable-goes-on : (s t : Server) (standing : ℕ) (replies : List Replied) → t .activity ≡ s .activity → t .boot ≡ s .boot
     → t .number ≡ s .number → t .call ≡ s .call → t .incoming ≡ s .incoming → t .outgoing .length ≡ s .outgoing .length
-    → (again ≡ true → (r : Replied) → In r replies → r .ordinal ≡ standing → Single (r .message)) → (hasData (Held reply) ≡ true → CurrentReply s standing replies)
-    → GoesOn s (settled again t reply) standing replies
-unfolding settled unarmed holding choose
-settled-goes-on true s t reply standing replies a b n c i z single has = record {
+    → ((r : Replied) → In r replies → r .ordinal ≡ standing → Single (r .message)) → GoesOn s (repeatable t) standing replies
+unfolding repeatable unarmed
+repeatable-goes-on s t standing replies a b n c i z single = record {
   activity = a;
   boot = b;
   number = n;
@@ -105,10 +97,16 @@ settled-goes-on true s t reply standing replies a b n c i z single has = record 
   incoming = i;
   size = z;
   after = refl;
-  single = λ e. single refl;
+  single = λ e. single;
   replying = λ e. absurd (false≢true e);
 }
-settled-goes-on false s t reply standing replies a b n c i z single has = record {
+
+-- to HELD,
+pub holding-goes-on : (s t : Server) (reply : Reply) (standing : ℕ) (replies : List Replied) → t .activity ≡ s .activity → t .boot ≡ s .boot
+    → t .number ≡ s .number → t .call ≡ s .call → t .incoming ≡ s .incoming → t .outgoing .length ≡ s .outgoing .length
+    → (hasData (Held reply) ≡ true → CurrentReply s standing replies) → GoesOn s (holding t reply) standing replies
+unfolding holding
+holding-goes-on s t reply standing replies a b n c i z has = record {
   activity = a;
   boot = b;
   number = n;
@@ -118,26 +116,6 @@ settled-goes-on false s t reply standing replies a b n c i z single has = record
   after = refl;
   single = λ e. absurd (false≢true e);
   replying = has;
-}
-
--- transmit, where the reply that is out is single if the call can be run again,
-pub transmitted-goes-on : (last : Bool) (s : Server) (standing : ℕ) (replies : List Replied) → s .state ≡ Replying → CurrentReply s standing replies
-    → (runsAgain (s .call .idempotent) (s .outgoing) ≡ true → (r : Replied) → In r replies → r .ordinal ≡ standing → Single (r .message))
-    → GoesOn s (transmitted last s) standing replies
-unfolding transmitted withOutgoing afterSend choose
-transmitted-goes-on true s standing replies state now single =
-    settled-goes-on (runsAgain (s .call .idempotent) (s .outgoing)) s (withOutgoing s (afterSend (s .outgoing))) Data standing replies refl refl refl refl refl refl
-    single (λ e. now)
-transmitted-goes-on false s standing replies state now single = record {
-  activity = refl;
-  boot = refl;
-  number = refl;
-  call = refl;
-  incoming = refl;
-  size = refl;
-  after = ap past state;
-  single = λ e. absurd (false≢true (sym (ap unanswered state) ∙ e));
-  replying = λ e. now;
 }
 
 -- replaying data,
@@ -171,30 +149,6 @@ spent-goes-on s standing replies = record {
   single = λ e. absurd (false≢true e);
   replying = λ e. absurd (false≢true e);
 }
-
--- RESEND,
-pub resend-goes-on : (s : Server) (reply : Reply) (standing : ℕ) (replies : List Replied) → (hasData (Held reply) ≡ true → CurrentReply s standing replies)
-    → GoesOn s (resendRow s reply .server) standing replies
-unfolding resendRow resendHeld withResends holding accepted choose
-resend-goes-on s reply standing replies has = by-count (ltb (s .resends) retryLimit)
-  where
-    again : (reply : Reply) → (hasData (Held reply) ≡ true → CurrentReply s standing replies) → GoesOn s (resendHeld s reply .server) standing replies
-    again Data now = unfold resendHeld accepted withResends in rewinding-goes-on s (withResends s (s .resends + 1)) standing replies refl refl refl refl refl refl (now refl)
-    again (Fault status) now = unfold resendHeld accepted withResends holding in record {
-      activity = refl;
-      boot = refl;
-      number = refl;
-      call = refl;
-      incoming = refl;
-      size = refl;
-      after = refl;
-      single = λ e. absurd (false≢true e);
-      replying = λ e. absurd (false≢true e);
-    }
-
-    by-count : (t : Bool) → GoesOn s (choose t (resendHeld s reply) (accepted (unarmed s (IdleState Spent)) Nothing) .server) standing replies
-    by-count true = again reply has
-    by-count false = spent-goes-on s standing replies
 
 -- and a record that stays, past RUNNING.
 pub stays-goes-on : (s t : Server) (standing : ℕ) (replies : List Replied) → t .activity ≡ s .activity → t .boot ≡ s .boot → t .number ≡ s .number → t .call ≡ s .call

@@ -8,19 +8,18 @@ use native.Mathlib.Omega.{arith}
 use lib.ListN.{length, length-append}
 use Rattle.words.specs.Choice.{choose}
 use Rattle.answers.specs.declared.Answer.the-variants.{Done}
-use Rattle.answers.specs.declared.Ground.{Ground}
-use Rattle.answers.specs.declared.Ground.the-variants.{Pass}
 use Rattle.calls.specs.declared.Call.{Call}
-use Rattle.calls.specs.declared.Sent.the-variants.{Nothing as Unsent}
 use Rattle.outgoing.specs.Sending.{started as startedMessage, messageOf}
 use Rattle.pdu.specs.declared.Header.{Header}
 use Rattle.client.specs.declared.records.Client.{Client}
 use Rattle.client.specs.records.States.{isQueued, isActive}
-use Rattle.client.specs.step.Plan.{accepted}
-use Rattle.client.specs.step.Rows.{nextNumber, started, startPlan}
+use Rattle.client.specs.declared.judge.StartVerdict.{StartVerdict}
+use Rattle.client.specs.declared.judge.StartVerdict.the-variants.{Go}
+use Rattle.client.specs.judge.Rows.{nextNumber}
+use Rattle.client.specs.step.Steps.{started}
 use Rattle.client.proofs.StepLaws.{next-number, started-sound}
-use Rattle.client.specs.Machine.{outcomeOf, starting}
-use Rattle.client.proofs.Judging.{CanStart, start-passes}
+use Rattle.client.specs.Machine.{startBy, starting}
+use Rattle.client.proofs.Judging.{CanStart, start-taken}
 use Rattle.client.proofs.Accepting.{start-accepted}
 use Rattle.history.specs.Lists.{In, andThen}
 use Rattle.history.specs.World.{callNumber, Started, Dispatched, Replied, World}
@@ -36,7 +35,7 @@ use Rattle.history.proofs.Invariant.{nothing, ClientInv, ServerInv, Cal
 
 -- The number of a new start is that of its ordinal.
 module _ (c : Client) (slots : List ℕ) (starts : List Started) (replies : List Replied) (inv : ClientInv c slots starts replies)
-    (below : (s : Started) → In s starts → s .ordinal < length starts) (n : ℕ) (can : CanStart c n) where
+    (below : (s : Started) → In s starts → s .ordinal < length starts) (n : ℕ) (can : CanStart c n (nextNumber (isQueued (c .state)) (c .number))) where
   -- The client's number is a u32 that is not used up, where it has one.
   next-is : isQueued (c .state) ≡ false → nextNumber false (c .number) ≡ c .number + 1
   unfolding choose
@@ -63,7 +62,8 @@ module _ (c : Client) (slots : List ℕ) (starts : List Started) (replies : List
           omega arith
 
 -- A start that goes on the books.
-module _ (w : World) (inv : Inv w) (call : Call) (n : ℕ) (message : List ℕ) (can : CanStart (w .client .machine) n) (fair : FairStart call n message) where
+module _ (w : World) (inv : Inv w) (call : Call) (n : ℕ) (message : List ℕ) 
+    (can : CanStart (w .client .machine) n (nextNumber (isQueued (w .client .machine .state)) (w .client .machine .number))) (fair : FairStart call n message) where
   abbrev number : ℕ
   number = nextNumber (isQueued (w .client .machine .state)) (w .client .machine .number)
 
@@ -86,10 +86,10 @@ module _ (w : World) (inv : Inv w) (call : Call) (n : ℕ) (message : List ℕ) 
   numbered = next-callNumber (w .client .machine) (w .client .slots) (w .books .starts) (w .books .replies) (inv .client) above n can
 
   -- The client has the new call and holds nothing,
-  client-started : ClientInv (started (w .client .machine) call n) (w .client .slots) starts (w .books .replies)
+  client-started : ClientInv (started (w .client .machine) number call n) (w .client .slots) starts (w .books .replies)
   unfolding started isQueued startedMessage messageOf
   client-started = record {
-    kept = started-sound (w .client .machine) call n (can .short);
+    kept = started-sound (w .client .machine) number call n (can .short);
     activity = inv .client .activity;
     unbegun = λ e. absurd (false≢true e);
     current =
@@ -165,7 +165,7 @@ module _ (w : World) (inv : Inv w) (call : Call) (n : ℕ) (message : List ℕ) 
 
   -- and what was sent is known with one start more.
   -- Acks are of starts that the client is done with, now as before.
-  ended-next : (k : ℕ) → Ended (w .client .machine) (w .books .starts) k → Ended (started (w .client .machine) call n) starts k
+  ended-next : (k : ℕ) → Ended (w .client .machine) (w .books .starts) k → Ended (started (w .client .machine) number call n) starts k
   unfolding started isQueued
   ended-next k (begun, place) =
       let now = inv .client .current begun in
@@ -177,11 +177,11 @@ module _ (w : World) (inv : Inv w) (call : Call) (n : ℕ) (message : List ℕ) 
       by-place (inr own) = let now = inv .client .current begun in omega (arith, last, own .0, above (now .start) (now .started))
 
   acks-started : (o : ℕ) (h : Header) (body : List ℕ) → AckOf (w .client .machine) (w .books .starts) o h body
-      → AckOf (started (w .client .machine) call n) starts o h body
+      → AckOf (started (w .client .machine) number call n) starts o h body
   acks-started o h body a = record { number = a .number; ended = ended-next o (a .ended) }
 
-  start-inv : Inv (startStep w (outcomeOf (startPlan Pass (w .client .machine) call n) Unsent) call message)
-  unfolding outcomeOf startPlan accepted choose started sentAfter completionsAfter
+  start-inv : Inv (startStep w (startBy (Go number) (w .client .machine) call n) call message)
+  unfolding startBy choose started sentAfter completionsAfter
   start-inv = record {
     client = client-started;
     server = server-started;
@@ -193,7 +193,7 @@ module _ (w : World) (inv : Inv w) (call : Call) (n : ℕ) (message : List ℕ) 
     asked = inv .asked;
     acks =
         λ d m.
-        more-known IsAck (AckOf (w .client .machine) (w .books .starts)) (AckOf (started (w .client .machine) call n) starts) acks-started d (inv .acks d m);
+        more-known IsAck (AckOf (w .client .machine) (w .books .starts)) (AckOf (started (w .client .machine) number call n) starts) acks-started d (inv .acks d m);
     responses = inv .responses;
     completed = inv .completed;
   }
@@ -203,6 +203,9 @@ pub started-inv : (w : World) (call : Call) (n : ℕ) (message : List ℕ) → I
     → Inv (startStep w (starting (w .client .machine) call n) call message)
 unfolding starting
 started-inv w call n message inv done fair =
-    let pass = start-accepted (w .client .machine) call n done in
-    subst (λ (g : Ground). Inv (startStep w (outcomeOf (startPlan g (w .client .machine) call n) Unsent) call message)) (sym pass)
-    (start-inv w inv call n message (start-passes (w .client .machine) n pass) fair)
+    let c = w .client .machine in
+    let taken = start-accepted c call n done in
+    let can = start-taken c n (taken .number) (taken .is) in
+    let number = nextNumber (isQueued (c .state)) (c .number) in
+    subst (λ (v : StartVerdict). Inv (startStep w (startBy v c call n) call message)) (sym (taken .is ∙ ap Go (can .number)))
+    (start-inv w inv call n message (subst (CanStart c n) (can .number) can) fair)
