@@ -5,37 +5,33 @@ use mathlib.Core.List.{List, [], _∷_}
 use mathlib.Core.Logic.{_⊎_, inl, inr}
 use mathlib.Core.Path.{_≡_, refl, sym, ap, subst, _∙_}
 use native.Mathlib.Omega.{arith}
-use lib.Dec.{ltb}
 use lib.ListN.{length}
-use Rattle.words.specs.Choice.{choose}
-use Rattle.words.specs.Sizes.{retryLimit}
 use Rattle.answers.specs.declared.Answer.the-variants.{Done}
-use Rattle.answers.specs.declared.Ground.{Ground}
+use Rattle.answers.specs.declared.Refusal.the-variants.{NoRow}
+use Rattle.answers.proofs.NumberLaws.{done-or-not}
 use Rattle.bodies.specs.declared.CancelReading.{CancelReading}
 use Rattle.bodies.proofs.CancelTrip.{cancel-read}
 use Rattle.calls.specs.declared.Notice.{Notice}
 use Rattle.calls.specs.declared.Notice.the-variants.{Nothing as Untold, Last, Count, Fault as FaultNotice, Reject, Cause, Dispatch, Cancel as CancelTold}
-use Rattle.grounds.proofs.PassLaws.{done-or-not}
-use Rattle.outgoing.specs.Sending.{sendsLast, afterSend}
-use Rattle.pdu.specs.Header.{bodyOf}
+use Rattle.pdu.specs.Header.{bodyOf, blank}
 use Rattle.reader.specs.Reading.{reading}
 use Rattle.client.specs.Machine.{starting, cancelling}
 use Rattle.client.proofs.Cancels.{start-uncancelled, transmit-cancels, timer-cancels, arrive-cancels}
-use Rattle.server.specs.declared.records.Idle.the-variants.{Spent}
-use Rattle.server.specs.declared.records.Reply.{Reply}
-use Rattle.server.specs.declared.records.Reply.the-variants.{Data, Fault as HeldFault}
 use Rattle.server.specs.declared.records.State.{State}
 use Rattle.server.specs.declared.records.State.the-variants.{Idle as IdleState, Running}
 use Rattle.server.specs.declared.records.Server.{Server}
 use Rattle.server.specs.records.Record.{holding, unarmed, withOutgoing, withResends}
 use Rattle.server.specs.records.States.{neverCalled, isFresh, isIdle, isRunning}
-use Rattle.server.specs.records.Arming.{runsAgain}
-use Rattle.server.proofs.StateLaws.{replying-state, held-state}
-use Rattle.server.specs.declared.step.Send.the-variants.{Nothing}
-use Rattle.server.specs.step.Plan.{accepted}
-use Rattle.server.specs.step.Rows.{answered, replyPlan, settled, transmitted, transmitPlan, faultPlan, rewinding, resendHeld, resendRow, timerRow, timerPlan}
-use Rattle.server.specs.Machine.{outcomeOf, sending, replying, transmitting, faulting, timing}
-use Rattle.server.proofs.Judging.{transmit-passes, timer-passes}
+use Rattle.server.specs.declared.judge.Row.{Row}
+use Rattle.server.specs.declared.judge.Row.the-variants.{Reply as ReplyRow, TransmitMore, TransmitRepeatable, TransmitHeld, FaultRepeatable, FaultHeld, ResendData, ResendFault, Spend, Begin, Put, Working, Nocall, Rewind, RepeatFault, Acknowledge, HearCancel, AcceptCancel, DeclineCancel}
+use Rattle.server.specs.declared.judge.Verdict.{Verdict}
+use Rattle.server.specs.declared.judge.Verdict.the-variants.{Go}
+use Rattle.server.specs.judge.Rows.{timerRow}
+use Rattle.server.specs.step.Plan.{going}
+use Rattle.server.specs.step.Steps.{answered, transmitted, repeatable, rewinding, stepOf}
+use Rattle.server.specs.Machine.{done as doneWith, replyBy, sending, stepBy, replying, transmitting, faulting, timing}
+use Rattle.server.proofs.StateLaws.{replying-state}
+use Rattle.server.proofs.Judging.{CanTake, refusal-no-row, same-row, reply-taken, transmit-rows, transmit-taken, fault-rows, fault-taken, timer-rows, timer-taken}
 use Rattle.server.proofs.Accepting.{reply-accepted, transmit-accepted, fault-accepted, timer-accepted}
 use Rattle.server.proofs.CancelAnswers.{CancelComes, WellFormed, cancelNumber, formed-read}
 use Rattle.server.proofs.Cancels.{cancel-taken, cancel-heard}
@@ -65,57 +61,101 @@ pub record CancelInv (w : World) : Type 0 where
   pub client : CancelsInv (w .client .machine) (w .books .starts) (w .books .cancels)
   pub server : HeardInv (w .server .machine) (w .books .cancels) (w .books .dispatches) (w .books .heard)
 
--- The server's events that are no arrival take the call past RUNNING: a reply,
-reply-passes : (s : Server) (n : ℕ) → replying s n .answer ≡ Done → past (replying s n .server .state) ≡ true
-unfolding replying outcomeOf replyPlan accepted answered withOutgoing unarmed
-reply-passes s n done = subst (λ (g : Ground). past (replyPlan g s n .server .state) ≡ true) (sym (reply-accepted s n done)) refl
+-- Rows of what arrives alone.
+abbrev arrives : Row → Bool
+arrives (ReplyRow n) = false
+arrives TransmitMore = false
+arrives TransmitRepeatable = false
+arrives TransmitHeld = false
+arrives (FaultRepeatable status) = false
+arrives (FaultHeld status) = false
+arrives (ResendData resends) = false
+arrives (ResendFault status resends) = false
+arrives Spend = false
+arrives (Begin p) = true
+arrives (Put p) = true
+arrives Working = true
+arrives Nocall = true
+arrives Rewind = true
+arrives (RepeatFault status) = true
+arrives (Acknowledge count) = true
+arrives (HearCancel n) = true
+arrives (AcceptCancel n) = true
+arrives (DeclineCancel n) = true
 
-settled-past : (again : Bool) (s : Server) (reply : Reply) → past (settled again s reply .state) ≡ true
-unfolding settled unarmed holding choose
-settled-past true s reply = refl
-settled-past false s reply = refl
+-- The server's events that are no arrival take the call past RUNNING.
+local-past : (row : Row) (s : Server) → CanTake row s blank → arrives row ≡ false → past (stepOf row s blank .server .state) ≡ true
+unfolding stepOf going answered transmitted repeatable rewinding holding withResends withOutgoing unarmed
+local-past (ReplyRow n) s can e = refl
+local-past TransmitMore s can e = ap past (replying-state (s .state) (can .row))
+local-past TransmitRepeatable s can e = refl
+local-past TransmitHeld s can e = refl
+local-past (FaultRepeatable status) s can e = refl
+local-past (FaultHeld status) s can e = refl
+local-past (ResendData resends) s can e = refl
+local-past (ResendFault status resends) s can e = refl
+local-past Spend s can e = refl
+local-past (Begin p) s can e = absurd (false≢true (sym e))
+local-past (Put p) s can e = absurd (false≢true (sym e))
+local-past Working s can e = absurd (false≢true (sym e))
+local-past Nocall s can e = absurd (false≢true (sym e))
+local-past Rewind s can e = absurd (false≢true (sym e))
+local-past (RepeatFault status) s can e = absurd (false≢true (sym e))
+local-past (Acknowledge count) s can e = absurd (false≢true (sym e))
+local-past (HearCancel n) s can e = absurd (false≢true (sym e))
+local-past (AcceptCancel n) s can e = absurd (false≢true (sym e))
+local-past (DeclineCancel n) s can e = absurd (false≢true (sym e))
+
+step-past : (v : Verdict) (s : Server) (lent out : List ℕ) (row : Row) → v ≡ Go row → CanTake row s blank → arrives row ≡ false
+    → past (stepBy v s lent out .outcome .server .state) ≡ true
+unfolding stepBy sending doneWith
+step-past v s lent out row is can e =
+    subst (λ (x : Verdict). past (stepBy x s lent out .outcome .server .state) ≡ true) (sym is) (local-past row s can e)
+
+-- A reply,
+reply-passes : (s : Server) (n : ℕ) → replying s n .answer ≡ Done → past (replying s n .server .state) ≡ true
+unfolding replying replyBy doneWith
+reply-passes s n done =
+    let taken = reply-accepted s n done in
+    let known = reply-taken s n (taken .row) (taken .is) in
+    let is = taken .is ∙ ap Go (known .is) in
+    subst (λ (x : Verdict). past (replyBy x s .server .state) ≡ true) (sym is)
+    (local-past (ReplyRow n) s (subst (λ (r : Row). CanTake r s blank) (known .is) (known .judged .can)) refl)
 
 -- a transmit,
 transmit-past : (s : Server) (message out : List ℕ) → transmitting s message out .outcome .answer ≡ Done
     → past (transmitting s message out .outcome .server .state) ≡ true
-unfolding transmitting sending outcomeOf transmitPlan accepted transmitted withOutgoing choose
+unfolding transmitting
 transmit-past s message out done =
-    let pass = transmit-accepted s message out done in
-    let j = transmit-passes s (length message) (length out) pass in
-    subst (λ (g : Ground). past (transmitPlan g s .server .state) ≡ true) (sym pass)
-    (by-last (sendsLast (s .outgoing)) (ap past (replying-state (s .state) (j .row))))
-  where
-    by-last : (t : Bool) → past (s .state) ≡ true → past (transmitted t s .state) ≡ true
-    by-last true e = settled-past (runsAgain (s .call .idempotent) (s .outgoing)) (withOutgoing s (afterSend (s .outgoing))) Data
-    by-last false e = e
+    let taken = transmit-accepted s message out done in
+    let known = transmit-taken s (length message) (length out) (taken .row) (taken .is) in
+    step-past _ s _ out (taken .row) (taken .is) (known .judged .can)
+    (ap arrives (known .is) ∙ transmit-rows s (λ (r : Row). arrives r ≡ false) (λ more. refl) (λ last again. refl) (λ last once. refl))
 
 -- a fault
 fault-past : (s : Server) (status : ℕ) (out : List ℕ) → faulting s status out .outcome .answer ≡ Done
     → past (faulting s status out .outcome .server .state) ≡ true
-unfolding faulting sending outcomeOf faultPlan accepted
+unfolding faulting
 fault-past s status out done =
-    subst (λ (g : Ground). past (faultPlan g s status .server .state) ≡ true) (sym (fault-accepted s status out done))
-    (settled-past (s .call .idempotent) s (HeldFault status))
+    let taken = fault-accepted s status out done in
+    let known = fault-taken s status (length out) (taken .row) (taken .is) in
+    step-past _ s _ out (taken .row) (taken .is) (known .judged .can)
+    (ap arrives (known .is) ∙ fault-rows s status (λ (r : Row). arrives r ≡ false) (λ mark. refl) (λ mark. refl))
 
 -- and the timer.
-resend-past : (s : Server) (reply : Reply) → past (resendRow s reply .server .state) ≡ true
-unfolding resendRow resendHeld rewinding holding withResends withOutgoing unarmed accepted choose
-resend-past s reply = by-count (ltb (s .resends) retryLimit) reply
-  where
-    by-count : (t : Bool) (r : Reply) → past (choose t (resendHeld s r) (accepted (unarmed s (IdleState Spent)) Nothing) .server .state) ≡ true
-    by-count true Data = refl
-    by-count true (HeldFault status) = refl
-    by-count false r = refl
-
 timer-past : (s : Server) (ticket : ℕ) (out : List ℕ) → timing s ticket out .outcome .answer ≡ Done
     → past (timing s ticket out .outcome .server .state) ≡ true
-unfolding timing sending outcomeOf timerPlan timerRow
+unfolding timing
 timer-past s ticket out done =
-    let pass = timer-accepted s ticket out done in
-    let j = timer-passes s ticket (length out) pass in
-    let held = held-state (s .state) (j .row) in
-    subst (λ (g : Ground). past (timerPlan g s .server .state) ≡ true) (sym pass)
-    (subst (λ (x : State). past (timerRow x s .server .state) ≡ true) (sym (held .is)) (resend-past s (held .reply)))
+    let taken = timer-accepted s ticket out done in
+    let known = timer-taken s ticket (length out) (taken .row) (taken .is) in
+    step-past _ s _ out (taken .row) (taken .is) (known .judged .can) (timer-row (taken .row) (known .is))
+  where
+    timer-row : (row : Row) → timerRow (s .state) (s .resends) ≡ Go row → arrives row ≡ false
+    timer-row row =
+        timer-rows s (λ (v : Verdict). v ≡ Go row → arrives row ≡ false)
+        (λ none is. absurd (refusal-no-row NoRow row is)) (λ held below is. ap arrives (sym (same-row _ row is)))
+        (λ status held below is. ap arrives (sym (same-row _ row is))) (λ held limit is. ap arrives (sym (same-row _ row is)))
 
 -- The stub is told what it was told before, where more was asked for at the client.
 heard-asked : (s : Server) (ks more : List Cancelled) (ds : List Dispatched) (heard : List Heard) → ((k : Cancelled) → In k ks → In k more)

@@ -7,7 +7,6 @@ use mathlib.Core.Path.{_≡_, refl, sym, ap, subst, _∙_}
 use native.Mathlib.Omega.{arith}
 use lib.ListN.{length}
 use Rattle.answers.specs.declared.Answer.the-variants.{Done}
-use Rattle.answers.specs.declared.Ground.{Ground}
 use Rattle.bodies.specs.declared.CancelReading.{CancelReading}
 use Rattle.bodies.specs.Cancel.{cancelBytes, cancelReading}
 use Rattle.bodies.proofs.CancelTrip.{read-written-cancel}
@@ -23,11 +22,16 @@ use Rattle.client.specs.declared.records.State.{State}
 use Rattle.client.specs.declared.records.State.the-variants.{Queued, SendFrags, Dispatched, ReceiveFrags, AckPending, Complete, Fault}
 use Rattle.client.specs.records.Record.{withCancels, cancelArmed}
 use Rattle.client.specs.declared.step.Send.the-variants.{Cancel as SendCancel}
-use Rattle.client.specs.step.Plan.{accepted}
-use Rattle.client.specs.step.Rows.{cancelled, cancelPlan}
+use Rattle.client.specs.declared.judge.Row.{Row}
+use Rattle.client.specs.declared.judge.Row.the-variants.{Cancel}
+use Rattle.client.specs.declared.judge.Verdict.{Verdict}
+use Rattle.client.specs.declared.judge.Verdict.the-variants.{Go}
+use Rattle.client.specs.judge.Rows.{oneMore, cancelRow}
+use Rattle.client.specs.step.Plan.{going}
+use Rattle.client.specs.step.Steps.{cancelled, stepOf}
 use Rattle.client.specs.Sending.{pduHeader}
-use Rattle.client.specs.Machine.{outcomeOf, sending, cancelling}
-use Rattle.client.proofs.Judging.{cancel-passes}
+use Rattle.client.specs.Machine.{done as doneWith, sending, stepBy, cancelling}
+use Rattle.client.proofs.Judging.{Judged, cancel-taken}
 use Rattle.client.proofs.Accepting.{cancel-accepted}
 use Rattle.client.proofs.Cancels.{CancelAfter, cancel-arms}
 use Rattle.client.proofs.CancelAnswers.{Active, first-cancel, further-cancel}
@@ -100,32 +104,36 @@ module _ (c : Client) (n : ℕ) (small : n < 4294967296) (numbered : c .number <
   call-told = number-written (pduHeader 8 0 0 c) (cancelBytes n) sized numbered (written .0)
 
 pub cancels-sent : (w : World) → Inv w → CancelsSent w
-unfolding CancelsSent answerTo step happens cancelling cancelPlan accepted sending outcomeOf cancelled withCancels cancelArmed
+unfolding CancelsSent answerTo step happens cancelling stepBy cancelRow stepOf going sending doneWith cancelled withCancels cancelArmed
 cancels-sent w inv out done =
     let c = w .client .machine in
     let o = lastStart (w .books .starts) in
-    let pass = cancel-accepted c out done in
-    let j = cancel-passes c (length out) pass in
-    let begun = active-state (c .state) (j .row) in
+    let taken = cancel-accepted c out done in
+    let known = cancel-taken c (length out) (taken .row) (taken .is) in
+    let n = oneMore (c .cancels) in
+    let row = Cancel n in
+    let is = taken .is ∙ ap Go (known .is) in
+    let j : Judged c row = subst (Judged c) (known .is) (known .judged) in
+    let begun = active-state (c .state) (j .can .row) in
     let now = inv .client .current begun in
     let uuids = client-uuids c (w .client .slots) (w .books .starts) (w .books .replies) (inv .client) begun in
-    let n = cancelled c .cancels in
     let small : n < 4294967296 = omega arith in
-    let armed = armed-then (c .cancel) (c .tickets) (cancelled c .cancel) (cancelled c .tickets)
-    (subst (λ (g : Ground). CancelAfter (c .cancel) (c .tickets) (cancelPlan g c .client .cancel) (cancelPlan g c .client .tickets)) pass (cancel-arms c out done)) in
+    let armed = armed-then (c .cancel) (c .tickets) (cancelled c n .cancel) (cancelled c n .tickets)
+    (subst (λ (v : Verdict). CancelAfter (c .cancel) (c .tickets) (stepBy v c [] out .outcome .client .cancel) (stepBy v c [] out .outcome .client .tickets)) is
+    (cancel-arms c out done)) in
     subst
-    (λ (g : Ground).
-    Asked w (sideAfter (w .client) (clientTurnOf (sending (cancelPlan g c) [] out .outcome) (sending (cancelPlan g c) [] out .out) (w .client .slots)) o))
-    (sym pass)
+    (λ (v : Verdict).
+    Asked w (sideAfter (w .client) (clientTurnOf (stepBy v c [] out .outcome) (stepBy v c [] out .out) (w .client .slots)) o))
+    (sym is)
     (record {
       ticket = armed .ticket;
       armed = armed .armed;
-      pdu = pduOf o (datagram (pduHeader 8 0 0 (cancelled c)) (cancelBytes n));
-      sent = client-sent (SendCancel n) (cancelled c) [] out (w .client .sent) o uuids (omega arith) (j .buffer);
+      pdu = pduOf o (datagram (pduHeader 8 0 0 (cancelled c n)) (cancelBytes n));
+      sent = client-sent (SendCancel n) (cancelled c n) [] out (w .client .sent) o uuids (omega arith) (known .buffer);
       ordinal = refl;
-      read = written (cancelled c) n small (now .small) uuids .0;
-      kind = written (cancelled c) n small (now .small) uuids .1;
-      call = call-told (cancelled c) n small (now .small) uuids;
-      formed = ap (λ (r : CancelReading). r .answer) (body-told (cancelled c) n small (now .small) uuids);
-      number = ap (λ (r : CancelReading). r .number) (body-told (cancelled c) n small (now .small) uuids);
+      read = written (cancelled c n) n small (now .small) uuids .0;
+      kind = written (cancelled c n) n small (now .small) uuids .1;
+      call = call-told (cancelled c n) n small (now .small) uuids;
+      formed = ap (λ (r : CancelReading). r .answer) (body-told (cancelled c n) n small (now .small) uuids);
+      number = ap (λ (r : CancelReading). r .number) (body-told (cancelled c n) n small (now .small) uuids);
     })

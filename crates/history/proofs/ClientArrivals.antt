@@ -28,13 +28,12 @@ use Rattle.client.specs.declared.judge.Verdict.{Verdict}
 use Rattle.client.specs.declared.judge.Verdict.the-variants.{Go}
 use Rattle.client.specs.records.States.{isQueued}
 use Rattle.client.specs.records.Record.{waiting, ackPending, unarmed, withIncoming, withWaits}
-use Rattle.client.specs.judge.Rows.{arrivalRow}
-use Rattle.client.specs.judge.Refusals.{arrivalVerdict}
 use Rattle.client.specs.step.Plan.{going, failed}
 use Rattle.client.specs.step.Steps.{putRecord, received, putNotice, responsePlan, workingPlan, stepOf}
 use Rattle.client.specs.Machine.{sending, acted, arrivalBy, arriving}
-use Rattle.client.proofs.Judging.{CanTake, Judged, arrive-taken, response-row}
+use Rattle.client.proofs.Judging.{CanTake, Judged, arrive-taken}
 use Rattle.client.proofs.Accepting.{arrive-accepted}
+use Rattle.client.proofs.RowLaws.{Arrives}
 use Rattle.client.proofs.Keeping.{row-sound}
 use Rattle.client.proofs.StateLaws.{active-state}
 use Rattle.client.proofs.RuleLaws.{rules-told}
@@ -51,7 +50,7 @@ use Rattle.history.proofs.More.{current-on}
 use Rattle.history.proofs.Invariant.{ClientHolds, nothing, fragments-of, ClientInv, Inv, clientStep}
 use Rattle.history.proofs.ClientSteps.{puts, row-goes-on}
 use Rattle.history.proofs.ClientSends.{none-told}
-use Rattle.history.proofs.ClientRows.{kept-on, arrival-arrives, row-inv}
+use Rattle.history.proofs.ClientRows.{kept-on, arrival-sends, row-inv}
 use Rattle.history.proofs.ListLaws.{tellsLast, completed-more}
 
 -- The client's holdings after a response that passed 16 and 17: fragments of one reply.
@@ -203,13 +202,12 @@ module _ (w : World) (inv : Inv w) (o : ℕ) (h : Header) (little : Bool) (body 
   other row j none = kept-on w inv row j none
 
   -- and every other row goes on with the call.
-  arrival-inv : (row : Row) → arrivalRow (w .client .machine) h little body ≡ Go row → Judged (w .client .machine) row
+  arrival-inv : (row : Row) → Arrives row (w .client .machine) h little body → Judged (w .client .machine) row
       → ClientInv (stepOf row (w .client .machine) .client) (storing (stepOf row (w .client .machine) .store) body (w .client .slots))
       (w .books .starts) (w .books .replies)
   unfolding stepOf going failed responsePlan workingPlan storing
   arrival-inv (ResponseRow p) is j =
-      let told = response-row (w .client .machine) h little body p is in
-      response-inv p (told .1) (told .0) j
+      response-inv p (is .put) (is .typed) j
   arrival-inv (Transmit last) is j = other (Transmit last) j refl
   arrival-inv (Ping waits) is j = other (Ping waits) j refl
   arrival-inv SendAck is j = other SendAck j refl
@@ -271,14 +269,14 @@ client-arrive-inv w p out inv done sent =
     let row = taken .row in
     let told = arrive-taken c (length slots) (length out) (p .bytes) row (taken .is) in
     let next =
-    arrival-inv w inv (p .ordinal) (r .header) (r .little) body (told .slots) (body-short (p .bytes) (told .read)) (inv .responses p sent .told (told .read))
-    (told .mine) row (told .is) (told .judged) in
+    arrival-inv w inv (p .ordinal) (r .header) (r .little) body (told .room) (body-short (p .bytes) (told .read)) (inv .responses p sent .told (told .read))
+    (told .mine) row (told .arrives) (told .judged) in
     subst
     (λ (x : Verdict).
     Inv
     (clientStep w (arrivalBy x c body slots out .outcome) (arrivalBy x c body slots out .out) (arrivalBy x c body slots out .slots)))
     (sym (taken .is))
     (row-inv w row [] out (storing (stepOf row c .store) body slots) inv (told .judged) next (still row c (told .judged .can))
-    (arrival-arrives c (r .header) (r .little) body row (told .is)) (omega arith) (told .buffer)
+    (arrival-sends row c (r .header) (r .little) body (told .arrives)) (omega arith) (told .buffer)
     (completed-known w inv (stepOf row c .client) (storing (stepOf row c .store) body slots) next (stepOf row c .notice)
     (row-tells row c (told .judged .can))))

@@ -10,15 +10,13 @@ use Rattle.pdu.specs.declared.Header.{Header}
 use Rattle.client.specs.declared.records.Client.{Client}
 use Rattle.client.specs.declared.judge.Row.{Row}
 use Rattle.client.specs.declared.judge.Row.the-variants.{Transmit, Ping, SendAck, Cancel, Response, Fault, Reject, Working, Resend, GiveUp, Fack, CancelAck}
-use Rattle.client.specs.declared.judge.Verdict.the-variants.{Go}
-use Rattle.client.specs.declared.step.Send.the-variants.{Nothing, Fack as SendFack}
 use Rattle.client.specs.records.States.{isQueued, isActive}
 use Rattle.client.specs.records.Record.{unarmed, waiting}
-use Rattle.client.specs.judge.Rows.{arrivalRow}
 use Rattle.client.specs.step.Plan.{going, failed}
 use Rattle.client.specs.step.Steps.{transmitted, fackFor, responsePlan, workingPlan, stepOf}
 use Rattle.client.specs.Machine.{sending}
 use Rattle.client.proofs.Judging.{CanTake, Judged}
+use Rattle.client.proofs.RowLaws.{Arrives}
 use Rattle.client.proofs.Keeping.{row-sound}
 use Rattle.client.proofs.StateLaws.{sending-state, dispatched-state, waiting-active}
 use Rattle.history.specs.Lists.{In}
@@ -47,8 +45,19 @@ sendsOther (Fack count) = true
 sendsOther CancelAck = true
 
 -- What arrives has such a row.
-pub arrival-arrives : (c : Client) (h : Header) (little : Bool) (body : List ℕ) (row : Row) → arrivalRow c h little body ≡ Go row → sendsOther row ≡ true
-arrival-arrives c h little body row is = arrives-other c h little body row is
+pub arrival-sends : (row : Row) (c : Client) (h : Header) (little : Bool) (body : List ℕ) → Arrives row c h little body → sendsOther row ≡ true
+arrival-sends (Transmit last) c h little body a = absurd a
+arrival-sends (Ping waits) c h little body a = refl
+arrival-sends SendAck c h little body a = refl
+arrival-sends (Cancel number) c h little body a = absurd a
+arrival-sends (Response p) c h little body a = refl
+arrival-sends (Fault status) c h little body a = refl
+arrival-sends (Reject status) c h little body a = refl
+arrival-sends Working c h little body a = refl
+arrival-sends (Resend resends) c h little body a = refl
+arrival-sends (GiveUp cause) c h little body a = refl
+arrival-sends (Fack count) c h little body a = refl
+arrival-sends CancelAck c h little body a = refl
 
 -- They send no request, and no cancel.
 sends-no-request : (row : Row) (c : Client) → sendsOther row ≡ true → asks (stepOf row c .send) ≡ false

@@ -5,42 +5,30 @@ use mathlib.Core.List.{List}
 use mathlib.Core.Logic.{_⊎_, inl, inr}
 use mathlib.Core.Path.{_≡_, refl, sym, ap, subst, _∙_}
 use native.Mathlib.Omega.{arith}
-use lib.Dec.{ltb}
 use lib.ListN.{length, length-append}
-use borrow.Author.Tests.{ltb-true}
 use Rattle.words.specs.Choice.{choose}
 use Rattle.answers.specs.declared.Answer.the-variants.{Done}
 use Rattle.bodies.specs.declared.CancelReading.{CancelReading}
-use Rattle.bodies.specs.Cancel.{cancelReading}
 use Rattle.calls.specs.declared.Notice.{Notice}
 use Rattle.calls.specs.declared.Notice.the-variants.{Nothing as Untold, Dispatch, Cancel as CancelTold}
-use Rattle.flags.specs.Flags.{idempotent, hasFlag}
-use Rattle.grounds.specs.Fragment.{isLast, bodyLength}
-use Rattle.incoming.specs.Slots.{cleared, complete, stored}
 use Rattle.pdu.specs.declared.Header.{Header}
 use Rattle.pdu.specs.Header.{bodyOf}
 use Rattle.reader.specs.Reading.{reading}
-use Rattle.server.specs.declared.records.Reply.{Reply}
-use Rattle.server.specs.declared.records.Reply.the-variants.{Data, Fault}
 use Rattle.server.specs.declared.records.State.{State}
 use Rattle.server.specs.declared.records.State.the-variants.{Idle as IdleState, Collect, Running, Replying, Held}
 use Rattle.server.specs.declared.records.Server.{Server}
-use Rattle.server.specs.records.States.{isFresh, isHeld}
+use Rattle.server.specs.declared.judge.Row.{Row}
+use Rattle.server.specs.declared.judge.Row.the-variants.{Reply as ReplyRow, TransmitMore, TransmitRepeatable, TransmitHeld, FaultRepeatable, FaultHeld, ResendData, ResendFault, Spend, Begin, Put, Working, Nocall, Rewind, RepeatFault, Acknowledge, HearCancel, AcceptCancel, DeclineCancel}
+use Rattle.server.specs.declared.judge.Verdict.{Verdict}
+use Rattle.server.specs.records.States.{isFresh}
 use Rattle.server.specs.records.Record.{unarmed, withOutgoing, withIncoming, withSeen}
+use Rattle.server.specs.step.Plan.{going}
+use Rattle.server.specs.step.Steps.{begun, putState, putNotice, putPlan, rewinding, acknowledged, heardPlan, stepOf}
+use Rattle.server.specs.Machine.{done as doneWith, sending, acted, arrivalBy, arriving}
 use Rattle.server.proofs.StateLaws.{held-state}
-use Rattle.server.specs.declared.rows.Row.{Row}
-use Rattle.server.specs.declared.rows.Row.the-variants.{Old, Missing, Repeat, Begin, Put, Working, Nocall, Replay, Acknowledge, Finish, AcceptCancel, DeclineCancel}
-use Rattle.server.specs.rows.Events.{eventOf}
-use Rattle.server.specs.rows.Rows.{orderFor, rowFor}
-use Rattle.server.proofs.TableLaws.{put-told, replay-told, acknowledge-told, accept-told}
-use Rattle.server.specs.declared.step.Plan.{Plan}
-use Rattle.server.specs.declared.step.Send.the-variants.{CancelAck}
-use Rattle.server.specs.step.Plan.{accepted, refused}
-use Rattle.server.specs.step.Rows.{rewinding, replayHeld, replayPlan}
-use Rattle.server.specs.arrivals.Rows.{begun, putState, putNotice, putPlan, requestPlan, beginPlan, workingPlan, nocallPlan, fackPlan, ackPlan, heardPlan, acceptPlan, declinePlan}
-use Rattle.server.specs.arrivals.Table.{arrivalRow}
-use Rattle.server.specs.Machine.{outcomeOf, sending, acted, arriving}
-use Rattle.server.proofs.Accepting.{arrive-row}
+use Rattle.server.proofs.TableLaws.{Replied, RowTells}
+use Rattle.server.proofs.Arriving.{arrive-taken}
+use Rattle.server.proofs.Accepting.{arrive-accepted}
 use Rattle.server.proofs.CancelAnswers.{cancelNumber, formed-read}
 use Rattle.server.proofs.Hearing.{only-cancel-heard}
 use Rattle.history.specs.Lists.{In, andThen}
@@ -180,68 +168,52 @@ module _ (s t : Server) (notice : Notice) (cancels : List Cancelled) (ds : List 
       by-place P h (inr same) known own = subst P (sym same) own
 
 -- A put leaves COLLECT, or RUNNING with a dispatch; no cancel was seen.
-put-hears : (s t : Server) (all : Bool) (flags1 serial : ℕ) → t .state ≡ putState all → t .seen ≡ 0 → Hearing s t (putNotice all)
-put-hears s t true flags1 serial state none = unfold putState putNotice choose in dispatches state none refl
-put-hears s t false flags1 serial state none = unfold putState putNotice choose in collects state none refl
+put-hears : (s t : Server) (all : Bool) → t .state ≡ putState all → t .seen ≡ 0 → Hearing s t (putNotice all)
+put-hears s t true state none = unfold putState putNotice choose in dispatches state none refl
+put-hears s t false state none = unfold putState putNotice choose in collects state none refl
 
--- The row of an arriving PDU that passed.
-module _ (s : Server) (h : Header) (n cancel : ℕ) (collecting : s .state ≡ Collect → s .seen ≡ 0) where
-  abbrev bit : Bool
-  bit = hasFlag idempotent (h .flags1)
-
-  held-hears : (reply : Reply) → Hearing s (replayHeld s reply .server) (replayHeld s reply .notice)
-  unfolding replayHeld rewinding withOutgoing unarmed accepted
-  held-hears Data = passes refl refl
-  held-hears (Fault status) = stays refl refl
-
-  replay-hears : (x : State) → isHeld x ≡ true → Hearing s (replayPlan x s .server) (replayPlan x s .notice)
-  unfolding replayPlan isHeld
-  replay-hears (IdleState idle) e = absurd (false≢true e)
-  replay-hears Collect e = absurd (false≢true e)
-  replay-hears Running e = absurd (false≢true e)
-  replay-hears Replying e = absurd (false≢true e)
-  replay-hears (Held reply) e = held-hears reply
-
-  replied-past : (x : State) → (x ≡ Replying) ⊎ (isHeld x ≡ true) → past x ≡ true
+-- The row of an arriving PDU that is taken.
+module _ (s : Server) (h : Header) (little : Bool) (body : List ℕ) (collecting : s .state ≡ Collect → s .seen ≡ 0) where
+  replied-past : (x : State) → Replied x → past x ≡ true
   replied-past x (inl e) = ap past e
   replied-past x (inr e) = ap past (held-state x e .is)
 
-  accept-hears : s .state ≡ Running → Hearing s (acceptPlan s cancel .server) (acceptPlan s cancel .notice)
-  unfolding acceptPlan
-  accept-hears state = by-seen (ltb (s .seen) cancel) refl
-    where
-      by-seen : (t : Bool) → ltb (s .seen) cancel ≡ t
-          → let p = choose t (heardPlan s cancel) (accepted s (CancelAck cancel true)) in Hearing s (p .server) (p .notice)
-      by-seen true e = unfold heardPlan withSeen choose in hears state (ltb-true (s .seen) cancel e) state refl
-      by-seen false e = unfold accepted choose in stays refl refl
-
-  row-hears : (row : Row) → rowFor s h ≡ row → Hearing s (arrivalRow row s h n cancel .server) (arrivalRow row s h n cancel .notice)
-  unfolding arrivalRow beginPlan requestPlan putPlan begun withIncoming unarmed workingPlan nocallPlan fackPlan ackPlan declinePlan withOutgoing accepted refused rowFor
-  row-hears Old e = stays refl refl
-  row-hears Missing e = stays refl refl
-  row-hears Repeat e = stays refl refl
-  row-hears Begin e = put-hears s _ (complete (stored cleared (h .fragment) n (isLast (h .flags1)))) (h .flags1) (h .serial) refl refl
-  row-hears Put e =
-      put-hears s _ (complete (stored (s .incoming) (h .fragment) n (isLast (h .flags1)))) (h .flags1) (h .serial) refl
-      (collecting (put-told (eventOf (h .kind)) (orderFor s h) (s .state) bit (s .call .idempotent) e .2))
-  row-hears Working e = stays refl refl
-  row-hears Nocall e = stays refl refl
-  row-hears Replay e = replay-hears (s .state) (replay-told (eventOf (h .kind)) (orderFor s h) (s .state) bit (s .call .idempotent) e .1)
-  row-hears Acknowledge e =
-      passes (replied-past (s .state) (acknowledge-told (eventOf (h .kind)) (orderFor s h) (s .state) bit (s .call .idempotent) e .2)) refl
-  row-hears Finish e = passes refl refl
-  row-hears AcceptCancel e = accept-hears (accept-told (eventOf (h .kind)) (orderFor s h) (s .state) bit (s .call .idempotent) e .2)
-  row-hears DeclineCancel e = stays refl refl
+  row-hears : (row : Row) → RowTells row s h little body → Hearing s (stepOf row s h .server) (stepOf row s h .notice)
+  unfolding stepOf going putPlan begun withIncoming unarmed rewinding acknowledged withOutgoing heardPlan withSeen
+  row-hears (ReplyRow n) told = absurd told
+  row-hears TransmitMore told = absurd told
+  row-hears TransmitRepeatable told = absurd told
+  row-hears TransmitHeld told = absurd told
+  row-hears (FaultRepeatable status) told = absurd told
+  row-hears (FaultHeld status) told = absurd told
+  row-hears (ResendData resends) told = absurd told
+  row-hears (ResendFault status resends) told = absurd told
+  row-hears Spend told = passes refl refl
+  row-hears (Begin p) told = put-hears s _ (p .complete) refl refl
+  row-hears (Put p) told = put-hears s _ (p .complete) refl (collecting (told .2))
+  row-hears Working told = stays refl refl
+  row-hears Nocall told = stays refl refl
+  row-hears Rewind told = passes refl refl
+  row-hears (RepeatFault status) told = stays refl refl
+  row-hears (Acknowledge count) told = passes (replied-past (s .state) (told .2)) refl
+  row-hears (HearCancel n) told = hears (told .2) (told .4) (told .2) refl
+  row-hears (AcceptCancel n) told = stays refl refl
+  row-hears (DeclineCancel n) told = stays refl refl
 
 -- So does an arriving datagram that is answered 0.
 pub arrive-hears : (s : Server) (datagram slots out : List ℕ) → (s .state ≡ Collect → s .seen ≡ 0)
     → arriving s datagram slots out .outcome .answer ≡ Done
     → Hearing s (arriving s datagram slots out .outcome .server) (arriving s datagram slots out .outcome .notice)
-unfolding arriving acted sending outcomeOf
+unfolding arriving arrivalBy acted sending doneWith
 arrive-hears s datagram slots out collecting done =
-    let h = reading datagram .header in
-    subst (λ (p : Plan). Hearing s (p .server) (p .notice)) (sym (arrive-row s datagram slots out done))
-    (row-hears s h (bodyLength (bodyOf datagram)) (cancelReading (reading datagram .little) (bodyOf datagram) .number) collecting (rowFor s h) refl)
+    let r = reading datagram in
+    let taken = arrive-accepted s datagram slots out done in
+    let known = arrive-taken s (length slots) (length out) datagram (taken .row) (taken .is) in
+    subst
+    (λ (v : Verdict).
+    Hearing s (arrivalBy v s (r .header) (bodyOf datagram) slots out .outcome .server) (arrivalBy v s (r .header) (bodyOf datagram) slots out .outcome .notice))
+    (sym (taken .is))
+    (row-hears s (r .header) (r .little) (bodyOf datagram) collecting (taken .row) (known .told))
 
 -- A cancel that is told was asked for at the client, in the run that it is told of, and is the number last seen then.
 pub told-asked : (w : World) (p : SentPdu) (out : List ℕ) → Inv w → CancelsInv (w .client .machine) (w .books .starts) (w .books .cancels)

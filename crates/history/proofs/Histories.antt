@@ -11,7 +11,7 @@ use Rattle.answers.specs.declared.Answer.the-variants.{Done}
 use Rattle.calls.specs.declared.Call.{Call}
 use Rattle.fragments.specs.Joined.{Leads}
 use Rattle.fragments.proofs.PutLaws.{leads-refl, leads-trans}
-use Rattle.grounds.proofs.PassLaws.{done-or-not}
+use Rattle.answers.proofs.NumberLaws.{done-or-not}
 use Rattle.client.specs.Machine.{starting}
 use Rattle.client.proofs.Growing.{transmit-grows, timer-grows, cancel-grows, arrive-grows}
 use Rattle.history.specs.Lists.{andThen}

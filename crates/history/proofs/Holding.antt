@@ -27,7 +27,7 @@ use Rattle.fragments.specs.Judgement.{held, anyHeld, heldAbove, aboveLast, othe
 use Rattle.fragments.specs.Slots.{bytesOf, filled}
 use Rattle.fragments.proofs.BufferLaws.{handedBelow, joined, joined-front, Carries, filled-here, filled-other, joined-whole}
 use Rattle.fragments.proofs.PutLaws.{none-held, filled-length, CanPut, stored-slot-same, stored-slot-other, stored-held, stored-held-other, held-told, none-above}
-use Rattle.grounds.specs.Fragment.{isLast}
+use Rattle.fragments.specs.Fragment.{isLast}
 
 -- The sizes: a slot buffer, the body of a PDU.
 abbrev pub Buffer : List ℕ → Type 0

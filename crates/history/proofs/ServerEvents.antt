@@ -1,5 +1,5 @@
 -- Transmit, fault, the RESEND timer and reply keep what is known of the world.
-use Prim.Native.Nat.{ℕ}
+use Prim.Native.Nat.{ℕ, _+_, _<_}
 use mathlib.Core.Bool.{Bool, true, false, false≢true}
 use mathlib.Core.List.{List, []}
 use mathlib.Core.Logic.{_⊎_, inl, inr}
@@ -8,142 +8,214 @@ use native.Mathlib.Omega.{arith}
 use lib.Dec.{ltb}
 use lib.ListN.{length}
 use Rattle.words.specs.Choice.{choose}
-use Rattle.words.specs.Sizes.{retryLimit}
+use Rattle.words.specs.Sizes.{pduSize, retryLimit}
 use Rattle.answers.specs.declared.Answer.the-variants.{Done}
-use Rattle.answers.specs.declared.Ground.{Ground}
-use Rattle.answers.specs.declared.Ground.the-variants.{Pass}
-use Rattle.calls.specs.declared.Notice.the-variants.{Nothing as Untold}
-use Rattle.calls.specs.declared.Sent.the-variants.{Nothing as Unsent}
 use Rattle.outgoing.proofs.OutgoingLaws.{fragment-most}
 use Rattle.outgoing.specs.Message.{fragmentOf}
-use Rattle.outgoing.specs.Sending.{sendsLast, replied, messageOf}
+use Rattle.outgoing.specs.declared.Outgoing.{Outgoing}
+use Rattle.outgoing.specs.Sending.{nextSerial, afterSend, sendsLast, replied, messageOf}
 use Rattle.pdu.specs.Header.{blank}
-use Rattle.server.specs.declared.records.Idle.the-variants.{Spent}
-use Rattle.server.specs.declared.records.Reply.{Reply}
+use Rattle.server.specs.declared.records.Reply.{Reply as HeldReply}
 use Rattle.server.specs.declared.records.Reply.the-variants.{Data, Fault}
 use Rattle.server.specs.declared.records.State.{State}
-use Rattle.server.specs.declared.records.State.the-variants.{Idle as IdleState, Running}
+use Rattle.server.specs.declared.records.State.the-variants.{Running, Replying, Held}
 use Rattle.server.specs.declared.records.Server.{Server}
-use Rattle.server.specs.records.States.{isFresh}
+use Rattle.server.specs.declared.judge.Row.{Row}
+use Rattle.server.specs.declared.judge.Row.the-variants.{Reply, TransmitMore, TransmitRepeatable, TransmitHeld, FaultRepeatable, FaultHeld, ResendData, ResendFault, Spend, Begin, Put, Working, Nocall, Rewind, RepeatFault, Acknowledge, HearCancel, AcceptCancel, DeclineCancel}
+use Rattle.server.specs.declared.judge.Verdict.{Verdict}
+use Rattle.server.specs.declared.judge.Verdict.the-variants.{Go}
+use Rattle.server.specs.declared.step.Send.{Send}
+use Rattle.server.specs.declared.step.Send.the-variants.{Response as SendResponse}
+use Rattle.server.specs.records.States.{isFresh, isReplying}
 use Rattle.server.specs.records.Rules.{sound}
-use Rattle.server.specs.records.Record.{unarmed, withOutgoing}
-use Rattle.server.proofs.StateLaws.{running-state, replying-state, held-state}
-use Rattle.server.specs.declared.step.Send.the-variants.{Nothing, Response as SendResponse, Fault as SendFault}
-use Rattle.server.specs.step.Plan.{accepted}
-use Rattle.server.specs.step.Rows.{answered, replyPlan, settled, transmitted, transmitPlan, faultPlan, resendHeld, resendRow, timerRow, timerPlan}
-use Rattle.server.proofs.StepLaws.{replied-sound, transmitted-sound, fault-sound, timer-sound}
-use Rattle.server.specs.Sending.{sentOut}
-use Rattle.server.specs.Machine.{outcomeOf, replying, sending, transmitting, timing, faulting}
-use Rattle.server.proofs.Judging.{CanReply, reply-passes, transmit-passes, fault-passes, timer-passes}
+use Rattle.server.specs.records.Record.{holding, unarmed, withOutgoing, withResends}
+use Rattle.server.specs.records.Arming.{runsAgain}
+use Rattle.server.specs.judge.Rows.{transmitRow, faultRow, resendHeld, resendRow}
+use Rattle.server.specs.step.Plan.{going}
+use Rattle.server.specs.step.Steps.{answered, transmitted, repeatable, rewinding, stepOf}
+use Rattle.server.specs.Machine.{done, replyBy, replying, sending, stepBy, transmitting, timing, faulting}
+use Rattle.server.proofs.StateLaws.{running-state, replying-state}
+use Rattle.server.proofs.Judging.{CanTake, CanReply, Judged, reply-taken, transmit-taken, fault-taken, timer-taken}
 use Rattle.server.proofs.Accepting.{reply-accepted, transmit-accepted, fault-accepted, timer-accepted}
+use Rattle.server.proofs.Keeping.{row-sound}
 use Rattle.history.specs.Lists.{In, andThen}
 use Rattle.history.specs.Dispatches.{DispatchOf}
 use Rattle.history.specs.World.{Replied, World}
 use Rattle.history.specs.Steps.{lastDispatched, sentAfter, dispatchesAfter, ofRecord}
 use Rattle.history.specs.Fairness.{OfLastReply}
-use Rattle.history.proofs.ListLaws.{Within, within-grown, in-added, in-grown, all-grown, last-added}
+use Rattle.history.proofs.ListLaws.{All, Within, within-grown, in-added, in-grown, all-grown, last-added}
 use Rattle.history.proofs.Holding.{Single}
-use Rattle.history.proofs.Network.{Response, more-known}
+use Rattle.history.proofs.Network.{Response, Known, more-known}
 use Rattle.history.proofs.More.{response-more, whole-reply-more, more-replies, called-on}
 use Rattle.history.proofs.Types.{IsResponse}
 use Rattle.history.proofs.Invariant.{ClientInv, unanswered, hasData, NewTo, new-on, ServerInv, Inv, serverStep, replyStep}
-use Rattle.history.proofs.ServerSteps.{goes-on, settled-goes-on, transmitted-goes-on, resend-goes-on}
-use Rattle.history.proofs.ServerSends.{tellsDispatch, answers, record-uuids, others-known, all-single, response-sent, transmitted-counts, planned}
+use Rattle.history.proofs.ServerSteps.{past, GoesOn, goes-on, repeatable-goes-on, holding-goes-on, rewinding-goes-on, spent-goes-on, stays-goes-on}
+use Rattle.history.proofs.ServerSends.{tellsDispatch, answers, record-uuids, serverPdus, others-known, all-single, response-sent, planned}
+
+-- A row of the stub or the timer keeps what is known of the world, where it goes on with the call and sends no response.
+module _ (w : World) (inv : Inv w) (row : Row) (j : Judged (w .server .machine) blank row) where
+  abbrev s : Server
+  s = w .server .machine
+
+  abbrev t : Server
+  t = stepOf row s blank .server
+
+  next-inv : isFresh (s .state) ≡ false → GoesOn s t (w .books .standing) (w .books .replies)
+      → ServerInv t (w .books .standing) (w .server .slots) (w .books .starts) (w .books .dispatches) (w .books .replies)
+  next-inv called g =
+      goes-on s t (w .books .standing) (w .server .slots) (w .books .starts) (w .books .dispatches) (w .books .replies) (inv .server) called
+      (row-sound s blank row j) g
+
+  quiet-inv : (out : List ℕ) → length out ≡ pduSize → isFresh (s .state) ≡ false → GoesOn s t (w .books .standing) (w .books .replies)
+      → tellsDispatch (stepOf row s blank .notice) ≡ false → answers (stepOf row s blank .send) ≡ false
+      → Inv (serverStep w (stepBy (Go row) s [] out .outcome) (stepBy (Go row) s [] out .out) (w .server .slots) (ofRecord w))
+  unfolding stepBy
+  quiet-inv out room called g untold none =
+      let next = next-inv called g in
+      planned w (stepOf row s blank) blank [] out (w .server .slots) (ofRecord w) inv untold next
+      (record-uuids (stepOf row s blank .send) t (next .activity) (rw (g .call) (inv .server .called called .typed))) (omega arith) room
+      (others-known (Response (w .books .replies)) (w .books .standing) (stepOf row s blank .send) t blank [] none)
+
+-- Transmit: the rows that send the next fragment.
+module _ (w : World) (inv : Inv w) (message out : List ℕ) (lent : OfLastReply (w .books .replies) message) (room : length out ≡ pduSize) where
+  transmits : (row : Row) → Judged (w .server .machine) blank row → w .server .machine .state ≡ Replying
+      → GoesOn (w .server .machine) (stepOf row (w .server .machine) blank .server) (w .books .standing) (w .books .replies)
+      → (stepOf row (w .server .machine) blank .server .outgoing ≡ afterSend (w .server .machine .outgoing))
+      → (stepOf row (w .server .machine) blank .send ≡ SendResponse (w .server .machine .outgoing .sent))
+      → tellsDispatch (stepOf row (w .server .machine) blank .notice) ≡ false
+      → Inv
+      (serverStep w (stepBy (Go row) (w .server .machine) (fragmentOf message (w .server .machine .outgoing .sent)) out .outcome)
+      (stepBy (Go row) (w .server .machine) (fragmentOf message (w .server .machine .outgoing .sent)) out .out) (w .server .slots) (ofRecord w))
+  unfolding stepBy isFresh isReplying afterSend nextSerial
+  transmits row j state g sent sends untold =
+      let s = w .server .machine in
+      let t = stepOf row s blank .server in
+      let called : isFresh (s .state) ≡ false = ap isFresh state in
+      let k = inv .server .called called in
+      let now = inv .server .replying (ap hasData state) in
+      let next = next-inv w inv row j called g in
+      planned w (stepOf row s blank) blank (fragmentOf message (s .outgoing .sent)) out (w .server .slots) (ofRecord w) inv untold next
+      (record-uuids (stepOf row s blank .send) t (next .activity) (rw (g .call) (k .typed)))
+      (fragment-most message (s .outgoing .sent)) room
+      (subst
+      (λ (x : Send).
+      All (Known IsResponse (Response (w .books .replies))) (serverPdus (w .books .standing) x t blank (fragmentOf message (s .outgoing .sent))))
+      (sym sends)
+      (response-sent s (w .books .standing) (w .books .starts) (w .books .replies) message k now (inv .server .activity) (inv .server .boot) (j .kept)
+      (ap isReplying state) lent t g (ap (λ (o : Outgoing). o .count) sent) (rw sent (omega arith)) blank))
+
+  -- Each of them: after the last fragment the call is repeatable or its reply held.
+  by-row : (last again : Bool) → Judged (w .server .machine) blank (choose last (choose again TransmitRepeatable TransmitHeld) TransmitMore)
+      → Inv
+      (serverStep w
+      (stepBy (Go (choose last (choose again TransmitRepeatable TransmitHeld) TransmitMore)) (w .server .machine)
+      (fragmentOf message (w .server .machine .outgoing .sent)) out .outcome)
+      (stepBy (Go (choose last (choose again TransmitRepeatable TransmitHeld) TransmitMore)) (w .server .machine)
+      (fragmentOf message (w .server .machine .outgoing .sent)) out .out)
+      (w .server .slots) (ofRecord w))
+  unfolding choose stepOf going transmitted repeatable holding unarmed withOutgoing afterSend isFresh
+  by-row false again j =
+      let s = w .server .machine in
+      let state = replying-state (s .state) (j .can .row) in
+      let now = inv .server .replying (ap hasData state) in
+      transmits TransmitMore j state
+      (stays-goes-on s (transmitted s) (w .books .standing) (w .books .replies) refl refl refl refl refl refl refl (ap past state)
+      (λ e. absurd (false≢true (sym (ap unanswered state) ∙ e))) (λ e. now))
+      refl refl refl
+  by-row true true j =
+      let s = w .server .machine in
+      let state = replying-state (s .state) (j .can .row) in
+      let now = inv .server .replying (ap hasData state) in
+      let single =
+      all-single s (w .books .standing) (w .books .starts) (w .books .replies) message (inv .server .called (ap isFresh state)) now (inv .server .activity)
+      (inv .server .boot) (j .kept) (j .can .row) lent (j .can .again) in
+      transmits TransmitRepeatable j state
+      (repeatable-goes-on s (transmitted s) (w .books .standing) (w .books .replies) refl refl refl refl refl refl single) refl refl refl
+  by-row true false j =
+      let s = w .server .machine in
+      let state = replying-state (s .state) (j .can .row) in
+      let now = inv .server .replying (ap hasData state) in
+      transmits TransmitHeld j state
+      (holding-goes-on s (transmitted s) Data (w .books .standing) (w .books .replies) refl refl refl refl refl refl (λ e. now)) refl refl refl
 
 -- Transmit.
 pub server-transmit-inv : (w : World) (message out : List ℕ) → Inv w → transmitting (w .server .machine) message out .outcome .answer ≡ Done
     → OfLastReply (w .books .replies) message
     → Inv (serverStep w (transmitting (w .server .machine) message out .outcome) (transmitting (w .server .machine) message out .out) (w .server .slots) (ofRecord w))
-unfolding transmitting transmitPlan accepted sentOut isFresh
-server-transmit-inv w message out inv done lent =
+unfolding transmitting transmitRow
+server-transmit-inv w message out inv told lent =
     let s = w .server .machine in
-    let pass = transmit-accepted s message out done in
-    let j = transmit-passes s (length message) (length out) pass in
-    let state = replying-state (s .state) (j .row) in
-    let called : isFresh (s .state) ≡ false = ap isFresh state in
-    let now = inv .server .replying (ap hasData state) in
-    let k = inv .server .called called in
-    let last = sendsLast (s .outgoing) in
-    let single = all-single s (w .books .standing) (w .books .starts) (w .books .replies) message k now (inv .server .activity) (inv .server .boot) (j .kept) (j .row) lent in
-    let g = transmitted-goes-on last s (w .books .standing) (w .books .replies) state now single in
-    let next =
-    goes-on s (transmitted last s) (w .books .standing) (w .server .slots) (w .books .starts) (w .books .dispatches) (w .books .replies) (inv .server) called
-    (transmitted-sound s (j .kept) (j .row) (j .free)) g in
+    let taken = transmit-accepted s message out told in
+    let known = transmit-taken s (length message) (length out) (taken .row) (taken .is) in
     let part = fragmentOf message (s .outgoing .sent) in
-    subst
-    (λ (x : Ground).
-    Inv (serverStep w (sending (transmitPlan x s) blank part out .outcome) (sending (transmitPlan x s) blank part out .out) (w .server .slots) (ofRecord w)))
-    (sym pass)
-    (planned w (transmitPlan Pass s) blank part out (w .server .slots) (ofRecord w) inv refl next
-    (record-uuids (SendResponse (s .outgoing .sent)) (transmitted last s) (next .activity) (rw (g .call) (k .typed)))
-    (fragment-most message (s .outgoing .sent)) (j .buffer)
-    (response-sent s (w .books .standing) (w .books .starts) (w .books .replies) message k now (inv .server .activity) (inv .server .boot) (j .kept) (j .row) lent
-    (transmitted last s) g (transmitted-counts last s .0) (transmitted-counts last s .1) blank))
+    subst (λ (v : Verdict). Inv (serverStep w (stepBy v s part out .outcome) (stepBy v s part out .out) (w .server .slots) (ofRecord w)))
+    (sym (taken .is ∙ ap Go (known .is)))
+    (by-row w inv message out lent (known .buffer) (sendsLast (s .outgoing)) (runsAgain (s .call .idempotent) (s .outgoing))
+    (subst (Judged s blank) (known .is) (known .judged)))
 
--- Fault.
+-- Fault: the call is repeatable, or the fault is held.
 pub server-fault-inv : (w : World) (status : ℕ) (out : List ℕ) → Inv w → faulting (w .server .machine) status out .outcome .answer ≡ Done
     → Inv (serverStep w (faulting (w .server .machine) status out .outcome) (faulting (w .server .machine) status out .out) (w .server .slots) (ofRecord w))
-unfolding faulting faultPlan accepted isFresh blank
-server-fault-inv w status out inv done =
+unfolding faulting faultRow
+server-fault-inv w status out inv told =
     let s = w .server .machine in
-    let pass = fault-accepted s status out done in
-    let j = fault-passes s (length out) pass in
-    let state = running-state (s .state) (j .row) in
-    let called : isFresh (s .state) ≡ false = ap isFresh state in
-    let t = settled (s .call .idempotent) s (Fault status) in
-    let g =
-    settled-goes-on (s .call .idempotent) s s (Fault status) (w .books .standing) (w .books .replies) refl refl refl refl refl refl (λ e. inv .server .single (ap unanswered state))
-    (λ e. absurd (false≢true e)) in
-    let next = goes-on s t (w .books .standing) (w .server .slots) (w .books .starts) (w .books .dispatches) (w .books .replies) (inv .server) called (fault-sound s (j .kept) status (j .row) (j .free)) g in
-    subst
-    (λ (x : Ground).
-    Inv (serverStep w (sending (faultPlan x s status) blank [] out .outcome) (sending (faultPlan x s status) blank [] out .out) (w .server .slots) (ofRecord w)))
-    (sym pass)
-    (planned w (faultPlan Pass s status) blank [] out (w .server .slots) (ofRecord w) inv refl next
-    (record-uuids (SendFault status) t (next .activity) (rw (g .call) (inv .server .called called .typed))) (omega arith) (j .buffer)
-    (others-known (Response (w .books .replies)) (w .books .standing) (SendFault status) t blank [] refl))
-
--- RESEND sends no response, and tells nothing.
-timer-quiet : (s : Server) (reply : Reply) → (answers (resendRow s reply .send) ≡ false) × (resendRow s reply .notice ≡ Untold)
-unfolding resendRow resendHeld accepted choose
-timer-quiet s reply = by-count (ltb (s .resends) retryLimit) reply
+    let taken = fault-accepted s status out told in
+    let known = fault-taken s status (length out) (taken .row) (taken .is) in
+    subst (λ (v : Verdict). Inv (serverStep w (stepBy v s [] out .outcome) (stepBy v s [] out .out) (w .server .slots) (ofRecord w)))
+    (sym (taken .is ∙ ap Go (known .is)))
+    (by-mark (s .call .idempotent) (known .buffer) (subst (Judged s blank) (known .is) (known .judged)))
   where
-    by-count : (t : Bool) (r : Reply)
-        → (answers (choose t (resendHeld s r) (accepted (unarmed s (IdleState Spent)) Nothing) .send) ≡ false)
-        × (choose t (resendHeld s r) (accepted (unarmed s (IdleState Spent)) Nothing) .notice ≡ Untold)
-    by-count true Data = unfold resendHeld accepted choose in (refl, refl)
-    by-count true (Fault status) = unfold resendHeld accepted choose in (refl, refl)
-    by-count false r = unfold accepted choose in (refl, refl)
+    by-mark : (t : Bool) → length out ≡ pduSize → Judged (w .server .machine) blank (choose t (FaultRepeatable status) (FaultHeld status))
+        → Inv
+        (serverStep w (stepBy (Go (choose t (FaultRepeatable status) (FaultHeld status))) (w .server .machine) [] out .outcome)
+        (stepBy (Go (choose t (FaultRepeatable status) (FaultHeld status))) (w .server .machine) [] out .out) (w .server .slots) (ofRecord w))
+    unfolding choose stepOf going isFresh
+    by-mark true room j =
+        let s = w .server .machine in
+        let state = running-state (s .state) (j .can .row) in
+        quiet-inv w inv (FaultRepeatable status) j out room (ap isFresh state)
+        (repeatable-goes-on s s (w .books .standing) (w .books .replies) refl refl refl refl refl refl (inv .server .single (ap unanswered state))) refl refl
+    by-mark false room j =
+        let s = w .server .machine in
+        let state = running-state (s .state) (j .can .row) in
+        quiet-inv w inv (FaultHeld status) j out room (ap isFresh state)
+        (holding-goes-on s s (Fault status) (w .books .standing) (w .books .replies) refl refl refl refl refl refl (λ e. absurd (false≢true e))) refl refl
 
--- The RESEND timer.
+-- The RESEND timer: what is held goes out again, or at the limit the call is spent.
+module _ (w : World) (inv : Inv w) (out : List ℕ) (room : length out ≡ pduSize) where
+  resends : (reply : HeldReply) → w .server .machine .state ≡ Held reply → (t : Bool) (n : ℕ)
+      → Judged (w .server .machine) blank (choose t (resendHeld reply n) Spend)
+      → Inv
+      (serverStep w (stepBy (Go (choose t (resendHeld reply n) Spend)) (w .server .machine) [] out .outcome)
+      (stepBy (Go (choose t (resendHeld reply n) Spend)) (w .server .machine) [] out .out) (w .server .slots) (ofRecord w))
+  unfolding choose resendHeld stepOf going isFresh withResends
+  resends reply held false n j =
+      quiet-inv w inv Spend j out room (ap isFresh held) (spent-goes-on (w .server .machine) (w .books .standing) (w .books .replies)) refl refl
+  resends Data held true n j =
+      let s = w .server .machine in
+      quiet-inv w inv (ResendData n) j out room (ap isFresh held)
+      (rewinding-goes-on s (withResends s n) (w .books .standing) (w .books .replies) refl refl refl refl refl refl (inv .server .replying (ap hasData held)))
+      refl refl
+  resends (Fault status) held true n j =
+      let s = w .server .machine in
+      quiet-inv w inv (ResendFault status n) j out room (ap isFresh held)
+      (holding-goes-on s (withResends s n) (Fault status) (w .books .standing) (w .books .replies) refl refl refl refl refl refl (λ e. absurd (false≢true e)))
+      refl refl
+
 pub server-timer-inv : (w : World) (ticket : ℕ) (out : List ℕ) → Inv w → timing (w .server .machine) ticket out .outcome .answer ≡ Done
     → Inv (serverStep w (timing (w .server .machine) ticket out .outcome) (timing (w .server .machine) ticket out .out) (w .server .slots) (ofRecord w))
-unfolding timing timerPlan timerRow isFresh blank
-server-timer-inv w ticket out inv done =
+unfolding timing resendRow
+server-timer-inv w ticket out inv told =
     let s = w .server .machine in
-    let pass = timer-accepted s ticket out done in
-    let j = timer-passes s ticket (length out) pass in
-    let held = held-state (s .state) (j .row) in
-    let called : isFresh (s .state) ≡ false = ap isFresh (held .is) in
-    let plan = resendRow s (held .reply) in
-    let g = resend-goes-on s (held .reply) (w .books .standing) (w .books .replies) (λ e. inv .server .replying (ap hasData (held .is) ∙ e)) in
-    let kept : sound (plan .server) ≡ true =
-    subst (λ (x : State). sound (timerRow x s .server) ≡ true) (held .is) (timer-sound s (j .kept) (j .free)) in
-    let next = goes-on s (plan .server) (w .books .standing) (w .server .slots) (w .books .starts) (w .books .dispatches) (w .books .replies) (inv .server) called kept g in
-    let quiet = timer-quiet s (held .reply) in
-    subst
-    (λ (x : Ground).
-    Inv (serverStep w (sending (timerPlan x s) blank [] out .outcome) (sending (timerPlan x s) blank [] out .out) (w .server .slots) (ofRecord w)))
-    (sym pass)
-    (subst
-    (λ (x : State). Inv (serverStep w (sending (timerRow x s) blank [] out .outcome) (sending (timerRow x s) blank [] out .out) (w .server .slots) (ofRecord w)))
-    (sym (held .is))
-    (planned w plan blank [] out (w .server .slots) (ofRecord w) inv (ap tellsDispatch (quiet .1)) next
-    (record-uuids (plan .send) (plan .server) (next .activity) (rw (g .call) (inv .server .called called .typed))) (omega arith) (j .buffer)
-    (others-known (Response (w .books .replies)) (w .books .standing) (plan .send) (plan .server) blank [] (quiet .0))))
+    let taken = timer-accepted s ticket out told in
+    let known = timer-taken s ticket (length out) (taken .row) (taken .is) in
+    subst (λ (v : Verdict). Inv (serverStep w (stepBy v s [] out .outcome) (stepBy v s [] out .out) (w .server .slots) (ofRecord w)))
+    (sym (taken .is ∙ ap Go (known .is)))
+    (resends w inv out (known .buffer) (known .reply) (known .held) (ltb (s .resends) retryLimit) (s .resends + 1)
+    (subst (Judged s blank) (known .is) (known .judged)))
 
 -- A reply that goes on the books.
-module _ (w : World) (inv : Inv w) (n : ℕ) (message : List ℕ) (can : CanReply (w .server .machine) n) (whole : length message ≡ n) where
+module _ (w : World) (inv : Inv w) (n : ℕ) (message : List ℕ) (kept : sound (w .server .machine) ≡ true) (can : CanReply n (w .server .machine)) (whole : length message ≡ n) where
   abbrev reply : Replied
   reply = record { ordinal = lastDispatched (w .books .dispatches); message = message }
 
@@ -170,13 +242,13 @@ module _ (w : World) (inv : Inv w) (n : ℕ) (message : List ℕ) (can : CanRepl
   above-other k (inr above) e = omega (arith, to-start)
 
   server-replied : ServerInv (answered (w .server .machine) n) (w .books .standing) (w .server .slots) (w .books .starts) (w .books .dispatches) replies
-  unfolding answered withOutgoing unarmed replied messageOf isFresh
+  unfolding stepOf going answered withOutgoing unarmed replied messageOf isFresh
   server-replied =
       let old = inv .server in
       let called : isFresh (w .server .machine .state) ≡ false = ap isFresh running in
       let k = old .called called in
       record {
-        kept = replied-sound (w .server .machine) (can .kept) n (can .short);
+        kept = row-sound (w .server .machine) blank (Reply n) (record { kept = kept; can = can });
         activity = old .activity;
         boot = old .boot;
         takes =
@@ -223,8 +295,8 @@ module _ (w : World) (inv : Inv w) (n : ℕ) (message : List ℕ) (can : CanRepl
       by-places (inr p) (inl q) = inr (inr (earlier t q (sym e ∙ ap (λ (x : Replied). x .ordinal) p ∙ to-start)))
       by-places (inr p) (inr q) = inl (p ∙ sym q)
 
-  reply-inv : Inv (replyStep w (outcomeOf (replyPlan Pass (w .server .machine) n) Unsent) message)
-  unfolding outcomeOf replyPlan accepted choose sentAfter dispatchesAfter
+  reply-inv : Inv (replyStep w (replyBy (Go (Reply n)) (w .server .machine)) message)
+  unfolding replyBy done stepOf going choose sentAfter dispatchesAfter
   reply-inv = record {
     client = client-replied;
     server = server-replied;
@@ -254,7 +326,10 @@ module _ (w : World) (inv : Inv w) (n : ℕ) (message : List ℕ) (can : CanRepl
 pub replied-inv : (w : World) (n : ℕ) (message : List ℕ) → Inv w → replying (w .server .machine) n .answer ≡ Done → length message ≡ n
     → Inv (replyStep w (replying (w .server .machine) n) message)
 unfolding replying
-replied-inv w n message inv done whole =
-    let pass = reply-accepted (w .server .machine) n done in
-    subst (λ (g : Ground). Inv (replyStep w (outcomeOf (replyPlan g (w .server .machine) n) Unsent) message)) (sym pass)
-    (reply-inv w inv n message (reply-passes (w .server .machine) n pass) whole)
+replied-inv w n message inv told whole =
+    let s = w .server .machine in
+    let taken = reply-accepted s n told in
+    let known = reply-taken s n (taken .row) (taken .is) in
+    let j : Judged s blank (Reply n) = subst (Judged s blank) (known .is) (known .judged) in
+    subst (λ (v : Verdict). Inv (replyStep w (replyBy v s) message)) (sym (taken .is ∙ ap Go (known .is)))
+    (reply-inv w inv n message (j .kept) (j .can) whole)

@@ -17,13 +17,14 @@ use Rattle.fragments.specs.Joined.{parts}
 use Rattle.fragments.proofs.PutLaws.{CanPut, stored-sound}
 use Rattle.fragments.proofs.PartLaws.{parts-joined}
 use Rattle.incoming.specs.declared.Incoming.{Incoming}
-use Rattle.incoming.specs.Slots.{complete, cleared, stored, sound as incomingSound}
+use Rattle.incoming.specs.Slots.{contiguous, complete, cleared, stored, sound as incomingSound}
 use Rattle.incoming.proofs.SlotLaws.{cleared-sound}
 use Rattle.outgoing.specs.Sending.{noMessage, bounded, hasNothing}
 use Rattle.pdu.specs.declared.Header.{Header}
 use Rattle.timers.proofs.TimerLaws.{off-sound}
-use Rattle.grounds.specs.Fragment.{isLast, wantsFack, bodyLength}
-use Rattle.grounds.proofs.GroundLaws.{body-length}
+use Rattle.fragments.specs.Fragment.{isLast, wantsFack, bodyLength}
+use Rattle.fragments.specs.Put.{putOf}
+use Rattle.fragments.proofs.FlagLaws.{body-length}
 use Rattle.server.specs.declared.records.Idle.the-variants.{Repeatable}
 use Rattle.server.specs.declared.records.State.the-variants.{Idle as IdleState, Collect}
 use Rattle.server.specs.declared.records.Server.{Server}
@@ -31,10 +32,11 @@ use Rattle.server.specs.records.States.{isFresh, isRunning, isHeld}
 use Rattle.server.specs.records.Rules.{sound, outgoingSound, messageRule}
 use Rattle.server.specs.records.Record.{unarmed, withIncoming}
 use Rattle.server.proofs.RuleLaws.{rules-told, rules-hold}
-use Rattle.server.specs.arrivals.Rows.{callOf, begun, putState, putNotice, fackFor, putPlan, requestPlan}
-use Rattle.server.proofs.ArrivalLaws.{put-sound}
+use Rattle.server.specs.judge.Rows.{requestPut}
+use Rattle.server.specs.step.Steps.{callOf, begun, putState, putNotice, fackFor, putPlan}
+use Rattle.server.proofs.Keeping.{put-sound}
 use Rattle.server.specs.HandUp.{handsUp}
-use Rattle.server.specs.Machine.{outcomeOf, sending}
+use Rattle.server.specs.Machine.{done, sending}
 use Rattle.server.specs.declared.step.Send.{Send}
 use Rattle.history.specs.Lists.{In, andThen}
 use Rattle.history.specs.World.{callNumber, Started, Dispatched, Replied, World}
@@ -297,10 +299,10 @@ module _ (s : Server) (o : ℕ) (slots : List ℕ) (starts : List Started) (disp
   put-known false e kept = (collects kept, calls)
 
 -- A fack is no response, and does not speak of the record's call.
-fack-sends : (wanted : Bool) (serial : ℕ) → (answers (fackFor wanted serial) ≡ false) × (ofCall (fackFor wanted serial) ≡ false)
+fack-sends : (wanted : Bool) (serial count : ℕ) → (answers (fackFor wanted serial count) ≡ false) × (ofCall (fackFor wanted serial count) ≡ false)
 unfolding fackFor choose
-fack-sends true serial = (refl, refl)
-fack-sends false serial = (refl, refl)
+fack-sends true serial count = (refl, refl)
+fack-sends false serial count = (refl, refl)
 
 -- A request that is taken is of its start, and the record then stands there.
 abbrev pub ofRequest : ℕ → Header → ℕ → Subject
@@ -312,16 +314,16 @@ pub put-inv : (w : World) → Inv w → (s : Server) (o : ℕ) → ServerInv s o
     → CanPut (s .incoming) (h .fragment) (isLast (h .flags1))
     → (out : List ℕ) → length out ≡ pduSize → (cancel : ℕ)
     → Inv
-    (serverStep w (sending (requestPlan s (h .flags1) (h .serial) (h .fragment) (bodyLength body)) h [] out .outcome)
-    (sending (requestPlan s (h .flags1) (h .serial) (h .fragment) (bodyLength body)) h [] out .out)
+    (serverStep w (sending (putPlan s (requestPut (s .incoming) h body)) h [] out .outcome)
+    (sending (putPlan s (requestPut (s .incoming) h body)) h [] out .out)
     (filled (h .fragment) body (w .server .slots)) (ofRequest o h cancel))
-unfolding requestPlan putPlan sending outcomeOf withIncoming unarmed
+unfolding requestPut putOf putPlan sending done withIncoming unarmed
 put-inv w inv s o server state h body request short can out room cancel =
     subst
     (λ (n : ℕ).
     Inv
-    (serverStep w (sending (requestPlan s (h .flags1) (h .serial) (h .fragment) n) h [] out .outcome)
-    (sending (requestPlan s (h .flags1) (h .serial) (h .fragment) n) h [] out .out)
+    (serverStep w (sending (putPlan s (putOf (s .incoming) (h .flags1) (h .serial) (h .fragment) n)) h [] out .outcome)
+    (sending (putPlan s (putOf (s .incoming) (h .flags1) (h .serial) (h .fragment) n)) h [] out .out)
     (filled (h .fragment) body (w .server .slots)) (ofRequest o h cancel)))
     (sym (body-length body short))
     (record {
@@ -335,12 +337,12 @@ put-inv w inv s o server state h body request short can out room cancel =
       responses =
           sends-known (Known IsResponse (Response (w .books .replies))) send (putServer-of (complete m)) h [] out (w .server .sent) o
           (pdu-uuids send (putServer-of (complete m)) h (known .0 .activity) (request .sized)
-          (λ e. absurd (false≢true (sym (fack-sends (wantsFack (h .flags1)) (h .serial) .1) ∙ e)))) (omega arith) room (inv .responses)
-          (others-known (Response (w .books .replies)) o send (putServer-of (complete m)) h [] (fack-sends (wantsFack (h .flags1)) (h .serial) .0));
+          (λ e. absurd (false≢true (sym (fack-sends (wantsFack (h .flags1)) (h .serial) (contiguous m) .1) ∙ e)))) (omega arith) room (inv .responses)
+          (others-known (Response (w .books .replies)) o send (putServer-of (complete m)) h [] (fack-sends (wantsFack (h .flags1)) (h .serial) (contiguous m) .0));
     })
   where
     send : Send
-    send = fackFor (wantsFack (h .flags1)) (h .serial)
+    send = fackFor (wantsFack (h .flags1)) (h .serial) (contiguous m)
 
     m : Incoming
     m = stored (s .incoming) (h .fragment) (length body) (isLast (h .flags1))
@@ -350,8 +352,7 @@ put-inv w inv s o server state h body request short can out room cancel =
 
     kept : sound (putServer-of (complete m)) ≡ true
     kept =
-        unfold putPlan in
-        put-sound s (server .kept) m (h .flags1) (h .serial) state
+        put-sound s (server .kept) (complete m) m state
         (stored-sound (s .incoming) (h .fragment) (length body) (isLast (h .flags1))
         (rules-told s (server .kept) .incoming) short can)
 

@@ -207,5 +207,5 @@ started-inv w call n message inv done fair =
     let taken = start-accepted c call n done in
     let can = start-taken c n (taken .number) (taken .is) in
     let number = nextNumber (isQueued (c .state)) (c .number) in
-    subst (λ (v : StartVerdict). Inv (startStep w (startBy v c call n) call message)) (sym (taken .is ∙ ap Go (can .number)))
-    (start-inv w inv call n message (subst (CanStart c n) (can .number) can) fair)
+    subst (λ (v : StartVerdict). Inv (startStep w (startBy v c call n) call message)) (sym (taken .is ∙ ap Go (can .is)))
+    (start-inv w inv call n message (subst (CanStart c n) (can .is) can) fair)
