@@ -1,41 +1,45 @@
--- The rows of reply, transmit, fault, replay and RESEND keep the record rules, and what is held.
+-- Every row that is taken leaves a record that keeps the record rules; what it leaves of the fragments held.
 use Prim.Native.Nat.{ℕ, _+_, _≤_, _<_}
-use mathlib.Core.Bool.{Bool, true, false, not}
+use mathlib.Core.Bool.{Bool, true, false}
 use mathlib.Core.Path.{_≡_, refl, sym, subst, _∙_}
 use native.Mathlib.Omega.{arith}
-use lib.Dec.{ltb}
-use borrow.Author.Tests.{ltb-true, le-leb, eqb-false}
-use Rattle.words.specs.Choice.{choose}
+use lib.Dec.{leb}
+use borrow.Author.Tests.{le-leb, eqb-false}
+use Rattle.words.specs.Choice.{choose, both}
 use Rattle.words.specs.Sizes.{lastNumber, messageSize, retryLimit}
-use Rattle.words.proofs.Tests.{both-hold}
-use Rattle.outgoing.specs.Sending.{bounded, hasMessage, replied, afterSend, sendsLast, rewound}
-use Rattle.outgoing.proofs.SendLaws.{message-count-range, replied-bounded, replied-message, replied-below, sent-more, sent-bounded, sent-message, rewound-below, rewound-bounded, rewound-message}
-use Rattle.timers.specs.Tickets.{usedUp}
+use Rattle.fragments.specs.declared.Fragment.{Fragment}
+use Rattle.fragments.specs.Put.{putInto}
+use Rattle.fragments.proofs.PutLaws.{stored-sound}
+use Rattle.incoming.specs.declared.Incoming.{Incoming}
+use Rattle.incoming.specs.Slots.{cleared, sound as incomingSound}
+use Rattle.incoming.proofs.SlotLaws.{cleared-sound}
+use Rattle.outgoing.specs.Sending.{noMessage, bounded, hasNothing, hasMessage, replied, afterSend, sendsLast, acknowledgedTo, rewound}
+use Rattle.outgoing.proofs.SendLaws.{message-count-range, replied-bounded, replied-message, replied-below, sent-more, sent-bounded, sent-message, acknowledged-bounded, rewound-below, rewound-bounded, rewound-message}
+use Rattle.pdu.specs.declared.Header.{Header}
+use Rattle.timers.proofs.TimerLaws.{off-sound}
 use Rattle.server.specs.declared.records.Idle.the-variants.{Spent, Repeatable}
-use Rattle.server.specs.declared.records.Reply.{Reply}
 use Rattle.server.specs.declared.records.Reply.the-variants.{Data, Fault}
 use Rattle.server.specs.declared.records.State.{State}
 use Rattle.server.specs.declared.records.State.the-variants.{Idle as IdleState, Collect, Running, Replying, Held}
 use Rattle.server.specs.declared.records.Server.{Server}
-use Rattle.server.specs.records.States.{isRunning, isReplying}
+use Rattle.server.specs.records.States.{isRunning, isReplying, isHeld}
 use Rattle.server.specs.records.Rules.{heldRule, messageRule, outgoingSound, sound}
-use Rattle.server.specs.records.Record.{holding, unarmed, withOutgoing, withResends}
-use Rattle.server.specs.records.Arming.{runsAgain, armsResend, heldArmsAgain, armsAgain}
+use Rattle.server.specs.records.Record.{holding, unarmed, withOutgoing, withIncoming, withResends, withSeen}
+use Rattle.server.specs.declared.judge.Row.{Row}
+use Rattle.server.specs.declared.judge.Row.the-variants.{Reply as ReplyRow, TransmitMore, TransmitRepeatable, TransmitHeld, FaultRepeatable, FaultHeld, ResendData, ResendFault, Spend, Begin, Put, Working, Nocall, Rewind, RepeatFault, Acknowledge, HearCancel, AcceptCancel, DeclineCancel}
+use Rattle.server.specs.step.Plan.{going}
+use Rattle.server.specs.step.Steps.{answered, transmitted, repeatable, rewinding, begun, putState, putPlan, acknowledged, heardPlan, stepOf}
 use Rattle.server.proofs.StateLaws.{running-state, replying-state}
-use Rattle.server.proofs.RuleLaws.{rules-told, rules-hold, out-told, out-holds, running-told, data-told, replying-told, replying-holds, repeatable-holds}
-use Rattle.server.proofs.RecordLaws.{Untimed, holding-sound, unarmed-sound, spent-sound}
-use Rattle.server.specs.declared.step.Send.the-variants.{Nothing}
-use Rattle.server.specs.step.Plan.{refused, accepted}
-use Rattle.server.specs.step.Rows.{answered, settled, transmitted, rewinding, replayHeld, replayPlan, resendHeld, resendRow, timerRow}
+use Rattle.server.proofs.RuleLaws.{rules-told, rules-hold, out-told, out-holds, collect-told, running-told, data-told, replying-told, replying-holds, repeatable-holds, count-most}
+use Rattle.server.proofs.RecordLaws.{Untimed, untimed-told, holding-sound, unarmed-sound, spent-sound}
+use Rattle.server.proofs.Judging.{CanTransmitMore, Judged}
 
--- To IDLE repeatable where the call can be run again, else to HELD, where a ticket is left.
-settled-sound : (again : Bool) (s : Server) (reply : Reply) → Untimed (Held reply) (s .resends) (s .outgoing) (s .incoming)
-    → (not again ≡ true → usedUp (s .tickets) ≡ false) → sound (settled again s reply) ≡ true
-unfolding settled choose
-settled-sound true s reply b free =
+-- To IDLE repeatable, from what could be held.
+repeatable-sound : (s : Server) (state : State) → Untimed state (s .resends) (s .outgoing) (s .incoming) → sound (repeatable s) ≡ true
+unfolding repeatable
+repeatable-sound s state b =
     unarmed-sound s (IdleState Repeatable)
-    (record { count = b .count; outgoing = repeatable-holds (s .outgoing) (Held reply) (b .outgoing); held = b .held })
-settled-sound false s reply b free = holding-sound s reply b (free refl)
+    (record { count = b .count; outgoing = repeatable-holds (s .outgoing) state (b .outgoing); held = b .held })
 
 -- To REPLYING at the first unacknowledged fragment, from HELD with data.
 rewinding-sound : (s : Server) → Untimed (Held Data) (s .resends) (s .outgoing) (s .incoming) → sound (rewinding s) ≡ true
@@ -51,7 +55,34 @@ rewinding-sound s b =
       held = b .held;
     })
 
+-- A request is put where no message is out: to COLLECT, or to RUNNING where all is held.
+putting-sound : (s : Server) (p : Fragment) → leb (s .resends) retryLimit ≡ true → outgoingSound Collect (s .outgoing) ≡ true
+    → incomingSound (putInto (s .incoming) p) ≡ true → sound (putPlan s p .server) ≡ true
+unfolding putPlan withIncoming unarmed putState messageRule choose
+putting-sound s p count out right =
+    unarmed-sound (withIncoming s (putInto (s .incoming) p)) (putState (p .complete))
+    (record { count = count; outgoing = by-all (p .complete); held = right })
+  where
+    by-all : (all : Bool) → outgoingSound (putState all) (s .outgoing) ≡ true
+    by-all true = out-holds (s .outgoing) Running (out-told (s .outgoing) Collect out .0) (collect-told (s .outgoing) out)
+    by-all false = out
+
+-- The record of a call that has begun keeps the rules.
+pub begun-sound : (s : Server) (h : Header) → sound (begun s h) ≡ true
+unfolding begun outgoingSound messageRule bounded hasNothing noMessage both choose isHeld
+begun-sound s h =
+    rules-hold (begun s h) (record { count = refl; outgoing = refl; incoming = cleared-sound; timer = off-sound false (s .tickets) })
+
 module _ (s : Server) (kept : sound s ≡ true) where
+  -- The message sent is right in the state that the record is in,
+  out-in : (state : State) → s .state ≡ state → outgoingSound state (s .outgoing) ≡ true
+  out-in state is = subst (λ (x : State). outgoingSound x (s .outgoing) ≡ true) is (rules-told s kept .outgoing)
+
+  -- so what no timer touches is told for it, whatever the count is then.
+  untimed-in : (state : State) (resends : ℕ) → s .state ≡ state → resends ≤ retryLimit → Untimed state resends (s .outgoing) (s .incoming)
+  untimed-in state resends is few =
+      record { count = le-leb resends retryLimit few; outgoing = out-in state is; held = rules-told s kept .incoming }
+
   -- Reply: the record with the new message keeps the rules.
   pub replied-sound : (n : ℕ) → n ≤ messageSize → sound (answered s n) ≡ true
   unfolding answered withOutgoing
@@ -69,179 +100,157 @@ module _ (s : Server) (kept : sound s ≡ true) where
   -- In REPLYING a fragment is left to send, of at most 32,
   fragment-left : isReplying (s .state) ≡ true → (s .outgoing .sent < s .outgoing .count) × (s .outgoing .count ≤ lastNumber + 1)
   fragment-left replies =
-      let state = replying-state (s .state) replies in
-      let out = replying-told (s .outgoing) (subst (λ (x : State). outgoingSound x (s .outgoing) ≡ true) state (rules-told s kept .outgoing)) in
-      (out .1, message-count-range (s .outgoing) (out .0) .1)
+      let told = replying-told (s .outgoing) (out-in Replying (replying-state (s .state) replies)) in
+      (told .1, message-count-range (s .outgoing) (told .0) .1)
 
-  -- so a transmit counts one more as sent, whatever state comes next;
-  pub transmitted-one-more : isReplying (s .state) ≡ true → (last : Bool) → transmitted last s .outgoing .sent ≡ s .outgoing .sent + 1
-  unfolding transmitted settled withOutgoing unarmed holding choose
-  transmitted-one-more replies last = by-tests last (runsAgain (s .call .idempotent) (s .outgoing))
-    where
-      after : Server
-      after = withOutgoing s (afterSend (s .outgoing))
+  -- so a transmit counts one more as sent,
+  pub transmitted-one-more : isReplying (s .state) ≡ true → transmitted s .outgoing .sent ≡ s .outgoing .sent + 1
+  unfolding transmitted withOutgoing
+  transmitted-one-more replies = sent-more (s .outgoing) (fragment-left replies .0) (fragment-left replies .1)
 
-      more : afterSend (s .outgoing) .sent ≡ s .outgoing .sent + 1
-      more = sent-more (s .outgoing) (fragment-left replies .0) (fragment-left replies .1)
+  -- of a message that is within its bounds,
+  sent-told : isReplying (s .state) ≡ true → (bounded (afterSend (s .outgoing)) ≡ true) × (hasMessage (afterSend (s .outgoing)) ≡ true)
+  sent-told replies =
+      let out = out-in Replying (replying-state (s .state) replies) in (
+        sent-bounded (s .outgoing) (out-told (s .outgoing) Replying out .0) (fragment-left replies .0) (fragment-left replies .1),
+        sent-message (s .outgoing) ∙ replying-told (s .outgoing) out .0,
+      )
 
-      by-tests : (t again : Bool) → choose t (settled again after Data) after .outgoing .sent ≡ s .outgoing .sent + 1
-      by-tests true true = more
-      by-tests true false = more
-      by-tests false again = more
-
-  -- the record then keeps the rules, where a ticket is left for a reply to hold.
-  pub transmitted-sound : isReplying (s .state) ≡ true → (armsResend (s .call .idempotent) (s .outgoing) ≡ true → usedUp (s .tickets) ≡ false)
-      → sound (transmitted (sendsLast (s .outgoing)) s) ≡ true
-  unfolding transmitted withOutgoing afterSend sendsLast armsResend choose messageRule heldRule
-  transmitted-sound replies free = by-last (sendsLast (s .outgoing)) refl
-    where
-      state : s .state ≡ Replying
-      state = replying-state (s .state) replies
-
-      out : outgoingSound Replying (s .outgoing) ≡ true
-      out = subst (λ (x : State). outgoingSound x (s .outgoing) ≡ true) state (rules-told s kept .outgoing)
-
-      below : s .outgoing .sent < s .outgoing .count
-      below = fragment-left replies .0
-
-      most : s .outgoing .count ≤ lastNumber + 1
-      most = fragment-left replies .1
-
-      bound : bounded (afterSend (s .outgoing)) ≡ true
-      bound = sent-bounded (s .outgoing) (out-told (s .outgoing) Replying out .0) below most
-
-      message : hasMessage (afterSend (s .outgoing)) ≡ true
-      message = sent-message (s .outgoing) ∙ replying-told (s .outgoing) out .0
-
-      left : sendsLast (s .outgoing) ≡ false → afterSend (s .outgoing) .sent < afterSend (s .outgoing) .count
-      left e =
-          let more = sent-more (s .outgoing) below most in
-          let other = eqb-false (s .outgoing .sent + 1) (s .outgoing .count) e in
-          let same : afterSend (s .outgoing) .count ≡ s .outgoing .count = refl in
-          omega (arith, below)
-
-      by-last : (t : Bool) → sendsLast (s .outgoing) ≡ t → sound (transmitted t s) ≡ true
-      by-last true e =
-          settled-sound (runsAgain (s .call .idempotent) (s .outgoing)) (withOutgoing s (afterSend (s .outgoing))) Data
-          (record {
-            count = rules-told s kept .count;
-            outgoing = out-holds (afterSend (s .outgoing)) (Held Data) bound message;
-            held = rules-told s kept .incoming;
-          })
-          (λ (once : not (runsAgain (s .call .idempotent) (s .outgoing)) ≡ true). free (both-hold (sendsLast (s .outgoing)) _ e once))
-      by-last false e =
-          rules-hold (withOutgoing s (afterSend (s .outgoing)))
-          (record {
-            count = rules-told s kept .count;
-            outgoing =
-                subst (λ (x : State). outgoingSound x (afterSend (s .outgoing)) ≡ true) (sym state)
-                (replying-holds (afterSend (s .outgoing)) bound message (left e));
-            incoming = rules-told s kept .incoming;
-            timer = rules-told s kept .timer;
-          })
-
-  -- Fault: the record keeps the rules, where a ticket is left unless the call is idempotent.
-  pub fault-sound : (status : ℕ) → isRunning (s .state) ≡ true → (not (s .call .idempotent) ≡ true → usedUp (s .tickets) ≡ false)
-      → sound (settled (s .call .idempotent) s (Fault status)) ≡ true
+  -- and can be held then;
+  sent-untimed : isReplying (s .state) ≡ true → Untimed (Held Data) (s .resends) (afterSend (s .outgoing)) (s .incoming)
   unfolding messageRule heldRule
-  fault-sound status runs free =
+  sent-untimed replies =
       let r = rules-told s kept in
-      let out = subst (λ (x : State). outgoingSound x (s .outgoing) ≡ true) (running-state (s .state) runs) (r .outgoing) in
-      settled-sound (s .call .idempotent) s (Fault status)
+      let told = sent-told replies in
+      record { count = r .count; outgoing = out-holds (afterSend (s .outgoing)) (Held Data) (told .0) (told .1); held = r .incoming }
+
+  -- where it was not the last, one is left.
+  more-sound : CanTransmitMore s → sound (transmitted s) ≡ true
+  unfolding transmitted withOutgoing afterSend sendsLast
+  more-sound can =
+      let r = rules-told s kept in
+      let told = sent-told (can .row) in
+      let below = fragment-left (can .row) .0 in
+      let more = sent-more (s .outgoing) below (fragment-left (can .row) .1) in
+      let other = eqb-false (s .outgoing .sent + 1) (s .outgoing .count) (can .more) in
+      rules-hold (transmitted s)
       (record {
+        count = r .count;
+        outgoing =
+            subst (λ (x : State). outgoingSound x (afterSend (s .outgoing)) ≡ true) (sym (replying-state (s .state) (can .row)))
+            (replying-holds (afterSend (s .outgoing)) (told .0) (told .1) (omega (arith, below)));
+        incoming = r .incoming;
+        timer = r .timer;
+      })
+
+  -- A fault can be held from RUNNING.
+  fault-untimed : (status : ℕ) → isRunning (s .state) ≡ true → Untimed (Held (Fault status)) (s .resends) (s .outgoing) (s .incoming)
+  unfolding messageRule heldRule
+  fault-untimed status runs =
+      let r = rules-told s kept in
+      let out = out-in Running (running-state (s .state) runs) in
+      record {
         count = r .count;
         outgoing = out-holds (s .outgoing) (Held (Fault status)) (out-told (s .outgoing) Running out .0) (running-told (s .outgoing) out);
         held = r .incoming;
+      }
+
+  -- Put, in COLLECT: where what is held after the put keeps its rules.
+  pub put-sound : (p : Fragment) → s .state ≡ Collect → incomingSound (putInto (s .incoming) p) ≡ true → sound (putPlan s p .server) ≡ true
+  put-sound p state right = putting-sound s p (rules-told s kept .count) (out-in Collect state) right
+
+  -- Fack: where no more is acknowledged than the message has.
+  pub fack-sound : (count : ℕ) → count ≤ s .outgoing .count → sound (acknowledged s count) ≡ true
+  unfolding acknowledged withOutgoing hasNothing hasMessage acknowledgedTo
+  fack-sound count fits =
+      let r = rules-told s kept in
+      let told = out-told (s .outgoing) (s .state) (r .outgoing) in
+      let most = count-most (s .outgoing) (s .state) (r .outgoing) in
+      rules-hold (acknowledged s count)
+      (record {
+        count = r .count;
+        outgoing = out-holds _ (s .state) (acknowledged-bounded (s .outgoing) count (told .0) fits most) (told .1);
+        incoming = r .incoming;
+        timer = r .timer;
       })
-      free
 
-  -- Replay, by the state,
-  replay-kept : (state : State) → outgoingSound state (s .outgoing) ≡ true → sound (replayPlan state s .server) ≡ true
-  unfolding replayPlan replayHeld refused accepted
-  replay-kept (IdleState idle) out = kept
-  replay-kept Collect out = kept
-  replay-kept Running out = kept
-  replay-kept Replying out = kept
-  replay-kept (Held Data) out = rewinding-sound s (record { count = rules-told s kept .count; outgoing = out; held = rules-told s kept .incoming })
-  replay-kept (Held (Fault status)) out = kept
+-- Every row that is taken keeps the rules.
+pub row-sound : (s : Server) (h : Header) (row : Row) → Judged s h row → sound (stepOf row s h .server) ≡ true
+unfolding stepOf going
+row-sound s h (ReplyRow n) j = replied-sound s (j .kept) n (j .can .short)
+row-sound s h TransmitMore j = more-sound s (j .kept) (j .can)
+row-sound s h TransmitRepeatable j =
+    repeatable-sound (transmitted s) (Held Data) (unfold transmitted withOutgoing in sent-untimed s (j .kept) (j .can .row))
+row-sound s h TransmitHeld j =
+    holding-sound (transmitted s) Data (unfold transmitted withOutgoing in sent-untimed s (j .kept) (j .can .row))
+    (unfold transmitted withOutgoing in j .can .free)
+row-sound s h (FaultRepeatable status) j = repeatable-sound s (s .state) (untimed-told s (j .kept))
+row-sound s h (FaultHeld status) j = holding-sound s (Fault status) (fault-untimed s (j .kept) status (j .can .row)) (j .can .free)
+row-sound s h (ResendData resends) j =
+    rewinding-sound (withResends s resends)
+    (unfold withResends in untimed-in s (j .kept) (Held Data) resends (j .can .held) (omega (arith, j .can .count, j .can .below)))
+row-sound s h (ResendFault status resends) j =
+    holding-sound (withResends s resends) (Fault status)
+    (unfold withResends in untimed-in s (j .kept) (Held (Fault status)) resends (j .can .held) (omega (arith, j .can .count, j .can .below)))
+    (unfold withResends in j .can .free)
+row-sound s h Spend j = spent-sound s (j .kept)
+row-sound s h (Begin p) j =
+    put-sound (begun s h) (begun-sound s h) p (unfold begun in refl)
+    (unfold begun in stored-sound cleared (p .number) (p .length) (p .last) cleared-sound (j .can .short) (j .can .can))
+row-sound s h (Put p) j =
+    put-sound s (j .kept) p (j .can .collect)
+    (stored-sound (s .incoming) (p .number) (p .length) (p .last) (rules-told s (j .kept) .incoming) (j .can .short) (j .can .can))
+row-sound s h Working j = j .kept
+row-sound s h Nocall j = j .kept
+row-sound s h Rewind j =
+    rewinding-sound s
+    (record { count = rules-told s (j .kept) .count; outgoing = out-in s (j .kept) (Held Data) (j .can); held = rules-told s (j .kept) .incoming })
+row-sound s h (RepeatFault status) j = j .kept
+row-sound s h (Acknowledge count) j = fack-sound s (j .kept) count (j .can .fits)
+row-sound s h (HearCancel n) j = unfold heardPlan withSeen sound in j .kept
+row-sound s h (AcceptCancel n) j = j .kept
+row-sound s h (DeclineCancel n) j = j .kept
 
-  -- keeps the rules in every state.
-  pub replay-sound : sound (replayPlan (s .state) s .server) ≡ true
-  replay-sound = replay-kept (s .state) (rules-told s kept .outgoing)
+-- What is held after a row: after a begin and a put what they make, else what was held.
+abbrev pub heldAfter : Row → Incoming → Incoming
+heldAfter (ReplyRow n) m = m
+heldAfter TransmitMore m = m
+heldAfter TransmitRepeatable m = m
+heldAfter TransmitHeld m = m
+heldAfter (FaultRepeatable status) m = m
+heldAfter (FaultHeld status) m = m
+heldAfter (ResendData resends) m = m
+heldAfter (ResendFault status resends) m = m
+heldAfter Spend m = m
+heldAfter (Begin p) m = putInto cleared p
+heldAfter (Put p) m = putInto m p
+heldAfter Working m = m
+heldAfter Nocall m = m
+heldAfter Rewind m = m
+heldAfter (RepeatFault status) m = m
+heldAfter (Acknowledge count) m = m
+heldAfter (HearCancel n) m = m
+heldAfter (AcceptCancel n) m = m
+heldAfter (DeclineCancel n) m = m
 
-  -- RESEND below its limit, by what is held:
-  resend-sound : (reply : Reply) → outgoingSound (Held reply) (s .outgoing) ≡ true → s .resends < retryLimit
-      → (armsAgain (Held reply) true ≡ true → usedUp (s .tickets) ≡ false) → sound (resendHeld s reply .server) ≡ true
-  unfolding resendHeld accepted withResends armsAgain heldArmsAgain
-  resend-sound Data out few free =
-      rewinding-sound (withResends s (s .resends + 1))
-      (record { count = le-leb (s .resends + 1) retryLimit (omega arith); outgoing = out; held = rules-told s kept .incoming })
-  resend-sound (Fault status) out few free =
-      holding-sound (withResends s (s .resends + 1)) (Fault status)
-      (record { count = le-leb (s .resends + 1) retryLimit (omega arith); outgoing = out; held = rules-told s kept .incoming }) (free refl)
-
-  -- by its count,
-  limited-sound : (reply : Reply) → outgoingSound (Held reply) (s .outgoing) ≡ true
-      → (armsAgain (Held reply) (ltb (s .resends) retryLimit) ≡ true → usedUp (s .tickets) ≡ false) → sound (resendRow s reply .server) ≡ true
-  unfolding resendRow accepted choose
-  limited-sound reply out free = by-count (ltb (s .resends) retryLimit) refl free
-    where
-      by-count : (t : Bool) → ltb (s .resends) retryLimit ≡ t → (armsAgain (Held reply) t ≡ true → usedUp (s .tickets) ≡ false)
-          → sound (choose t (resendHeld s reply) (accepted (unarmed s (IdleState Spent)) Nothing) .server) ≡ true
-      by-count true e left = resend-sound reply out (ltb-true (s .resends) retryLimit e) left
-      by-count false e left = spent-sound s kept
-
-  -- by the state,
-  timer-kept : (state : State) → outgoingSound state (s .outgoing) ≡ true
-      → (armsAgain state (ltb (s .resends) retryLimit) ≡ true → usedUp (s .tickets) ≡ false) → sound (timerRow state s .server) ≡ true
-  unfolding timerRow refused
-  timer-kept (IdleState idle) out free = kept
-  timer-kept Collect out free = kept
-  timer-kept Running out free = kept
-  timer-kept Replying out free = kept
-  timer-kept (Held reply) out free = limited-sound reply out free
-
-  -- and so it keeps the rules, where a ticket is left for a fault that is sent again.
-  pub timer-sound : (armsAgain (s .state) (ltb (s .resends) retryLimit) ≡ true → usedUp (s .tickets) ≡ false) → sound (timerRow (s .state) s .server) ≡ true
-  timer-sound free = timer-kept (s .state) (rules-told s kept .outgoing) free
-
--- What is held stays: where a call is settled,
-pub settled-held : (again : Bool) (s : Server) (reply : Reply) → settled again s reply .incoming ≡ s .incoming
-unfolding settled holding unarmed choose
-settled-held true s reply = refl
-settled-held false s reply = refl
-
--- after a transmit,
-pub transmitted-held : (last : Bool) (s : Server) → transmitted last s .incoming ≡ s .incoming
-unfolding transmitted withOutgoing choose
-transmitted-held true s = settled-held (runsAgain (s .call .idempotent) (s .outgoing)) (withOutgoing s (afterSend (s .outgoing))) Data
-transmitted-held false s = refl
-
--- a replay
-pub replay-held : (state : State) (s : Server) → replayPlan state s .server .incoming ≡ s .incoming
-unfolding replayPlan replayHeld rewinding withOutgoing unarmed refused accepted
-replay-held (IdleState idle) s = refl
-replay-held Collect s = refl
-replay-held Running s = refl
-replay-held Replying s = refl
-replay-held (Held Data) s = refl
-replay-held (Held (Fault status)) s = refl
-
--- and RESEND, below its limit
-resend-held : (reply : Reply) (s : Server) → resendHeld s reply .server .incoming ≡ s .incoming
-unfolding resendHeld rewinding holding withResends withOutgoing unarmed accepted
-resend-held Data s = refl
-resend-held (Fault status) s = refl
-
--- and at it.
-pub timer-held : (state : State) (s : Server) → timerRow state s .server .incoming ≡ s .incoming
-unfolding timerRow resendRow unarmed refused accepted choose
-timer-held (IdleState idle) s = refl
-timer-held Collect s = refl
-timer-held Running s = refl
-timer-held Replying s = refl
-timer-held (Held reply) s = by-count (ltb (s .resends) retryLimit)
-  where
-    by-count : (t : Bool) → choose t (resendHeld s reply) (accepted (unarmed s (IdleState Spent)) Nothing) .server .incoming ≡ s .incoming
-    by-count true = resend-held reply s
-    by-count false = refl
+pub row-held : (s : Server) (h : Header) (row : Row) → stepOf row s h .server .incoming ≡ heldAfter row (s .incoming)
+unfolding stepOf going answered transmitted repeatable rewinding acknowledged heardPlan begun putPlan holding unarmed withOutgoing withIncoming withResends withSeen
+row-held s h (ReplyRow n) = refl
+row-held s h TransmitMore = refl
+row-held s h TransmitRepeatable = refl
+row-held s h TransmitHeld = refl
+row-held s h (FaultRepeatable status) = refl
+row-held s h (FaultHeld status) = refl
+row-held s h (ResendData resends) = refl
+row-held s h (ResendFault status resends) = refl
+row-held s h Spend = refl
+row-held s h (Begin p) = refl
+row-held s h (Put p) = refl
+row-held s h Working = refl
+row-held s h Nocall = refl
+row-held s h Rewind = refl
+row-held s h (RepeatFault status) = refl
+row-held s h (Acknowledge count) = refl
+row-held s h (HearCancel n) = refl
+row-held s h (AcceptCancel n) = refl
+row-held s h (DeclineCancel n) = refl

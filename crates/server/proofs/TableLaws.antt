@@ -1,24 +1,43 @@
--- What the order of an arriving PDU's number and its row tell.
-use Prim.Native.Nat.{ℕ, _<_}
-use mathlib.Core.Bool.{Bool, true, false, true≢false}
+-- What the order of an arriving PDU's number tells, and what a row tells of the PDU that it stands for.
+use Prim.Native.Nat.{ℕ, _<_, _≤_}
+use mathlib.Core.Bool.{Bool, true, false, true≢false, false≢true}
+use mathlib.Core.List.{List}
 use mathlib.Core.Logic.{_⊎_, inl, inr}
-use mathlib.Core.Path.{_≡_, refl, ap, subst, _∙_}
+use mathlib.Core.Path.{_≡_, refl, sym, ap, subst, _∙_}
 use native.Mathlib.Omega.{arith}
 use lib.Dec.{ltb, eqb}
-use borrow.Author.Tests.{ltb-true, eqb-true, lt-ltb, le-ltb, eq-eqb, ne-eqb}
+use borrow.Author.Tests.{ltb-true, ltb-false, eqb-true, lt-ltb, le-ltb, eq-eqb, ne-eqb}
 use Rattle.words.specs.Choice.{choose, either}
+use Rattle.words.proofs.Tests.{choose-false}
+use Rattle.answers.specs.declared.Refusal.{Refusal}
+use Rattle.answers.specs.declared.Refusal.the-variants.{OldCall, NoRow, Repeated}
+use Rattle.bodies.specs.Cancel.{cancelNumberIn}
+use Rattle.facks.specs.Mask.{acknowledgedBy}
+use Rattle.flags.specs.Flags.{idempotent, hasFlag}
+use Rattle.fragments.specs.declared.Fragment.{Fragment}
+use Rattle.incoming.specs.Slots.{cleared}
+use Rattle.pdu.specs.declared.Header.{Header}
+use Rattle.server.specs.declared.records.Idle.{Idle}
 use Rattle.server.specs.declared.records.Idle.the-variants.{Fresh, Spent, Repeatable}
+use Rattle.server.specs.declared.records.Reply.{Reply}
+use Rattle.server.specs.declared.records.Reply.the-variants.{Data, Fault}
 use Rattle.server.specs.declared.records.State.{State}
 use Rattle.server.specs.declared.records.State.the-variants.{Idle as IdleState, Collect, Running, Replying, Held}
-use Rattle.server.specs.records.States.{isIdle, isRunning, isHeld}
-use Rattle.server.proofs.StateLaws.{running-state}
-use Rattle.server.specs.declared.rows.Event.{Event}
-use Rattle.server.specs.declared.rows.Event.the-variants.{Request, Ping, Ack, Cancel, Fack, Foreign}
-use Rattle.server.specs.declared.rows.Order.{Order}
-use Rattle.server.specs.declared.rows.Order.the-variants.{Below, Equal, Newer}
-use Rattle.server.specs.declared.rows.Row.{Row}
-use Rattle.server.specs.declared.rows.Row.the-variants.{Old, Missing, Repeat, Begin, Put, Working, Nocall, Replay, Acknowledge, Finish, AcceptCancel, DeclineCancel}
-use Rattle.server.specs.rows.Table.{orderBy, orderOf, requestNewer, requestAgain, requestIdle, requestEqual, requestRow, pingEqual, pingRow, whereReplied, acknowledgementRow, finishRow, fackRow, ackRow, cancelEqual, cancelRow, rowOf}
+use Rattle.server.specs.declared.records.Server.{Server}
+use Rattle.server.specs.records.States.{isFresh, isIdle, isRunning, isHeld}
+use Rattle.server.specs.declared.judge.Order.{Order}
+use Rattle.server.specs.declared.judge.Order.the-variants.{Below, Equal, Newer}
+use Rattle.server.specs.declared.judge.Row.{Row}
+use Rattle.server.specs.declared.judge.Row.the-variants.{Reply as ReplyRow, TransmitMore, TransmitRepeatable, TransmitHeld, FaultRepeatable, FaultHeld, ResendData, ResendFault, Spend, Begin, Put, Working, Nocall, Rewind, RepeatFault, Acknowledge, HearCancel, AcceptCancel, DeclineCancel}
+use Rattle.server.specs.declared.judge.Verdict.{Verdict}
+use Rattle.server.specs.declared.judge.Verdict.the-variants.{Refuse, Go}
+use Rattle.server.specs.judge.Rows.{says, orderBy, orderOf, orderFor, replayRow, requestNewer, requestAgain, requestIdle, requestEqual, requestRow, pingEqual, pingRow, whereReplied, acknowledgementRow, ackRow, runningCancel, cancelEqual, cancelRow, requestPut, isForServer, arrivalRow}
+
+-- What is known of both ways of a choice, by its test, is known of it.
+pub choice-by : {A : Type 0} (P : A → Type 0) (t : Bool) (a b : A) → (t ≡ true → P a) → (t ≡ false → P b) → P (choose t a b)
+unfolding choose
+choice-by P true a b holds fails = holds refl
+choice-by P false a b holds fails = fails refl
 
 -- What an order tells of the two numbers.
 OrderTells : Bool → ℕ → ℕ → Order → Type 0
@@ -81,157 +100,202 @@ module _ (fresh : Bool) (mine theirs : ℕ) where
       ∙ ap (λ (t : Bool). orderBy t mine theirs) (le-ltb mine theirs (omega arith))
       ∙ ap (λ (t : Bool). choose t Equal Below) (ne-eqb mine theirs (λ same. omega arith))
 
--- What a row tells of the event, the order of the numbers, the state, the PDU's bit and the call's mark.
-RowTells : Event → Order → State → Bool → Bool → Row → Type 0
-RowTells event order state bit mark Old = Unit {0}
-RowTells event order state bit mark Missing = Unit {0}
-RowTells event order state bit mark Repeat = Unit {0}
-RowTells event order state bit mark Begin =
-    (event ≡ Request) × (((order ≡ Newer) × (isRunning state ≡ false)) ⊎ ((order ≡ Equal) × (state ≡ IdleState Repeatable) × (bit ≡ true)))
-RowTells event order state bit mark Put = (event ≡ Request) × (order ≡ Equal) × (state ≡ Collect)
-RowTells event order state bit mark Working = order ≡ Equal
-RowTells event order state bit mark Nocall = event ≡ Ping
-RowTells event order state bit mark Replay = (order ≡ Equal) × (isHeld state ≡ true)
-RowTells event order state bit mark Acknowledge = (event ≡ Fack) × (order ≡ Equal) × ((state ≡ Replying) ⊎ (isHeld state ≡ true))
-RowTells event order state bit mark Finish = (order ≡ Equal) × (mark ≡ false) × ((state ≡ Replying) ⊎ (isHeld state ≡ true))
-RowTells event order state bit mark AcceptCancel = (event ≡ Cancel) × (order ≡ Equal) × (isIdle state ≡ false) × (isRunning state ≡ true)
-RowTells event order state bit mark DeclineCancel = (event ≡ Cancel) × (order ≡ Equal) × (isIdle state ≡ false) × (isRunning state ≡ false)
+-- REPLYING or HELD.
+abbrev pub Replied : State → Type 0
+Replied state = (state ≡ Replying) ⊎ (isHeld state ≡ true)
 
--- The row of a request tells it,
-request-tells : (bit mark : Bool) (order : Order) (state : State) → RowTells Request order state bit mark (requestRow order state bit)
-unfolding RowTells requestRow requestEqual requestIdle requestAgain requestNewer isRunning isHeld choose
-request-tells bit mark Below state = tt
-request-tells bit mark Equal (IdleState Fresh) = tt
-request-tells bit mark Equal (IdleState Spent) = tt
-request-tells true mark Equal (IdleState Repeatable) = (refl, inr (refl, refl, refl))
-request-tells false mark Equal (IdleState Repeatable) = tt
-request-tells bit mark Equal Collect = (refl, refl, refl)
-request-tells bit mark Equal Running = refl
-request-tells bit mark Equal Replying = tt
-request-tells bit mark Equal (Held reply) = (refl, refl)
-request-tells bit mark Newer (IdleState idle) = (refl, inl (refl, refl))
-request-tells bit mark Newer Collect = (refl, inl (refl, refl))
-request-tells bit mark Newer Running = tt
-request-tells bit mark Newer Replying = (refl, inl (refl, refl))
-request-tells bit mark Newer (Held reply) = (refl, inl (refl, refl))
+-- A request or a ping.
+abbrev pub IsCall : ℕ → Type 0
+IsCall kind = (kind ≡ 0) ⊎ (kind ≡ 1)
 
--- so does that of a ping,
-ping-tells : (bit mark : Bool) (order : Order) (state : State) → RowTells Ping order state bit mark (pingRow order state)
-unfolding RowTells pingRow pingEqual isHeld
-ping-tells bit mark Below state = tt
-ping-tells bit mark Equal (IdleState idle) = refl
-ping-tells bit mark Equal Collect = refl
-ping-tells bit mark Equal Running = refl
-ping-tells bit mark Equal Replying = tt
-ping-tells bit mark Equal (Held reply) = (refl, refl)
-ping-tells bit mark Newer state = refl
+-- A request begins: a newer one, not in RUNNING, or an equal one with the bit set in IDLE repeatable.
+abbrev pub Begins : Server → Header → Type 0
+Begins s h =
+    ((orderFor s h ≡ Newer) × (isRunning (s .state) ≡ false))
+    ⊎ ((orderFor s h ≡ Equal) × (s .state ≡ IdleState Repeatable) × (hasFlag idempotent (h .flags1) ≡ true))
 
--- of an ack,
-ack-tells : (bit mark : Bool) (order : Order) (state : State) → RowTells Ack order state bit mark (ackRow order state mark)
-unfolding RowTells ackRow finishRow acknowledgementRow whereReplied isHeld choose
-ack-tells bit mark Below state = tt
-ack-tells bit mark Equal (IdleState idle) = tt
-ack-tells bit mark Equal Collect = tt
-ack-tells bit mark Equal Running = tt
-ack-tells bit true Equal Replying = tt
-ack-tells bit false Equal Replying = (refl, refl, inl refl)
-ack-tells bit true Equal (Held reply) = tt
-ack-tells bit false Equal (Held reply) = (refl, refl, inr refl)
-ack-tells bit mark Newer state = tt
+-- A ping finds no call: a newer one, or an equal one in IDLE or COLLECT.
+abbrev pub FindsNone : Server → Header → Type 0
+FindsNone s h = (orderFor s h ≡ Newer) ⊎ ((orderFor s h ≡ Equal) × ((isIdle (s .state) ≡ true) ⊎ (s .state ≡ Collect)))
 
--- of a cancel,
-cancel-tells : (bit mark : Bool) (order : Order) (state : State) → RowTells Cancel order state bit mark (cancelRow order state)
-unfolding RowTells cancelRow cancelEqual isIdle isRunning
-cancel-tells bit mark Below state = tt
-cancel-tells bit mark Equal (IdleState idle) = tt
-cancel-tells bit mark Equal Collect = (refl, refl, refl, refl)
-cancel-tells bit mark Equal Running = (refl, refl, refl, refl)
-cancel-tells bit mark Equal Replying = (refl, refl, refl, refl)
-cancel-tells bit mark Equal (Held reply) = (refl, refl, refl, refl)
-cancel-tells bit mark Newer state = tt
+-- What a row tells of the PDU that it stands for: its type, the order of its number, the state, and what the row carries. The
+-- rows of the stub and the timer stand for none.
+abbrev pub RowTells : Row → Server → Header → Bool → List ℕ → Type 0
+RowTells (ReplyRow n) s h little body = ⊥
+RowTells TransmitMore s h little body = ⊥
+RowTells TransmitRepeatable s h little body = ⊥
+RowTells TransmitHeld s h little body = ⊥
+RowTells (FaultRepeatable status) s h little body = ⊥
+RowTells (FaultHeld status) s h little body = ⊥
+RowTells (ResendData resends) s h little body = ⊥
+RowTells (ResendFault status resends) s h little body = ⊥
+RowTells Spend s h little body = (h .kind ≡ 7) × (orderFor s h ≡ Equal) × Replied (s .state) × (s .call .idempotent ≡ false)
+RowTells (Begin p) s h little body = (h .kind ≡ 0) × Begins s h × (p ≡ requestPut cleared h body)
+RowTells (Put p) s h little body =
+    (h .kind ≡ 0) × (orderFor s h ≡ Equal) × (s .state ≡ Collect) × (p ≡ requestPut (s .incoming) h body)
+RowTells Working s h little body = IsCall (h .kind) × (orderFor s h ≡ Equal) × (s .state ≡ Running)
+RowTells Nocall s h little body = (h .kind ≡ 1) × FindsNone s h
+RowTells Rewind s h little body = IsCall (h .kind) × (orderFor s h ≡ Equal) × (s .state ≡ Held Data)
+RowTells (RepeatFault status) s h little body = IsCall (h .kind) × (orderFor s h ≡ Equal) × (s .state ≡ Held (Fault status))
+RowTells (Acknowledge n) s h little body =
+    (h .kind ≡ 9) × (orderFor s h ≡ Equal) × Replied (s .state) × (n ≡ acknowledgedBy (h .fragment))
+RowTells (HearCancel n) s h little body =
+    (h .kind ≡ 8) × (orderFor s h ≡ Equal) × (s .state ≡ Running) × (n ≡ cancelNumberIn little body) × (s .seen < n)
+RowTells (AcceptCancel n) s h little body =
+    (h .kind ≡ 8) × (orderFor s h ≡ Equal) × (s .state ≡ Running) × (n ≡ cancelNumberIn little body) × (n ≤ s .seen)
+RowTells (DeclineCancel n) s h little body =
+    (h .kind ≡ 8) × (orderFor s h ≡ Equal) × (isIdle (s .state) ≡ false) × (isRunning (s .state) ≡ false)
+    × (n ≡ cancelNumberIn little body)
 
--- of a fack,
-fack-tells : (bit mark : Bool) (order : Order) (state : State) → RowTells Fack order state bit mark (fackRow order state)
-unfolding RowTells fackRow acknowledgementRow whereReplied isHeld
-fack-tells bit mark Below state = tt
-fack-tells bit mark Equal (IdleState idle) = tt
-fack-tells bit mark Equal Collect = tt
-fack-tells bit mark Equal Running = tt
-fack-tells bit mark Equal Replying = (refl, refl, inl refl)
-fack-tells bit mark Equal (Held reply) = (refl, refl, inr refl)
-fack-tells bit mark Newer state = tt
+-- The table says one of the refusals that may stand in a row's place: 13, 15 or 16, and 10 only of a type that is not taken.
+abbrev pub Stops : Header → Verdict → Type 0
+Stops h v =
+    (says OldCall v ≡ true) ⊎ ((says NoRow v ≡ true) ⊎ ((says Repeated v ≡ true) ⊎ (isForServer (h .kind) ≡ false)))
 
--- and so of every event.
-row-tells : (event : Event) (order : Order) (state : State) (bit mark : Bool) → RowTells event order state bit mark (rowOf event order state bit mark)
-unfolding RowTells rowOf
-row-tells Request order state bit mark = request-tells bit mark order state
-row-tells Ping order state bit mark = ping-tells bit mark order state
-row-tells Ack order state bit mark = ack-tells bit mark order state
-row-tells Cancel order state bit mark = cancel-tells bit mark order state
-row-tells Fack order state bit mark = fack-tells bit mark order state
-row-tells Foreign order state bit mark = tt
+abbrev Tells : Server → Header → Bool → List ℕ → Verdict → Type 0
+Tells s h little body (Refuse r) = Stops h (Refuse r)
+Tells s h little body (Go row) = RowTells row s h little body
 
--- A newer request begins but in RUNNING,
-pub newer-begins : (state : State) (bit mark : Bool) → isRunning state ≡ false → rowOf Request Newer state bit mark ≡ Begin
-unfolding rowOf requestRow requestNewer isRunning
-newer-begins (IdleState idle) bit mark e = refl
-newer-begins Collect bit mark e = refl
-newer-begins Running bit mark e = absurd (true≢false e)
-newer-begins Replying bit mark e = refl
-newer-begins (Held reply) bit mark e = refl
+-- What the table says of a PDU tells it.
+module _ (s : Server) (h : Header) (little : Bool) (body : List ℕ) where
+  -- A replay,
+  replay-tells : (reply : Reply) → IsCall (h .kind) → orderFor s h ≡ Equal → s .state ≡ Held reply
+      → RowTells (replayRow reply) s h little body
+  unfolding replayRow
+  replay-tells Data k o t = (k, o, t)
+  replay-tells (Fault status) k o t = (k, o, t)
 
--- and one of an equal number with the bit set does in IDLE repeatable.
-pub again-begins : (mark : Bool) → rowOf Request Equal (IdleState Repeatable) true mark ≡ Begin
-unfolding rowOf requestRow requestEqual requestIdle requestAgain choose
-again-begins mark = refl
+  -- a request: of a number equal to the record's, by its state,
+  request-again-tells : (bit : Bool) → h .kind ≡ 0 → orderFor s h ≡ Equal → s .state ≡ IdleState Repeatable
+      → hasFlag idempotent (h .flags1) ≡ bit → Tells s h little body (requestAgain bit (requestPut cleared h body))
+  unfolding requestAgain choose says
+  request-again-tells true k o t b = (k, inr (o, t, b), refl)
+  request-again-tells false k o t b = inl refl
 
-module _ (event : Event) (order : Order) (state : State) (bit mark : Bool) where
-  -- Begin: a newer request, not in RUNNING, or an equal one with the bit set in IDLE repeatable.
-  pub begin-told : rowOf event order state bit mark ≡ Begin
-      → (event ≡ Request) × (((order ≡ Newer) × (isRunning state ≡ false)) ⊎ ((order ≡ Equal) × (state ≡ IdleState Repeatable) × (bit ≡ true)))
-  unfolding RowTells
-  begin-told e = subst (RowTells event order state bit mark) e (row-tells event order state bit mark)
+  request-equal-tells : (state : State) → h .kind ≡ 0 → orderFor s h ≡ Equal → s .state ≡ state
+      → Tells s h little body
+      (requestEqual state (hasFlag idempotent (h .flags1)) (requestPut cleared h body) (requestPut (s .incoming) h body))
+  unfolding requestEqual requestIdle says
+  request-equal-tells (IdleState Fresh) k o t = inl refl
+  request-equal-tells (IdleState Spent) k o t = inl refl
+  request-equal-tells (IdleState Repeatable) k o t = request-again-tells (hasFlag idempotent (h .flags1)) k o t refl
+  request-equal-tells Collect k o t = (k, o, t, refl)
+  request-equal-tells Running k o t = (inl k, o, t)
+  request-equal-tells Replying k o t = inr (inr (inl refl))
+  request-equal-tells (Held reply) k o t = replay-tells reply (inl k) o t
 
-  -- Put: an equal request in COLLECT.
-  pub put-told : rowOf event order state bit mark ≡ Put → (event ≡ Request) × (order ≡ Equal) × (state ≡ Collect)
-  unfolding RowTells
-  put-told e = subst (RowTells event order state bit mark) e (row-tells event order state bit mark)
+  -- newer,
+  request-newer-tells : (state : State) → h .kind ≡ 0 → orderFor s h ≡ Newer → s .state ≡ state
+      → Tells s h little body (requestNewer state (requestPut cleared h body))
+  unfolding requestNewer says isRunning
+  request-newer-tells (IdleState idle) k o t = (k, inl (o, ap isRunning t), refl)
+  request-newer-tells Collect k o t = (k, inl (o, ap isRunning t), refl)
+  request-newer-tells Running k o t = inr (inl refl)
+  request-newer-tells Replying k o t = (k, inl (o, ap isRunning t), refl)
+  request-newer-tells (Held reply) k o t = (k, inl (o, ap isRunning t), refl)
 
-  -- Working: an equal number.
-  pub working-told : rowOf event order state bit mark ≡ Working → order ≡ Equal
-  unfolding RowTells
-  working-told e = subst (RowTells event order state bit mark) e (row-tells event order state bit mark)
+  -- or any;
+  request-tells : (order : Order) → h .kind ≡ 0 → orderFor s h ≡ order
+      → Tells s h little body
+      (requestRow order (s .state) (hasFlag idempotent (h .flags1)) (requestPut cleared h body) (requestPut (s .incoming) h body))
+  unfolding requestRow says
+  request-tells Below k o = inl refl
+  request-tells Equal k o = request-equal-tells (s .state) k o refl
+  request-tells Newer k o = request-newer-tells (s .state) k o refl
 
-  -- Nocall: a ping.
-  pub nocall-told : rowOf event order state bit mark ≡ Nocall → event ≡ Ping
-  unfolding RowTells
-  nocall-told e = subst (RowTells event order state bit mark) e (row-tells event order state bit mark)
+  -- a ping,
+  ping-equal-tells : (state : State) → h .kind ≡ 1 → orderFor s h ≡ Equal → s .state ≡ state → Tells s h little body (pingEqual state)
+  unfolding pingEqual says isIdle
+  ping-equal-tells (IdleState idle) k o t = (k, inr (o, inl (ap isIdle t)))
+  ping-equal-tells Collect k o t = (k, inr (o, inr t))
+  ping-equal-tells Running k o t = (inr k, o, t)
+  ping-equal-tells Replying k o t = inr (inr (inl refl))
+  ping-equal-tells (Held reply) k o t = replay-tells reply (inr k) o t
 
-  -- Replay: an equal number in HELD.
-  pub replay-told : rowOf event order state bit mark ≡ Replay → (order ≡ Equal) × (isHeld state ≡ true)
-  unfolding RowTells
-  replay-told e = subst (RowTells event order state bit mark) e (row-tells event order state bit mark)
+  ping-tells : (order : Order) → h .kind ≡ 1 → orderFor s h ≡ order → Tells s h little body (pingRow order (s .state))
+  unfolding pingRow says
+  ping-tells Below k o = inl refl
+  ping-tells Equal k o = ping-equal-tells (s .state) k o refl
+  ping-tells Newer k o = (k, inl o)
 
-  -- Acknowledge: an equal fack in REPLYING or HELD.
-  pub acknowledge-told : rowOf event order state bit mark ≡ Acknowledge
-      → (event ≡ Fack) × (order ≡ Equal) × ((state ≡ Replying) ⊎ (isHeld state ≡ true))
-  unfolding RowTells
-  acknowledge-told e = subst (RowTells event order state bit mark) e (row-tells event order state bit mark)
+  -- what stands in REPLYING and HELD alone,
+  replied-tells : (v : Verdict) (state : State) → s .state ≡ state → (Replied (s .state) → Tells s h little body v)
+      → Tells s h little body (whereReplied state v)
+  unfolding whereReplied says isHeld
+  replied-tells v (IdleState idle) t told = inr (inl refl)
+  replied-tells v Collect t told = inr (inl refl)
+  replied-tells v Running t told = inr (inl refl)
+  replied-tells v Replying t told = told (inl t)
+  replied-tells v (Held reply) t told = told (inr (ap isHeld t))
 
-  -- Finish: an equal number in REPLYING or HELD, of a call that is not idempotent.
-  pub finish-told : rowOf event order state bit mark ≡ Finish → (order ≡ Equal) × (mark ≡ false) × ((state ≡ Replying) ⊎ (isHeld state ≡ true))
-  unfolding RowTells
-  finish-told e = subst (RowTells event order state bit mark) e (row-tells event order state bit mark)
+  acknowledgement-tells : (v : Verdict) (order : Order) → orderFor s h ≡ order
+      → (orderFor s h ≡ Equal → Replied (s .state) → Tells s h little body v)
+      → Tells s h little body (acknowledgementRow order (s .state) v)
+  unfolding acknowledgementRow says
+  acknowledgement-tells v Below o told = inl refl
+  acknowledgement-tells v Equal o told = replied-tells v (s .state) refl (told o)
+  acknowledgement-tells v Newer o told = inr (inl refl)
 
-  -- A cancel is accepted: one of an equal number, in RUNNING.
-  pub accept-told : rowOf event order state bit mark ≡ AcceptCancel → (event ≡ Cancel) × (order ≡ Equal) × (state ≡ Running)
-  unfolding RowTells
-  accept-told e =
-      let told = subst (RowTells event order state bit mark) e (row-tells event order state bit mark) in
-      (told .0, told .1, running-state state (told .3))
+  -- of these an ack
+  ack-tells : (mark : Bool) → h .kind ≡ 7 → s .call .idempotent ≡ mark → orderFor s h ≡ Equal → Replied (s .state)
+      → Tells s h little body (ackRow mark)
+  unfolding ackRow says choose
+  ack-tells true k m o replied = inr (inl refl)
+  ack-tells false k m o replied = (k, o, replied, m)
 
-  -- A cancel is declined: one of an equal number, in COLLECT, REPLYING or HELD.
-  pub decline-told : rowOf event order state bit mark ≡ DeclineCancel
-      → (event ≡ Cancel) × (order ≡ Equal) × (isIdle state ≡ false) × (isRunning state ≡ false)
-  unfolding RowTells
-  decline-told e = subst (RowTells event order state bit mark) e (row-tells event order state bit mark)
+  -- and a fack,
+  fack-tells : h .kind ≡ 9 → orderFor s h ≡ Equal → Replied (s .state)
+      → Tells s h little body (Go (Acknowledge (acknowledgedBy (h .fragment))))
+  fack-tells k o replied = (k, o, replied, refl)
+
+  -- and a cancel,
+  running-cancel-tells : (above : Bool) → h .kind ≡ 8 → orderFor s h ≡ Equal → s .state ≡ Running
+      → ltb (s .seen) (cancelNumberIn little body) ≡ above
+      → RowTells (choose above (HearCancel (cancelNumberIn little body)) (AcceptCancel (cancelNumberIn little body))) s h little body
+  unfolding choose
+  running-cancel-tells true k o t seen = (k, o, t, refl, ltb-true (s .seen) (cancelNumberIn little body) seen)
+  running-cancel-tells false k o t seen = (k, o, t, refl, ltb-false (s .seen) (cancelNumberIn little body) seen)
+
+  cancel-equal-tells : (state : State) → h .kind ≡ 8 → orderFor s h ≡ Equal → s .state ≡ state
+      → Tells s h little body (cancelEqual state (s .seen) (cancelNumberIn little body))
+  unfolding cancelEqual runningCancel says isIdle isRunning
+  cancel-equal-tells (IdleState idle) k o t = inr (inl refl)
+  cancel-equal-tells Collect k o t = (k, o, ap isIdle t, ap isRunning t, refl)
+  cancel-equal-tells Running k o t = running-cancel-tells (ltb (s .seen) (cancelNumberIn little body)) k o t refl
+  cancel-equal-tells Replying k o t = (k, o, ap isIdle t, ap isRunning t, refl)
+  cancel-equal-tells (Held reply) k o t = (k, o, ap isIdle t, ap isRunning t, refl)
+
+  cancel-tells : (order : Order) → h .kind ≡ 8 → orderFor s h ≡ order
+      → Tells s h little body (cancelRow order (s .state) (s .seen) (cancelNumberIn little body))
+  unfolding cancelRow says
+  cancel-tells Below k o = inl refl
+  cancel-tells Equal k o = cancel-equal-tells (s .state) k o refl
+  cancel-tells Newer k o = inr (inl refl)
+
+  -- and so of every type.
+  arrival-tells : Tells s h little body (arrivalRow s h little body)
+  unfolding arrivalRow isForServer either
+  arrival-tells =
+      choice-by (Tells s h little body) (eqb (h .kind) 0) _ _ (λ e. request-tells (orderFor s h) (eqb-true (h .kind) 0 e) refl) (λ other-0.
+      choice-by (Tells s h little body) (eqb (h .kind) 1) _ _ (λ e. ping-tells (orderFor s h) (eqb-true (h .kind) 1 e) refl) (λ other-1.
+      choice-by (Tells s h little body) (eqb (h .kind) 7) _ _
+      (λ e.
+      acknowledgement-tells (ackRow (s .call .idempotent)) (orderFor s h) refl
+      (ack-tells (s .call .idempotent) (eqb-true (h .kind) 7 e) refl))
+      (λ other-7.
+      choice-by (Tells s h little body) (eqb (h .kind) 8) _ _ (λ e. cancel-tells (orderFor s h) (eqb-true (h .kind) 8 e) refl) (λ other-8.
+      choice-by (Tells s h little body) (eqb (h .kind) 9) _ _
+      (λ e.
+      acknowledgement-tells (Go (Acknowledge (acknowledgedBy (h .fragment)))) (orderFor s h) refl
+      (fack-tells (eqb-true (h .kind) 9 e)))
+      (λ other-9.
+      inr (inr (inr
+      (choose-false _ _ _ other-0 ∙ choose-false _ _ _ other-1 ∙ choose-false _ _ _ other-7 ∙ choose-false _ _ _ other-8 ∙ other-9))))))))
+
+  -- So a row tells of its PDU,
+  pub row-tells : (row : Row) → arrivalRow s h little body ≡ Go row → RowTells row s h little body
+  row-tells row is = subst (Tells s h little body) is arrival-tells
+
+  -- and where the table has none, one of its refusals stands there.
+  pub table-stops : (r : Refusal) → arrivalRow s h little body ≡ Refuse r → Stops h (Refuse r)
+  table-stops r is = subst (Tells s h little body) is arrival-tells
