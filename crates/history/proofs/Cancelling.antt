@@ -13,8 +13,9 @@ use Rattle.client.specs.declared.records.State.the-variants.{Queued, SendFrags,
 use Rattle.client.specs.declared.records.Client.{Client}
 use Rattle.client.specs.records.States.{isQueued, isActive}
 use Rattle.client.proofs.StateLaws.{active-state}
+use Rattle.client.specs.judge.Rows.{cancelRow}
 use Rattle.client.specs.Machine.{cancelling}
-use Rattle.client.proofs.Judging.{cancel-passes}
+use Rattle.client.proofs.Judging.{Judged, cancel-taken}
 use Rattle.client.proofs.Accepting.{cancel-accepted}
 use Rattle.client.proofs.Exact.{cancel-number}
 use Rattle.client.proofs.Cancels.{Stays, AnswersLast, start-stays, transmit-stays, timer-stays, cancel-stays, arrive-stays}
@@ -92,14 +93,17 @@ pub cancel-counts : (w : World) (out : List ℕ) → Inv w → CancelsInv (w .cl
     → let r = cancelling (w .client .machine) out in
     CancelsInv (r .outcome .client) (w .books .starts)
     (cancelledAfter (w .books .cancels) (clientTurnOf (r .outcome) (r .out) (w .client .slots)) (lastStart (w .books .starts)))
+unfolding cancelRow
 cancel-counts w out inv cancels done =
     let c = w .client .machine in
     let r = cancelling c out in
-    let j = cancel-passes c (length out) (cancel-accepted c out done) in
-    let some = some-start w inv (active-state (c .state) (j .row)) in
+    let taken = cancel-accepted c out done in
+    let known = cancel-taken c (length out) (taken .row) (taken .is) in
+    let j : Judged c (cancelRow c) = subst (Judged c) (known .is) (known .judged) in
+    let some = some-start w inv (active-state (c .state) (j .can .row)) in
     let small = cancels .small some in
     let raised = cancel-number c out small done in
-    let left = j .numbered in
+    let left = j .can .numbered in
     subst (λ (l : List Cancelled). CancelsInv (r .outcome .client) (w .books .starts) l)
     (sym (cancelled-more (w .books .cancels) (r .outcome) (r .out) (w .client .slots) (lastStart (w .books .starts)) done))
     (cancels-cancelled c (r .outcome .client) (w .books .starts) (w .books .cancels) some raised (omega (arith, left)) cancels)

@@ -154,7 +154,27 @@ module _ (w : World) (inv : Inv w) (o : ℕ) (h : Header) (little : Bool) (body 
       from .is
       ∙ sym (equal-start o (lastStart (w .books .starts)) (lastStart (w .books .starts)) (omega arith) (omega arith) (sym number ∙ mine ∙ from .number))
 
-  -- A response is put,
+  -- A response that is put is a fragment of the reply held,
+  put-held : (p : Fragment) → p ≡ putOf (w .client .machine .incoming) (h .flags1) (h .serial) (h .fragment) (bodyLength body) → h .kind ≡ 2
+      → CanPut (w .client .machine .incoming) (p .number) (p .last) → isQueued (w .client .machine .state) ≡ false
+      → ClientHolds (lastStart (w .books .starts)) (putInto (w .client .machine .incoming) p) (filled (p .number) body (w .client .slots)) (w .books .replies)
+  unfolding putOf
+  put-held p is kind can begun =
+      let c = w .client .machine in
+      let from = known kind in
+      subst
+      (λ (x : Fragment).
+      CanPut (c .incoming) (x .number) (x .last)
+      → ClientHolds (lastStart (w .books .starts)) (putInto (c .incoming) x) (filled (x .number) body (w .client .slots)) (w .books .replies))
+      (sym is)
+      (λ (able : CanPut (c .incoming) (h .fragment) (isLast (h .flags1))).
+      rw (body-length body short)
+      (put-holds (lastStart (w .books .starts)) (c .incoming) (w .client .slots) (w .books .replies) (h .flags1) (h .fragment) body
+      (rules-told c (inv .client .kept) .incoming) whole (inv .calls .alike) (from .reply) (from .given) (own from begun) (from .part)
+      able (inv .client .holds begun)))
+      can
+
+  -- and what is known of the client stays known,
   response-inv : (p : Fragment) → p ≡ putOf (w .client .machine .incoming) (h .flags1) (h .serial) (h .fragment) (bodyLength body) → h .kind ≡ 2
       → Judged (w .client .machine) (ResponseRow p)
       → ClientInv (responsePlan (w .client .machine) p .client) (filled (p .number) body (w .client .slots)) (w .books .starts) (w .books .replies)
@@ -175,33 +195,13 @@ module _ (w : World) (inv : Inv w) (o : ℕ) (h : Header) (little : Bool) (body 
             (inv .client .current begun);
         whole = λ q. sym (j .can .complete) ∙ put-ends (p .complete) (c .call .idempotent) c m q;
         unasked = λ e. absurd (false≢true (sym (put-started (p .complete) (c .call .idempotent) c m) ∙ e));
-        holds = λ q. put-held p is (j .can .can) begun;
+        holds = λ q. put-held p is kind (j .can .can) begun;
       }
-    where
-      put-held : (p : Fragment) → p ≡ putOf (w .client .machine .incoming) (h .flags1) (h .serial) (h .fragment) (bodyLength body)
-          → CanPut (w .client .machine .incoming) (p .number) (p .last) → isQueued (w .client .machine .state) ≡ false
-          → ClientHolds (lastStart (w .books .starts)) (putInto (w .client .machine .incoming) p) (filled (p .number) body (w .client .slots)) (w .books .replies)
-      unfolding putOf
-      put-held p is can begun =
-          let c = w .client .machine in
-          let from = known kind in
-          subst
-          (λ (x : Fragment).
-          CanPut (c .incoming) (x .number) (x .last)
-          → ClientHolds (lastStart (w .books .starts)) (putInto (c .incoming) x) (filled (x .number) body (w .client .slots)) (w .books .replies))
-          (sym is)
-          (λ (able : CanPut (c .incoming) (h .fragment) (isLast (h .flags1))).
-          rw (body-length body short)
-          (put-holds (lastStart (w .books .starts)) (c .incoming) (w .client .slots) (w .books .replies) (h .flags1) (h .fragment) body
-          (rules-told c (inv .client .kept) .incoming) whole (inv .calls .alike) (from .reply) (from .given) (own from begun) (from .part)
-          able (inv .client .holds begun)))
-          can
-
   other : (row : Row) → Judged (w .client .machine) row → puts row ≡ false
       → ClientInv (stepOf row (w .client .machine) .client) (w .client .slots) (w .books .starts) (w .books .replies)
   other row j none = kept-on w inv row j none
 
-  -- and every other row goes on with the call.
+  -- as it does at every other row, which goes on with the call.
   arrival-inv : (row : Row) → Arrives row (w .client .machine) h little body → Judged (w .client .machine) row
       → ClientInv (stepOf row (w .client .machine) .client) (storing (stepOf row (w .client .machine) .store) body (w .client .slots))
       (w .books .starts) (w .books .replies)

@@ -16,10 +16,9 @@ use Rattle.calls.specs.declared.Sent.the-variants.{Nothing}
 use Rattle.timers.specs.declared.Timer.{Timer}
 use Rattle.timers.specs.declared.Timer.the-variants.{Off, Armed}
 use Rattle.timers.specs.Tickets.{armedWith}
-use Rattle.grounds.specs.Order.{refuseIf, groundOf}
-use Rattle.grounds.proofs.PassLaws.{answer-passes}
+use Rattle.answers.proofs.NumberLaws.{zero-done}
 use Rattle.client.specs.declared.records.TimerKind.the-variants.{Wait, Ack, Cancel}
-use Rattle.client.proofs.Judging.{timer-passes as client-timer-passes}
+use Rattle.client.proofs.Judging.{timer-taken as client-timer-taken}
 use Rattle.client.proofs.Accepting.{timer-accepted as client-timer-accepted}
 use Rattle.client.proofs.Refusals.{StepUntouched as ClientStepUntouched, start-refused, transmit-refused as client-transmit-refused, timer-refused as client-timer-refused, cancel-refused, arrive-refused as client-arrive-refused}
 use Rattle.calls.specs.Events.{Step}
@@ -28,7 +27,7 @@ use Rattle.client.specs.records.Arming.{namedTimer}
 use Rattle.client.specs.declared.Outcome.{Outcome as ClientOutcome}
 use Rattle.server.specs.declared.records.Server.{Server}
 use Rattle.server.specs.declared.Outcome.{Outcome as ServerOutcome}
-use Rattle.server.proofs.Judging.{timer-passes as server-timer-passes}
+use Rattle.server.proofs.Judging.{timer-taken as server-timer-taken}
 use Rattle.server.proofs.Accepting.{timer-accepted as server-timer-accepted}
 use Rattle.server.proofs.Refusals.{StepUntouched as ServerStepUntouched, reply-refused, transmit-refused as server-transmit-refused, fault-refused, timer-refused as server-timer-refused, arrive-refused as server-arrive-refused}
 use Rattle.history.specs.World.{Started, Cancelled, Side, Books, World}
@@ -39,11 +38,10 @@ use Rattle.history.specs.Timers.{TimerOf, OnClient, OnServer, timerIn, t
 
 -- An answer that is not Done is not 0.
 not-zero : (a : Answer) → (a ≡ Done → ⊥) → isDone a ≡ false
-unfolding groundOf refuseIf choose
 not-zero a other = by-number (eqb (numberOf a) 0) refl
   where
     by-number : (t : Bool) → eqb (numberOf a) 0 ≡ t → t ≡ false
-    by-number true e = absurd (other (answer-passes a (unfold groundOf refuseIf choose in rw e)))
+    by-number true e = absurd (other (zero-done a (eqb-true (numberOf a) 0 e)))
     by-number false e = refl
 
 -- The buffer of a side after an event that left the bytes lent as they were.
@@ -216,19 +214,25 @@ unfolding armedWith
 armed-is Off ticket e = absurd (false≢true e)
 armed-is (Armed held) ticket e = ap Armed (eqb-true held ticket e)
 
--- A timer event that is answered 0 has the armed ticket,
+-- A client's timer event that is answered 0 has the ticket of its timer,
+client-armed : (w : World) (kind : TimerKind) (ticket : ℕ) (out : List ℕ) → timing (w .client .machine) kind ticket out .outcome .answer ≡ Done
+    → armedWith (namedTimer kind (w .client .machine .wait) (w .client .machine .ack) (w .client .machine .cancel)) ticket ≡ true
+client-armed w kind ticket out done =
+    let c = w .client .machine in
+    let taken = client-timer-accepted c kind ticket out done in
+    client-timer-taken c kind ticket (length out) (taken .row) (taken .is) .armed
+
+-- so a timer event that is answered 0 has the armed ticket,
 pub acted-armed : (w : World) (timer : TimerOf) (ticket : ℕ) (out : List ℕ) → answerTo w (timerEvent timer ticket out) ≡ Done
     → timerIn w timer ≡ Armed ticket
 unfolding answerTo happens timerEvent timerIn namedTimer
-acted-armed w (OnClient Wait) ticket out done =
-    armed-is (w .client .machine .wait) ticket (client-timer-passes (w .client .machine) Wait ticket _ (client-timer-accepted (w .client .machine) Wait ticket out done) .armed)
-acted-armed w (OnClient Ack) ticket out done =
-    armed-is (w .client .machine .ack) ticket (client-timer-passes (w .client .machine) Ack ticket _ (client-timer-accepted (w .client .machine) Ack ticket out done) .armed)
-acted-armed w (OnClient Cancel) ticket out done =
-    armed-is (w .client .machine .cancel) ticket
-    (client-timer-passes (w .client .machine) Cancel ticket _ (client-timer-accepted (w .client .machine) Cancel ticket out done) .armed)
+acted-armed w (OnClient Wait) ticket out done = armed-is (w .client .machine .wait) ticket (client-armed w Wait ticket out done)
+acted-armed w (OnClient Ack) ticket out done = armed-is (w .client .machine .ack) ticket (client-armed w Ack ticket out done)
+acted-armed w (OnClient Cancel) ticket out done = armed-is (w .client .machine .cancel) ticket (client-armed w Cancel ticket out done)
 acted-armed w OnServer ticket out done =
-    armed-is (w .server .machine .resend) ticket (server-timer-passes (w .server .machine) ticket _ (server-timer-accepted (w .server .machine) ticket out done) .armed)
+    let s = w .server .machine in
+    let taken = server-timer-accepted s ticket out done in
+    armed-is (s .resend) ticket (server-timer-taken s ticket (length out) (taken .row) (taken .is) .armed)
 
 -- and a refused one tells nothing
 timer-untold : (w : World) (timer : TimerOf) (ticket : ℕ) (out : List ℕ) → (answerTo w (timerEvent timer ticket out) ≡ Done → ⊥)

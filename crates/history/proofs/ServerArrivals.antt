@@ -47,7 +47,7 @@ use Rattle.server.proofs.TableLaws.{newer-told, equal-told, Begins as RowBegins
 use Rattle.server.proofs.Judging.{Judged}
 use Rattle.server.proofs.Arriving.{arrive-taken}
 use Rattle.server.proofs.Accepting.{arrive-accepted}
-use Rattle.server.proofs.Keeping.{row-sound}
+use Rattle.server.proofs.StepLaws.{row-sound}
 use Rattle.history.specs.Lists.{In}
 use Rattle.history.specs.World.{callNumber, SentPdu, World}
 use Rattle.history.specs.Steps.{lastStart, standingAfter, Subject, ofArrival}

@@ -5,17 +5,16 @@ use mathlib.Core.List.{List, []}
 use mathlib.Core.Logic.{_⊎_, inl, inr}
 use mathlib.Core.Path.{_≡_, refl, sym, ap, subst, _∙_}
 use native.Mathlib.Omega.{arith}
-use lib.Dec.{ltb}
 use lib.ListN.{length}
 use Rattle.words.specs.Choice.{choose}
-use Rattle.words.specs.Sizes.{pduSize, retryLimit}
+use Rattle.words.specs.Sizes.{pduSize}
+use Rattle.answers.specs.declared.Refusal.the-variants.{NoRow}
 use Rattle.answers.specs.declared.Answer.the-variants.{Done}
 use Rattle.outgoing.proofs.OutgoingLaws.{fragment-most}
 use Rattle.outgoing.specs.Message.{fragmentOf}
 use Rattle.outgoing.specs.declared.Outgoing.{Outgoing}
 use Rattle.outgoing.specs.Sending.{nextSerial, afterSend, sendsLast, replied, messageOf}
 use Rattle.pdu.specs.Header.{blank}
-use Rattle.server.specs.declared.records.Reply.{Reply as HeldReply}
 use Rattle.server.specs.declared.records.Reply.the-variants.{Data, Fault}
 use Rattle.server.specs.declared.records.State.{State}
 use Rattle.server.specs.declared.records.State.the-variants.{Running, Replying, Held}
@@ -30,14 +29,14 @@ use Rattle.server.specs.records.States.{isFresh, isReplying}
 use Rattle.server.specs.records.Rules.{sound}
 use Rattle.server.specs.records.Record.{holding, unarmed, withOutgoing, withResends}
 use Rattle.server.specs.records.Arming.{runsAgain}
-use Rattle.server.specs.judge.Rows.{transmitRow, faultRow, resendHeld, resendRow}
+use Rattle.server.specs.judge.Rows.{transmitRow, faultRow, timerRow}
 use Rattle.server.specs.step.Plan.{going}
 use Rattle.server.specs.step.Steps.{answered, transmitted, repeatable, rewinding, stepOf}
 use Rattle.server.specs.Machine.{done, replyBy, replying, sending, stepBy, transmitting, timing, faulting}
-use Rattle.server.proofs.StateLaws.{running-state, replying-state}
-use Rattle.server.proofs.Judging.{CanTake, CanReply, Judged, reply-taken, transmit-taken, fault-taken, timer-taken}
+use Rattle.server.proofs.StateLaws.{running-state, replying-state, held-state}
+use Rattle.server.proofs.Judging.{CanReply, Judged, refusal-no-row, same-row, reply-taken, transmit-taken, fault-taken, timer-rows, timer-taken}
 use Rattle.server.proofs.Accepting.{reply-accepted, transmit-accepted, fault-accepted, timer-accepted}
-use Rattle.server.proofs.Keeping.{row-sound}
+use Rattle.server.proofs.StepLaws.{row-sound}
 use Rattle.history.specs.Lists.{In, andThen}
 use Rattle.history.specs.Dispatches.{DispatchOf}
 use Rattle.history.specs.World.{Replied, World}
@@ -154,6 +153,23 @@ server-transmit-inv w message out inv told lent =
     (subst (Judged s blank) (known .is) (known .judged)))
 
 -- Fault: the call is repeatable, or the fault is held.
+fault-rows-inv : (w : World) → Inv w → (status : ℕ) (out : List ℕ) → length out ≡ pduSize → (t : Bool)
+    → Judged (w .server .machine) blank (choose t (FaultRepeatable status) (FaultHeld status))
+    → Inv
+    (serverStep w (stepBy (Go (choose t (FaultRepeatable status) (FaultHeld status))) (w .server .machine) [] out .outcome)
+    (stepBy (Go (choose t (FaultRepeatable status) (FaultHeld status))) (w .server .machine) [] out .out) (w .server .slots) (ofRecord w))
+unfolding choose stepOf going isFresh
+fault-rows-inv w inv status out room true j =
+    let s = w .server .machine in
+    let state = running-state (s .state) (j .can .row) in
+    quiet-inv w inv (FaultRepeatable status) j out room (ap isFresh state)
+    (repeatable-goes-on s s (w .books .standing) (w .books .replies) refl refl refl refl refl refl (inv .server .single (ap unanswered state))) refl refl
+fault-rows-inv w inv status out room false j =
+    let s = w .server .machine in
+    let state = running-state (s .state) (j .can .row) in
+    quiet-inv w inv (FaultHeld status) j out room (ap isFresh state)
+    (holding-goes-on s s (Fault status) (w .books .standing) (w .books .replies) refl refl refl refl refl refl (λ e. absurd (false≢true e))) refl refl
+
 pub server-fault-inv : (w : World) (status : ℕ) (out : List ℕ) → Inv w → faulting (w .server .machine) status out .outcome .answer ≡ Done
     → Inv (serverStep w (faulting (w .server .machine) status out .outcome) (faulting (w .server .machine) status out .out) (w .server .slots) (ofRecord w))
 unfolding faulting faultRow
@@ -163,59 +179,51 @@ server-fault-inv w status out inv told =
     let known = fault-taken s status (length out) (taken .row) (taken .is) in
     subst (λ (v : Verdict). Inv (serverStep w (stepBy v s [] out .outcome) (stepBy v s [] out .out) (w .server .slots) (ofRecord w)))
     (sym (taken .is ∙ ap Go (known .is)))
-    (by-mark (s .call .idempotent) (known .buffer) (subst (Judged s blank) (known .is) (known .judged)))
-  where
-    by-mark : (t : Bool) → length out ≡ pduSize → Judged (w .server .machine) blank (choose t (FaultRepeatable status) (FaultHeld status))
-        → Inv
-        (serverStep w (stepBy (Go (choose t (FaultRepeatable status) (FaultHeld status))) (w .server .machine) [] out .outcome)
-        (stepBy (Go (choose t (FaultRepeatable status) (FaultHeld status))) (w .server .machine) [] out .out) (w .server .slots) (ofRecord w))
-    unfolding choose stepOf going isFresh
-    by-mark true room j =
-        let s = w .server .machine in
-        let state = running-state (s .state) (j .can .row) in
-        quiet-inv w inv (FaultRepeatable status) j out room (ap isFresh state)
-        (repeatable-goes-on s s (w .books .standing) (w .books .replies) refl refl refl refl refl refl (inv .server .single (ap unanswered state))) refl refl
-    by-mark false room j =
-        let s = w .server .machine in
-        let state = running-state (s .state) (j .can .row) in
-        quiet-inv w inv (FaultHeld status) j out room (ap isFresh state)
-        (holding-goes-on s s (Fault status) (w .books .standing) (w .books .replies) refl refl refl refl refl refl (λ e. absurd (false≢true e))) refl refl
+    (fault-rows-inv w inv status out (known .buffer) (s .call .idempotent) (subst (Judged s blank) (known .is) (known .judged)))
 
 -- The RESEND timer: what is held goes out again, or at the limit the call is spent.
 module _ (w : World) (inv : Inv w) (out : List ℕ) (room : length out ≡ pduSize) where
-  resends : (reply : HeldReply) → w .server .machine .state ≡ Held reply → (t : Bool) (n : ℕ)
-      → Judged (w .server .machine) blank (choose t (resendHeld reply n) Spend)
-      → Inv
-      (serverStep w (stepBy (Go (choose t (resendHeld reply n) Spend)) (w .server .machine) [] out .outcome)
-      (stepBy (Go (choose t (resendHeld reply n) Spend)) (w .server .machine) [] out .out) (w .server .slots) (ofRecord w))
-  unfolding choose resendHeld stepOf going isFresh withResends
-  resends reply held false n j =
-      quiet-inv w inv Spend j out room (ap isFresh held) (spent-goes-on (w .server .machine) (w .books .standing) (w .books .replies)) refl refl
-  resends Data held true n j =
-      let s = w .server .machine in
-      quiet-inv w inv (ResendData n) j out room (ap isFresh held)
-      (rewinding-goes-on s (withResends s n) (w .books .standing) (w .books .replies) refl refl refl refl refl refl (inv .server .replying (ap hasData held)))
-      refl refl
-  resends (Fault status) held true n j =
-      let s = w .server .machine in
-      quiet-inv w inv (ResendFault status n) j out room (ap isFresh held)
-      (holding-goes-on s (withResends s n) (Fault status) (w .books .standing) (w .books .replies) refl refl refl refl refl refl (λ e. absurd (false≢true e)))
-      refl refl
+  abbrev AfterTimer : Verdict → Type 0
+  AfterTimer v =
+      Inv (serverStep w (stepBy v (w .server .machine) [] out .outcome) (stepBy v (w .server .machine) [] out .out) (w .server .slots) (ofRecord w))
+
+  timer-rows-inv : (row : Row) → timerRow (w .server .machine .state) (w .server .machine .resends) ≡ Go row
+      → Judged (w .server .machine) blank row → AfterTimer (Go row)
+  unfolding stepOf going isFresh withResends
+  timer-rows-inv row =
+      timer-rows (w .server .machine) (λ (v : Verdict). v ≡ Go row → Judged (w .server .machine) blank row → AfterTimer (Go row))
+      (λ none is. absurd (refusal-no-row NoRow row is))
+      (λ held below is j.
+      subst (λ (r : Row). Judged s′ blank r → AfterTimer (Go r)) (same-row _ row is)
+      (λ k.
+      quiet-inv w inv (ResendData (s′ .resends + 1)) k out room (ap isFresh held)
+      (rewinding-goes-on s′ (withResends s′ (s′ .resends + 1)) (w .books .standing) (w .books .replies) refl refl refl refl refl refl
+      (inv .server .replying (ap hasData held))) refl refl) j)
+      (λ status held below is j.
+      subst (λ (r : Row). Judged s′ blank r → AfterTimer (Go r)) (same-row _ row is)
+      (λ k.
+      quiet-inv w inv (ResendFault status (s′ .resends + 1)) k out room (ap isFresh held)
+      (holding-goes-on s′ (withResends s′ (s′ .resends + 1)) (Fault status) (w .books .standing) (w .books .replies) refl refl refl refl refl refl
+      (λ e. absurd (false≢true e))) refl refl) j)
+      (λ held limit is j.
+      subst (λ (r : Row). Judged s′ blank r → AfterTimer (Go r)) (same-row _ row is)
+      (λ k. quiet-inv w inv Spend k out room (ap isFresh (held-state (s′ .state) held .is)) (spent-goes-on s′ (w .books .standing) (w .books .replies)) refl refl) j)
+    where
+      s′ : Server
+      s′ = w .server .machine
 
 pub server-timer-inv : (w : World) (ticket : ℕ) (out : List ℕ) → Inv w → timing (w .server .machine) ticket out .outcome .answer ≡ Done
     → Inv (serverStep w (timing (w .server .machine) ticket out .outcome) (timing (w .server .machine) ticket out .out) (w .server .slots) (ofRecord w))
-unfolding timing resendRow
+unfolding timing
 server-timer-inv w ticket out inv told =
     let s = w .server .machine in
     let taken = timer-accepted s ticket out told in
     let known = timer-taken s ticket (length out) (taken .row) (taken .is) in
     subst (λ (v : Verdict). Inv (serverStep w (stepBy v s [] out .outcome) (stepBy v s [] out .out) (w .server .slots) (ofRecord w)))
-    (sym (taken .is ∙ ap Go (known .is)))
-    (resends w inv out (known .buffer) (known .reply) (known .held) (ltb (s .resends) retryLimit) (s .resends + 1)
-    (subst (Judged s blank) (known .is) (known .judged)))
+    (sym (taken .is)) (timer-rows-inv w inv out (known .buffer) (taken .row) (known .is) (known .judged))
 
 -- A reply that goes on the books.
-module _ (w : World) (inv : Inv w) (n : ℕ) (message : List ℕ) (kept : sound (w .server .machine) ≡ true) (can : CanReply n (w .server .machine)) (whole : length message ≡ n) where
+module _ (w : World) (inv : Inv w) (n : ℕ) (message : List ℕ) (kept : sound (w .server .machine) ≡ true) (can : CanReply (w .server .machine) n) (whole : length message ≡ n) where
   abbrev reply : Replied
   reply = record { ordinal = lastDispatched (w .books .dispatches); message = message }
 

@@ -34,7 +34,7 @@ use Rattle.server.specs.records.Record.{unarmed, withIncoming}
 use Rattle.server.proofs.RuleLaws.{rules-told, rules-hold}
 use Rattle.server.specs.judge.Rows.{requestPut}
 use Rattle.server.specs.step.Steps.{callOf, begun, putState, putNotice, fackFor, putPlan}
-use Rattle.server.proofs.Keeping.{put-sound}
+use Rattle.server.proofs.StepLaws.{put-sound}
 use Rattle.server.specs.HandUp.{handsUp}
 use Rattle.server.specs.Machine.{done, sending}
 use Rattle.server.specs.declared.step.Send.{Send}
@@ -341,18 +341,18 @@ put-inv w inv s o server state h body request short can out room cancel =
           (others-known (Response (w .books .replies)) o send (putServer-of (complete m)) h [] (fack-sends (wantsFack (h .flags1)) (h .serial) (contiguous m) .0));
     })
   where
-    send : Send
-    send = fackFor (wantsFack (h .flags1)) (h .serial) (contiguous m)
-
     m : Incoming
     m = stored (s .incoming) (h .fragment) (length body) (isLast (h .flags1))
+
+    send : Send
+    send = fackFor (wantsFack (h .flags1)) (h .serial) (contiguous m)
 
     putServer-of : Bool → Server
     putServer-of all = withIncoming (unarmed s (putState all)) m
 
     kept : sound (putServer-of (complete m)) ≡ true
     kept =
-        put-sound s (server .kept) (complete m) m state
+        put-sound s (server .kept) (putOf (s .incoming) (h .flags1) (h .serial) (h .fragment) (length body)) state
         (stored-sound (s .incoming) (h .fragment) (length body) (isLast (h .flags1))
         (rules-told s (server .kept) .incoming) short can)
 

@@ -12,8 +12,7 @@ use Rattle.timers.proofs.TimerLaws.{Moved, stays-moved}
 use Rattle.client.specs.declared.records.Client.{Client}
 use Rattle.client.specs.declared.records.TimerKind.the-variants.{Wait, Ack, Cancel}
 use Rattle.client.specs.records.Arming.{namedTimer}
-use Rattle.client.specs.judge.Events.{serverEvent, eventOf}
-use Rattle.client.proofs.TicketLaws.{ClientMoved, start-moves, transmit-moves as client-transmit-moves, timer-moves as client-timer-moves, cancel-moves, arrive-moves as client-arrive-moves, timer-spends as client-timer-spends, renews, arrive-spends}
+use Rattle.client.proofs.TicketLaws.{ClientMoved, start-moves, transmit-moves as client-transmit-moves, timer-moves as client-timer-moves, cancel-moves, arrive-moves as client-arrive-moves, timer-spends as client-timer-spends, Renewing, arrive-spends}
 use Rattle.server.specs.declared.records.Server.{Server}
 use Rattle.server.proofs.TicketLaws.{ServerMoved, reply-moves, transmit-moves as server-transmit-moves, fault-moves, timer-moves as server-timer-moves, arrive-moves as server-arrive-moves, timer-spends as server-timer-spends}
 use Rattle.history.specs.World.{Side, World}
@@ -95,6 +94,6 @@ armed-afresh w p lent out done known = arrive-spends (w .client .machine) (p .by
   where
     renewing : Renews (reading (p .bytes) .header .kind) (w .client .machine .incoming)
         (step w (OfClient (ClientArrive p lent out)) .client .machine .incoming)
-        → renews (eventOf (reading (p .bytes) .header .kind)) ≡ true
-    renewing (inl working) = unfold eventOf serverEvent choose in ap (λ (k : ℕ). renews (eventOf k)) working
-    renewing (inr response) = unfold eventOf serverEvent choose in ap (λ (k : ℕ). renews (eventOf k)) (response .0)
+        → Renewing (reading (p .bytes) .header .kind)
+    renewing (inl working) = inr working
+    renewing (inr response) = inl (response .0)
