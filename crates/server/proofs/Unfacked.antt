@@ -1,0 +1,193 @@
+-- The server sends no fack at a reply, at a transmit, at a fault or at its timer: only for a request that is put.
+use Prim.Native.Nat.{ℕ, _≤_}
+use mathlib.Core.Bool.{Bool, true, false, false≢true}
+use mathlib.Core.List.{List, []}
+use mathlib.Core.Logic.{inl, inr}
+use mathlib.Core.Path.{_≡_, refl, sym, ap, subst, _∙_}
+use native.Mathlib.Omega.{arith}
+use lib.ListN.{length}
+use borrow.Author.Tests.{eqb-false}
+use Rattle.words.specs.Sizes.{bodySize, pduSize}
+use Rattle.answers.specs.declared.Refusal.the-variants.{NoRow}
+use Rattle.answers.specs.declared.Answer.the-variants.{Done}
+use Rattle.bodies.specs.Status.{statusBytes}
+use Rattle.bodies.specs.Cancel.{cancelAckBytes}
+use Rattle.calls.specs.declared.Sent.the-variants.{Nothing as Unsent}
+use Rattle.calls.specs.Events.{Step}
+use Rattle.calls.specs.Sent.{sentHeader}
+use Rattle.calls.proofs.PostLaws.{posted-whole, same-sized}
+use Rattle.outgoing.specs.Message.{fragmentOf}
+use Rattle.outgoing.proofs.OutgoingLaws.{fragment-most}
+use Rattle.facks.specs.Telling.{Unfacked}
+use Rattle.facks.proofs.TellingLaws.{sent-other}
+use Rattle.pdu.specs.declared.Header.{Header}
+use Rattle.pdu.specs.Header.{blank}
+use Rattle.writer.proofs.Returns.{Sized}
+use Rattle.server.specs.declared.records.Server.{Server}
+use Rattle.server.specs.declared.judge.Row.{Row}
+use Rattle.server.specs.declared.judge.Row.the-variants.{Reply as ReplyRow, TransmitMore, TransmitRepeatable, TransmitHeld, FaultRepeatable, FaultHeld, ResendData, ResendFault, Spend, Begin, Put, Working, Nocall, Rewind, RepeatFault, Acknowledge, HearCancel, AcceptCancel, DeclineCancel}
+use Rattle.server.specs.declared.judge.Verdict.{Verdict}
+use Rattle.server.specs.declared.judge.Verdict.the-variants.{Go}
+use Rattle.server.specs.judge.Rows.{timerRow}
+use Rattle.server.specs.declared.step.Send.{Send}
+use Rattle.server.specs.declared.step.Send.the-variants.{Nothing, Response, Fault, Working as SendWorking, Nocall as SendNocall, Fack, CancelAck}
+use Rattle.server.specs.step.Plan.{going}
+use Rattle.server.specs.step.Steps.{heardPlan, stepOf}
+use Rattle.server.specs.Sending.{echoed, echoHeader, replyHeader, responseSent, emptySent, sentOut}
+use Rattle.server.specs.declared.Outcome.{Outcome}
+use Rattle.server.specs.Machine.{refused, done, replying, sending, transmitting, timing, faulting}
+use Rattle.server.proofs.Judging.{refusal-no-row, same-row, transmit-rows, fault-rows, timer-rows, transmit-taken, fault-taken, timer-taken}
+use Rattle.server.proofs.Accepting.{reply-cases, transmit-accepted, fault-accepted, timer-accepted, transmit-is, fault-is, timer-is}
+use Rattle.server.proofs.Sends.{fault-whole, empty-whole, cancel-ack-short, cancel-ack-whole}
+
+-- Whether it is a fack.
+abbrev pub isFack : Send → Bool
+isFack Nothing = false
+isFack (Response f) = false
+isFack (Fault status) = false
+isFack SendWorking = false
+isFack SendNocall = false
+isFack (Fack serial count) = true
+isFack (CancelAck n accepts) = false
+
+-- The headers of what the server sends have UUIDs of sixteen bytes.
+pub record SizedHeaders (s : Server) (h : Header) : Type 0 where
+  pub replies : Sized (replyHeader 0 0 0 s)
+  pub echoes : Sized (echoHeader 0 0 s h)
+
+-- Whatever else is sent is read as what it is.
+module _ (s : Server) (h : Header) (lent out : List ℕ) (short : length lent ≤ bodySize) (room : length out ≡ pduSize)
+    (z : SizedHeaders s h) where
+  -- Response and fault have the header of a reply,
+  reply-sized : (kind flags1 f : ℕ) → Sized (replyHeader kind flags1 f s)
+  unfolding replyHeader
+  reply-sized kind flags1 f =
+      same-sized 0 0 (s .outgoing .serial) (s .activity) (s .boot) (s .number) (s .call) 0 kind flags1 f (z .replies)
+
+  -- working, nocall and cancel_ack that of an echo.
+  echo-sized : (kind : ℕ) → Sized (echoHeader kind 0 s h)
+  unfolding echoHeader
+  echo-sized kind =
+      same-sized 0 0 (s .outgoing .serial) (s .activity) (s .boot) (h .number) (echoed h) 0 kind 0 0 (z .echoes)
+
+  echo-other : (kind : ℕ) → kind ≤ 10 → (kind ≡ 9 → ⊥)
+      → Unfacked (emptySent kind s h out .sent) (emptySent kind s h out .out)
+  unfolding echoHeader sentHeader
+  echo-other kind known other =
+      inr (sent-other _ [] out (echo-sized kind) known refl (omega arith) other room _ (empty-whole s out room kind h known))
+
+  pub unfacked : (send : Send) → isFack send ≡ false
+      → Unfacked (sentOut send s h lent out .sent) (sentOut send s h lent out .out)
+  unfolding sentOut responseSent replyHeader echoHeader sentHeader
+  unfacked Nothing e = inl refl
+  unfacked (Response f) e =
+      inr (sent-other _ lent out (reply-sized 2 _ _) (omega arith) refl short (eqb-false 2 9 refl) room _
+      (posted-whole _ lent out room (omega arith) refl short))
+  unfacked (Fault status) e =
+      inr (sent-other _ (statusBytes status) out (reply-sized 3 _ _) (omega arith) refl (omega arith) (eqb-false 3 9 refl)
+      room _ (fault-whole s out room status))
+  unfacked SendWorking e = echo-other 4 (omega arith) (eqb-false 4 9 refl)
+  unfacked SendNocall e = echo-other 5 (omega arith) (eqb-false 5 9 refl)
+  unfacked (Fack serial count) e = absurd (false≢true (sym e))
+  unfacked (CancelAck n accepts) e =
+      inr (sent-other _ (cancelAckBytes n accepts) out (echo-sized 10) (omega arith) refl (cancel-ack-short n accepts)
+      (eqb-false 10 9 refl) room _ (cancel-ack-whole s out room n accepts h))
+
+-- A request is put where it begins a call, and in COLLECT.
+abbrev pub putsFragment : Row → Bool
+putsFragment (ReplyRow n) = false
+putsFragment TransmitMore = false
+putsFragment TransmitRepeatable = false
+putsFragment TransmitHeld = false
+putsFragment (FaultRepeatable status) = false
+putsFragment (FaultHeld status) = false
+putsFragment (ResendData resends) = false
+putsFragment (ResendFault status resends) = false
+putsFragment Spend = false
+putsFragment (Begin p) = true
+putsFragment (Put p) = true
+putsFragment Working = false
+putsFragment Nocall = false
+putsFragment Rewind = false
+putsFragment (RepeatFault status) = false
+putsFragment (Acknowledge count) = false
+putsFragment (HearCancel n) = false
+putsFragment (AcceptCancel n) = false
+putsFragment (DeclineCancel n) = false
+
+-- Every other row sends no fack,
+pub others-send : (s : Server) (h : Header) (row : Row) → putsFragment row ≡ false → isFack (stepOf row s h .send) ≡ false
+unfolding stepOf going heardPlan
+others-send s h (ReplyRow n) e = refl
+others-send s h TransmitMore e = refl
+others-send s h TransmitRepeatable e = refl
+others-send s h TransmitHeld e = refl
+others-send s h (FaultRepeatable status) e = refl
+others-send s h (FaultHeld status) e = refl
+others-send s h (ResendData resends) e = refl
+others-send s h (ResendFault status resends) e = refl
+others-send s h Spend e = refl
+others-send s h (Begin p) e = absurd (false≢true (sym e))
+others-send s h (Put p) e = absurd (false≢true (sym e))
+others-send s h Working e = refl
+others-send s h Nocall e = refl
+others-send s h Rewind e = refl
+others-send s h (RepeatFault status) e = refl
+others-send s h (Acknowledge count) e = refl
+others-send s h (HearCancel n) e = refl
+others-send s h (AcceptCancel n) e = refl
+others-send s h (DeclineCancel n) e = refl
+
+-- so none goes out with it.
+pub step-unfacked : (s : Server) (h : Header) (row : Row) (lent out : List ℕ) → putsFragment row ≡ false → length lent ≤ bodySize
+    → length out ≡ pduSize → let x = sending (stepOf row s h) h lent out in
+    SizedHeaders (x .outcome .server) h → Unfacked (x .outcome .sent) (x .out)
+unfolding sending done
+step-unfacked s h row lent out other short room z =
+    unfacked (stepOf row s h .server) h lent out short room z (stepOf row s h .send) (others-send s h row other)
+
+-- A reply sends nothing.
+pub reply-unsent : (s : Server) (n : ℕ) → replying s n .sent ≡ Unsent
+unfolding refused done
+reply-unsent s n = reply-cases s n (λ (o : Outcome). o .sent ≡ Unsent) (λ r e. refl) (λ row e. refl)
+
+-- No fack goes out at a transmit,
+pub transmit-unfacked : (s : Server) (message out : List ℕ) → transmitting s message out .outcome .answer ≡ Done
+    → SizedHeaders (transmitting s message out .outcome .server) blank
+    → Unfacked (transmitting s message out .outcome .sent) (transmitting s message out .out)
+transmit-unfacked s message out is =
+    let f = s .outgoing .sent in
+    let a = transmit-accepted s message out is in
+    let j = transmit-taken s (length message) (length out) (a .row) (a .is) in
+    let other = ap putsFragment (j .is) ∙ transmit-rows s (λ (r : Row). putsFragment r ≡ false) (λ e. refl) (λ e t. refl) (λ e t. refl) in
+    subst (λ (x : Step Outcome). SizedHeaders (x .outcome .server) blank → Unfacked (x .outcome .sent) (x .out))
+    (sym (transmit-is s (a .row) message out (a .is)))
+    (step-unfacked s blank (a .row) (fragmentOf message f) out other (fragment-most message f) (j .buffer))
+
+-- nor at a fault,
+pub fault-unfacked : (s : Server) (status : ℕ) (out : List ℕ) → faulting s status out .outcome .answer ≡ Done
+    → SizedHeaders (faulting s status out .outcome .server) blank
+    → Unfacked (faulting s status out .outcome .sent) (faulting s status out .out)
+fault-unfacked s status out is =
+    let a = fault-accepted s status out is in
+    let j = fault-taken s status (length out) (a .row) (a .is) in
+    let other = ap putsFragment (j .is) ∙ fault-rows s status (λ (r : Row). putsFragment r ≡ false) (λ e. refl) (λ e. refl) in
+    subst (λ (x : Step Outcome). SizedHeaders (x .outcome .server) blank → Unfacked (x .outcome .sent) (x .out))
+    (sym (fault-is s (a .row) status out (a .is))) (step-unfacked s blank (a .row) [] out other (omega arith) (j .buffer))
+
+-- nor at the timer.
+timer-puts-none : (s : Server) (row : Row) → timerRow (s .state) (s .resends) ≡ Go row → putsFragment row ≡ false
+timer-puts-none s row =
+    timer-rows s (λ (v : Verdict). v ≡ Go row → putsFragment row ≡ false) (λ other is. absurd (refusal-no-row NoRow row is))
+    (λ held below is. sym (ap putsFragment (same-row _ row is))) (λ status held below is. sym (ap putsFragment (same-row _ row is)))
+    (λ held limit is. sym (ap putsFragment (same-row _ row is)))
+
+pub timer-unfacked : (s : Server) (ticket : ℕ) (out : List ℕ) → timing s ticket out .outcome .answer ≡ Done
+    → SizedHeaders (timing s ticket out .outcome .server) blank
+    → Unfacked (timing s ticket out .outcome .sent) (timing s ticket out .out)
+timer-unfacked s ticket out is =
+    let a = timer-accepted s ticket out is in
+    let j = timer-taken s ticket (length out) (a .row) (a .is) in
+    subst (λ (x : Step Outcome). SizedHeaders (x .outcome .server) blank → Unfacked (x .outcome .sent) (x .out))
+    (sym (timer-is s (a .row) ticket out (a .is)))
+    (step-unfacked s blank (a .row) [] out (timer-puts-none s (a .row) (j .is)) (omega arith) (j .buffer))
