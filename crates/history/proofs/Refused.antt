@@ -17,7 +17,9 @@ use Rattle.timers.specs.declared.Timer.{Timer}
 use Rattle.timers.specs.declared.Timer.the-variants.{Off, Armed}
 use Rattle.timers.specs.Tickets.{armedWith}
 use Rattle.answers.proofs.NumberLaws.{zero-done}
+use Rattle.client.specs.declared.records.TimerKind.{TimerKind}
 use Rattle.client.specs.declared.records.TimerKind.the-variants.{Wait, Ack, Cancel}
+use Rattle.client.specs.Machine.{timing}
 use Rattle.client.proofs.Judging.{timer-taken as client-timer-taken}
 use Rattle.client.proofs.Accepting.{timer-accepted as client-timer-accepted}
 use Rattle.client.proofs.Refusals.{StepUntouched as ClientStepUntouched, start-refused, transmit-refused as client-transmit-refused, timer-refused as client-timer-refused, cancel-refused, arrive-refused as client-arrive-refused}

@@ -74,29 +74,35 @@ length-small Nothing = omega arith
 length-small (Pdu n) = omega arith
 
 -- Each number is read as what it is the number of.
+refusal-back : (r : Refusal) → refusalAt (refusalNumber r) ≡ r
+unfolding refusalAt choose
+refusal-back WrongLength = refl
+refusal-back BrokenRecord = refl
+refusal-back ShortDatagram = refl
+refusal-back WrongVersion = refl
+refusal-back UnknownType = refl
+refusal-back UnknownRepresentation = refl
+refusal-back Authenticated = refl
+refusal-back WrongBodyLength = refl
+refusal-back OtherActivity = refl
+refusal-back WrongSide = refl
+refusal-back MaybeOrBroadcast = refl
+refusal-back WrongFragment = refl
+refusal-back OldCall = refl
+refusal-back MalformedBody = refl
+refusal-back NoRow = refl
+refusal-back Repeated = refl
+refusal-back Contradiction = refl
+refusal-back LateTimer = refl
+refusal-back NumbersUsedUp = refl
+refusal-back TicketsUsedUp = refl
+
 pub answer-back : (a : Answer) → answerAt (numberOf a) ≡ a
 unfolding answerAt choose
 answer-back Done = refl
-answer-back WrongLength = refl
-answer-back BrokenRecord = refl
-answer-back ShortDatagram = refl
-answer-back WrongVersion = refl
-answer-back UnknownType = refl
-answer-back UnknownRepresentation = refl
-answer-back Authenticated = refl
-answer-back WrongBodyLength = refl
-answer-back OtherActivity = refl
-answer-back WrongSide = refl
-answer-back MaybeOrBroadcast = refl
-answer-back WrongFragment = refl
-answer-back OldCall = refl
-answer-back MalformedBody = refl
-answer-back NoRow = refl
-answer-back Repeated = refl
-answer-back Contradiction = refl
-answer-back LateTimer = refl
-answer-back NumbersUsedUp = refl
-answer-back TicketsUsedUp = refl
+answer-back (Refused r) =
+    choose-false (eqb (refusalNumber r) 0) Done _ (ne-eqb (refusalNumber r) 0 (omega (arith, refusal-numbered r)))
+    ∙ ap Refused (refusal-back r)
 
 notice-back : (n : Notice) → noticeAt (noticeKind n) (noticeValue n) ≡ n
 unfolding noticeAt choose

@@ -4,17 +4,18 @@ use Prim.Native.Nat.{ℕ, _/_, _%_}
 use lib.Dec.{eqb}
 use Rattle.words.specs.Choice.{choose}
 use Rattle.answers.specs.declared.Answer.{Answer}
-use Rattle.answers.specs.declared.Answer.the-variants.{Done, WrongLength, BrokenRecord, ShortDatagram, WrongVersion, UnknownType, UnknownRepresentation, Authenticated, WrongBodyLength, OtherActivity, WrongSide, MaybeOrBroadcast, WrongFragment, OldCall, MalformedBody, NoRow, Repeated, Contradiction, LateTimer, NumbersUsedUp, TicketsUsedUp}
+use Rattle.answers.specs.declared.Answer.the-variants.{Done, Refused}
+use Rattle.answers.specs.declared.Refusal.{Refusal}
+use Rattle.answers.specs.declared.Refusal.the-variants.{WrongLength, BrokenRecord, ShortDatagram, WrongVersion, UnknownType, UnknownRepresentation, Authenticated, WrongBodyLength, OtherActivity, WrongSide, MaybeOrBroadcast, WrongFragment, OldCall, MalformedBody, NoRow, Repeated, Contradiction, LateTimer, NumbersUsedUp, TicketsUsedUp}
 use Rattle.calls.specs.declared.Notice.{Notice}
 use Rattle.calls.specs.declared.Notice.the-variants.{Nothing as Untold, Last, Count, Fault, Reject, Cause, Dispatch, Cancel}
 use Rattle.calls.specs.declared.Sent.{Sent}
 use Rattle.calls.specs.declared.Sent.the-variants.{Nothing, Pdu}
 
--- The answer of that number. One above 20 never comes (`answer-back`); it is read as 2, so not as 0.
-unfoldable pub answerAt : ℕ → Answer
-answerAt number =
-    choose (eqb number 0) Done
-    (choose (eqb number 1) WrongLength
+-- The refusal of that number. One above 20 never comes (`answer-back`); it is read as 2.
+unfoldable pub refusalAt : ℕ → Refusal
+refusalAt number =
+    choose (eqb number 1) WrongLength
     (choose (eqb number 2) BrokenRecord
     (choose (eqb number 3) ShortDatagram
     (choose (eqb number 4) WrongVersion
@@ -34,7 +35,11 @@ answerAt number =
     (choose (eqb number 18) LateTimer
     (choose (eqb number 19) NumbersUsedUp
     (choose (eqb number 20) TicketsUsedUp
-    BrokenRecord))))))))))))))))))))
+    BrokenRecord)))))))))))))))))))
+
+-- The answer of that number.
+unfoldable pub answerAt : ℕ → Answer
+answerAt number = choose (eqb number 0) Done (Refused (refusalAt number))
 
 -- The notice of that kind, with its value. A kind above 7 never comes (`notice-back`); it is read as nothing told.
 unfoldable pub noticeAt : ℕ → ℕ → Notice
