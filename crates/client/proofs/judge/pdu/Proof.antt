@@ -6,7 +6,7 @@ use borrow.Author.Needs.{needs}
 use Rattle.words.specs.Choice.{choose, either}
 use Rattle.words.proofs.Tests.{tests}
 use Rattle.answers.specs.Table.{firstOf}
-use Rattle.client.specs.judge.Rows.{isForClient, arrivalRow}
+use Rattle.client.specs.judge.Rows.{isForClient}
 use Rattle.client.specs.judge.Refusals.{pduRefusals, pduVerdict}
 use Rattle.client.proofs.judge.pdu.Statement.{statement}
 use Rattle.client.proofs.judge.pdu.Tie as tie
@@ -21,7 +21,6 @@ returns-7 c =
     rw other
 
 pub pdu-spec : {M : Type 1} → statement M
-unfolding isForClient either pduVerdict pduRefusals firstOf choose
 pdu-spec =
     tie.close
     (tie.spec
