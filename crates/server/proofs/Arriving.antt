@@ -2,7 +2,7 @@
 use Prim.Native.Nat.{ℕ, _≤_}
 use mathlib.Core.Bool.{Bool, true, false, not, false≢true}
 use mathlib.Core.List.{List}
-use mathlib.Core.Logic.{_⊎_, inl, inr}
+use mathlib.Core.Logic.{inl, inr}
 use mathlib.Core.Path.{_≡_, refl, sym, ap, subst, _∙_}
 use native.Mathlib.Omega.{arith}
 use lib.Dec.{eqb}
@@ -20,9 +20,8 @@ use Rattle.answers.specs.Table.{firstOf}
 use Rattle.answers.proofs.TableLaws.{AllPassed, joined, all-behind, passed-parts}
 use Rattle.facks.specs.Mask.{acknowledgedBy}
 use Rattle.facks.proofs.MaskLaws.{acknowledges-most}
-use Rattle.fragments.specs.declared.Fragment.{Fragment}
 use Rattle.fragments.specs.Fragment.{lentRight, isLast, wrongFragment}
-use Rattle.fragments.specs.Judgement.{held, contradicts}
+use Rattle.fragments.specs.Judgement.{contradicts}
 use Rattle.fragments.specs.Put.{putOf}
 use Rattle.fragments.proofs.FlagLaws.{lent-right, put-can}
 use Rattle.fragments.proofs.PutLaws.{CanPut}

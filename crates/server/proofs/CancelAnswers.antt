@@ -33,7 +33,7 @@ use Rattle.server.specs.declared.judge.Row.{Row}
 use Rattle.server.specs.declared.judge.Row.the-variants.{HearCancel, AcceptCancel, DeclineCancel}
 use Rattle.server.specs.declared.judge.Verdict.{Verdict}
 use Rattle.server.specs.declared.judge.Verdict.the-variants.{Refuse, Go}
-use Rattle.server.specs.judge.Rows.{says, orderOf, orderFor, runningCancel, cancelEqual, cancelRow, isForServer, arrivalRow}
+use Rattle.server.specs.judge.Rows.{says, orderOf, orderFor, runningCancel, cancelEqual, cancelRow, isForServer}
 use Rattle.server.specs.judge.Refusals.{isRequest, isMalformed, isContradiction, pduRefusals, pduVerdict, arrivalVerdict}
 use Rattle.server.specs.Machine.{refused, arrivalBy, arriving}
 use Rattle.server.proofs.TableLaws.{choice-by, newer-ordered, equal-ordered, below-ordered, cancel-arrives}

@@ -12,9 +12,9 @@ use Rattle.words.specs.Sizes.{pduSize}
 use Rattle.calls.specs.declared.Sent.{Sent}
 use Rattle.calls.specs.declared.Sent.the-variants.{Nothing as Unsent}
 use Rattle.calls.specs.Events.{Arrival}
-use Rattle.calls.specs.Sent.{sentHeader, Posting, sentBytes}
+use Rattle.calls.specs.Sent.{sentHeader, sentBytes}
 use Rattle.calls.proofs.PostLaws.{same-fits}
-use Rattle.incoming.specs.Slots.{cleared, contiguous}
+use Rattle.incoming.specs.Slots.{contiguous}
 use Rattle.incoming.proofs.RuleLaws.{kept-by}
 use Rattle.outgoing.specs.Sending.{noMessage}
 use Rattle.facks.specs.Mask.{lastContiguous, maskOf}
@@ -41,7 +41,7 @@ use Rattle.server.specs.judge.Rows.{requestPut}
 use Rattle.server.specs.judge.Refusals.{arrivalVerdict}
 use Rattle.server.specs.declared.step.Plan.{Plan}
 use Rattle.server.specs.declared.step.Send.{Send}
-use Rattle.server.specs.declared.step.Send.the-variants.{Nothing, Fack}
+use Rattle.server.specs.declared.step.Send.the-variants.{Fack}
 use Rattle.server.specs.step.Plan.{going}
 use Rattle.server.specs.step.Steps.{begun, fackFor, putPlan, heardPlan, stepOf}
 use Rattle.server.specs.Sending.{echoed, echoHeader, sentOut}

@@ -17,7 +17,7 @@ use Rattle.outgoing.specs.Sending.{noMessage, bounded, hasNothing, hasMessage, 
 use Rattle.outgoing.proofs.SendLaws.{message-count-range, replied-bounded, replied-message, replied-below, sent-more, sent-bounded, sent-message, acknowledged-bounded, rewound-below, rewound-bounded, rewound-message}
 use Rattle.pdu.specs.declared.Header.{Header}
 use Rattle.timers.proofs.TimerLaws.{off-sound}
-use Rattle.server.specs.declared.records.Idle.the-variants.{Spent, Repeatable}
+use Rattle.server.specs.declared.records.Idle.the-variants.{Repeatable}
 use Rattle.server.specs.declared.records.Reply.the-variants.{Data, Fault}
 use Rattle.server.specs.declared.records.State.{State}
 use Rattle.server.specs.declared.records.State.the-variants.{Idle as IdleState, Collect, Running, Replying, Held}

@@ -14,17 +14,15 @@ use Rattle.answers.specs.declared.Refusal.the-variants.{OldCall, NoRow, Repeate
 use Rattle.bodies.specs.Cancel.{cancelNumberIn}
 use Rattle.facks.specs.Mask.{acknowledgedBy}
 use Rattle.flags.specs.Flags.{idempotent, hasFlag}
-use Rattle.fragments.specs.declared.Fragment.{Fragment}
 use Rattle.incoming.specs.Slots.{cleared}
 use Rattle.pdu.specs.declared.Header.{Header}
-use Rattle.server.specs.declared.records.Idle.{Idle}
 use Rattle.server.specs.declared.records.Idle.the-variants.{Fresh, Spent, Repeatable}
 use Rattle.server.specs.declared.records.Reply.{Reply}
 use Rattle.server.specs.declared.records.Reply.the-variants.{Data, Fault}
 use Rattle.server.specs.declared.records.State.{State}
 use Rattle.server.specs.declared.records.State.the-variants.{Idle as IdleState, Collect, Running, Replying, Held}
 use Rattle.server.specs.declared.records.Server.{Server}
-use Rattle.server.specs.records.States.{isFresh, isIdle, isRunning, isHeld}
+use Rattle.server.specs.records.States.{isIdle, isRunning, isHeld}
 use Rattle.server.specs.declared.judge.Order.{Order}
 use Rattle.server.specs.declared.judge.Order.the-variants.{Below, Equal, Newer}
 use Rattle.server.specs.declared.judge.Row.{Row}
