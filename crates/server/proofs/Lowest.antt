@@ -29,7 +29,8 @@ pub record RefusedAtMost (a : Answer) (most : Refusal) : Type 0 where
   pub low : refusalNumber refusal ≤ refusalNumber most
 
 -- What a table gives where the test of one of its lines holds, told by the answer to what it gives.
-lowest : (answer : Verdict → Answer) → ((r : Refusal) → answer (Refuse r) ≡ Refused r) → (table : List Line) (behind : Verdict)
+lowest : (answer : Verdict → Answer) → ((r : Refusal) → answer (Refuse r) ≡ Refused r)
+    → (table : List Line) (behind : Verdict)
     → risesFrom 0 table ≡ true → (line : Line) → Stands line table → line .test ≡ true
     → RefusedAtMost (answer (firstOf Refuse table behind)) (line .refusal)
 unfolding behindAnswer
@@ -38,7 +39,8 @@ lowest answer told table behind rises line stands holds = by-answered (answerOf 
     least : firstOf refusalNumber table 0 ≤ refusalNumber (line .refusal)
     least = lowest-decides 0 table rises line stands holds 0
 
-    by-answered : (a : Answer) → answerOf table ≡ a → RefusedAtMost (answer (firstOf Refuse table behind)) (line .refusal)
+    by-answered : (a : Answer) → answerOf table ≡ a
+        → RefusedAtMost (answer (firstOf Refuse table behind)) (line .refusal)
     by-answered Done e = absurd (true≢false (sym holds ∙ passed-line table (answer-done table e) line stands))
     by-answered (Refused r) e = record {
       refusal = r;
@@ -64,7 +66,8 @@ module _ (s : Server) where
   unfolding transmitRefusals both choose
   transmit-rise message out = refl
 
-  pub transmit-lowest : (message out : List ℕ) (line : Line) → Stands line (transmitRefusals s (length message) (length out))
+  pub transmit-lowest : (message out : List ℕ) (line : Line)
+      → Stands line (transmitRefusals s (length message) (length out))
       → line .test ≡ true → RefusedAtMost (transmitting s message out .outcome .answer) (line .refusal)
   unfolding transmitting transmitVerdict stepBy refused
   transmit-lowest message out =
@@ -76,7 +79,8 @@ module _ (s : Server) where
   unfolding faultRefusals both choose
   fault-rise status out = refl
 
-  pub fault-lowest : (status : ℕ) (out : List ℕ) (line : Line) → Stands line (faultRefusals s status (length out)) → line .test ≡ true
+  pub fault-lowest : (status : ℕ) (out : List ℕ) (line : Line) → Stands line (faultRefusals s status (length out))
+      → line .test ≡ true
       → RefusedAtMost (faulting s status out .outcome .answer) (line .refusal)
   unfolding faulting faultVerdict stepBy refused
   fault-lowest status out =
@@ -101,7 +105,8 @@ module _ (s : Server) where
   unfolding arrivalRefusals readRefusals readerRefusals pduRefusals both choose
   arrival-rise slots out d = refl
 
-  pub arrival-lowest : (datagram slots out : List ℕ) (line : Line) → Stands line (arrivalRefusals s (length slots) (length out) datagram)
+  pub arrival-lowest : (datagram slots out : List ℕ) (line : Line)
+      → Stands line (arrivalRefusals s (length slots) (length out) datagram)
       → line .test ≡ true → RefusedAtMost (arriving s datagram slots out .outcome .answer) (line .refusal)
   unfolding arriving arrivalVerdict arrivalBy refused
   arrival-lowest datagram slots out =
