@@ -3,7 +3,7 @@ use Prim.Native.Nat.{ℕ, _+_, _≤_, _<_}
 use mathlib.Core.Bool.{Bool, true, false, not, false≢true}
 use mathlib.Core.List.{List}
 use mathlib.Core.Logic.{_⊎_, inl, inr}
-use mathlib.Core.Path.{_≡_, refl, ap, subst}
+use mathlib.Core.Path.{_≡_, refl, sym, ap, subst}
 use lib.Dec.{ltb, eqb}
 use borrow.Author.Tests.{ltb-true, ltb-false, eqb-true, not-true}
 use Rattle.words.specs.Choice.{choose}
@@ -152,3 +152,18 @@ module _ (c : Client) (h : Header) (little : Bool) (body : List ℕ) where
       (of-type 9 _ _ row _ (λ t r. record { typed = t; row = r; count = refl })
       (of-type 10 _ _ row _ current-arrives
       (λ e. absurd (unrowed row WrongSide e))))))))
+
+  -- A response, a fack and a cancel_ack have their row by their type.
+  pub response-typed : h .kind ≡ 2 → (row : Row) → arrivalRow c h little body ≡ Go row
+      → row ≡ Response (putOf (c .incoming) (h .flags1) (h .serial) (h .fragment) (bodyLength body))
+  unfolding arrivalRow choose
+  response-typed typed row e = sym (row-in (isActive (c .state)) _ row (rw typed at e) .1)
+
+  pub fack-typed : h .kind ≡ 9 → (row : Row) → arrivalRow c h little body ≡ Go row → row ≡ Fack (acknowledgedBy (h .fragment))
+  unfolding arrivalRow choose
+  fack-typed typed row e = sym (row-in (isActive (c .state)) _ row (rw typed at e) .1)
+
+  pub cancel-ack-typed : h .kind ≡ 10 → (row : Row) → arrivalRow c h little body ≡ Go row → row ≡ CancelAck
+  unfolding arrivalRow choose
+  cancel-ack-typed typed row e =
+      sym (row-in (isCurrent (c .cancel) (c .cancels) (cancelNumberIn little body)) CancelAck row (rw typed at e) .1)
