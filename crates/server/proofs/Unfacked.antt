@@ -36,7 +36,8 @@ use Rattle.server.specs.step.Steps.{heardPlan, stepOf}
 use Rattle.server.specs.Sending.{echoed, echoHeader, replyHeader, responseSent, emptySent, sentOut}
 use Rattle.server.specs.declared.Outcome.{Outcome}
 use Rattle.server.specs.Machine.{refused, done, replying, sending, transmitting, timing, faulting}
-use Rattle.server.proofs.Judging.{refusal-no-row, same-row, transmit-rows, fault-rows, timer-rows, transmit-taken, fault-taken, timer-taken}
+use Rattle.server.proofs.TableLaws.{refusal-no-row, same-row}
+use Rattle.server.proofs.Judging.{transmit-rows, fault-rows, timer-rows, transmit-taken, fault-taken, timer-taken}
 use Rattle.server.proofs.Accepting.{reply-cases, transmit-accepted, fault-accepted, timer-accepted, transmit-is, fault-is, timer-is}
 use Rattle.server.proofs.Sends.{fault-whole, empty-whole, cancel-ack-short, cancel-ack-whole}
 
