@@ -21,7 +21,8 @@ use Rattle.client.specs.Machine.{refused, done, startBy, starting, sendi
 use Rattle.client.proofs.Judging.{CanStart, start-taken, TransmitTaken, transmit-taken, TimerTaken, timer-taken, CancelTaken, cancel-taken, ArrivalTaken, arrive-taken}
 
 module _ (c : Client) (P : Client → Type 0) (same : P c) where
-  start-by : (v : StartVerdict) (call : Call) (n : ℕ) → ((number : ℕ) → v ≡ GoStart number → P (started c number call n))
+  start-by : (v : StartVerdict) (call : Call) (n : ℕ)
+      → ((number : ℕ) → v ≡ GoStart number → P (started c number call n))
       → P (startBy v c call n .client)
   unfolding startBy refused
   start-by (RefuseStart r) call n leaves = same

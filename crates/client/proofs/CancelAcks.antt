@@ -49,7 +49,8 @@ use Rattle.client.proofs.Accepting.{answeredBy, arrive-answers, arrive-
 use Rattle.client.proofs.Refusals.{ArrivalUntouched}
 
 -- The table of a PDU, for the types of cancels: a cancel, 8, is 10;
-cancel-judged : (c : Client) (h : Header) (little : Bool) (body : List ℕ) → h .kind ≡ 8 → pduVerdict c h little body ≡ Refuse WrongSide
+cancel-judged : (c : Client) (h : Header) (little : Bool) (body : List ℕ) → h .kind ≡ 8
+    → pduVerdict c h little body ≡ Refuse WrongSide
 unfolding pduVerdict pduRefusals firstOf isForClient either choose
 cancel-judged c h little body typed = rw typed
 
@@ -69,7 +70,8 @@ unfolding rowIn isRow armsTimer arms both choose
 row-behind c true = refl
 row-behind c false = refl
 
-ack-judged : (c : Client) (h : Header) (little : Bool) (body : List ℕ) → h .kind ≡ 10 → pduVerdict c h little body ≡ ackVerdict c h little body
+ack-judged : (c : Client) (h : Header) (little : Bool) (body : List ℕ) → h .kind ≡ 10
+    → pduVerdict c h little body ≡ ackVerdict c h little body
 unfolding pduVerdict pduRefusals firstOf isForClient isResponse isMalformed isContradiction arrivalRow both either choose
 ack-judged c h little body typed =
     rw typed
@@ -222,7 +224,8 @@ module _ (c : Client) (datagram slots out : List ℕ) where
       malformed-ack other = told-by (Refuse MalformedBody) (owned ∙ choose-true _ _ _ (malformed datagram other))
 
       module _ (f : WellFormed datagram) where
-        tabled : (current : Bool) → isCurrent (c .cancel) (c .cancels) (cancelNumber datagram) ≡ current → verdict ≡ rowIn current CancelAck
+        tabled : (current : Bool) → isCurrent (c .cancel) (c .cancels) (cancelNumber datagram) ≡ current
+            → verdict ≡ rowIn current CancelAck
         tabled current e = owned ∙ choose-false _ _ _ (formed-passes datagram f) ∙ ap (λ (t : Bool). rowIn t CancelAck) e
 
         stray : isCurrent (c .cancel) (c .cancels) (cancelNumber datagram) ≡ false → told ≡ Refused NoRow

@@ -64,7 +64,8 @@ unfolding choose
 unspent-behind true r rest other behind = record { spends = other-answer (Refused r) other }
 unspent-behind false r rest other behind = behind
 
-unspent-unarmed : (t : Bool) (v : Verdict) → t ≡ false → answeredBy v ≡ Done → Unspent (choose t (Refuse TicketsUsedUp) v)
+unspent-unarmed : (t : Bool) (v : Verdict) → t ≡ false → answeredBy v ≡ Done
+    → Unspent (choose t (Refuse TicketsUsedUp) v)
 unfolding choose
 unspent-unarmed true v none taken = absurd (true≢false none)
 unspent-unarmed false v none taken = record { spends = λ e. other-answer Done refl (sym taken ∙ e) }

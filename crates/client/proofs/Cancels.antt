@@ -87,7 +87,8 @@ pub record AnswersLast (c : Client) (datagram : List ℕ) : Type 0 where
   pub number : cancelAckReading (reading datagram .little) (bodyOf datagram) .number ≡ c .cancels
 
 -- A cancel_ack that is taken is such a one.
-answers-last : (c : Client) (slots out : ℕ) (datagram : List ℕ) → ArrivalTaken c slots out datagram CancelAck → AnswersLast c datagram
+pub answers-last : (c : Client) (slots out : ℕ) (datagram : List ℕ) → ArrivalTaken c slots out datagram CancelAck
+    → AnswersLast c datagram
 unfolding isMalformed both either choose
 answers-last c slots out datagram taken =
     let little = reading datagram .little in
@@ -155,11 +156,12 @@ module _ (c : Client) (ticket : ℕ) (armed : c .cancel ≡ Armed ticket) where
   unfolding stepOf responsePlan
   response-stays p = put-stays (p .complete) (c .call .idempotent) _
 
-  row-stays : (slots out : ℕ) (datagram : List ℕ) (row : Row) → ArrivalTaken c slots out datagram row → (row ≡ CancelAck) ⊎ StaysAfter row
+  row-stays : (slots out : ℕ) (datagram : List ℕ) (row : Row) → ArrivalTaken c slots out datagram row
+      → (row ≡ CancelAck) ⊎ StaysAfter row
   unfolding Stays stepOf going failed workingPlan resent acknowledged withWaits withOutgoing withResends waiting sendsAgain unarmed isActive
   row-stays slots out datagram row taken =
       arrival-rows c (reading datagram .header) (reading datagram .little) (bodyOf datagram) (λ r. (r ≡ CancelAck) ⊎ StaysAfter r)
-      (λ p. inr (response-stays p)) (λ status. inr (inr refl)) (λ status. inr (inr refl)) (inr (inl armed)) (λ resends. inr (inl armed))
+      (λ p a. inr (response-stays p)) (λ status. inr (inr refl)) (λ status. inr (inr refl)) (inr (inl armed)) (λ resends. inr (inl armed))
       (λ cause. inr (inr refl)) (λ count. inr (inl armed)) (inl refl) row (taken .arrives)
 
   -- A datagram was taken and answers the last cancel, and CANCEL is off.
@@ -179,7 +181,8 @@ module _ (c : Client) (ticket : ℕ) (armed : c .cancel ≡ Armed ticket) where
   unfolding arriving arrivalBy acted sending refused done
   arrive-stays datagram slots out = by-verdict (arrivalVerdict c (length slots) (length out) datagram) refl
     where
-      by-row : (row : Row) → ArrivalTaken c (length slots) (length out) datagram row → (row ≡ CancelAck) ⊎ StaysAfter row
+      by-row : (row : Row) → ArrivalTaken c (length slots) (length out) datagram row
+          → (row ≡ CancelAck) ⊎ StaysAfter row
           → StaysUnless datagram (acted (stepOf row c) (bodyOf datagram) slots out)
       by-row row taken (inl is) =
           subst (λ (r : Row). StaysUnless datagram (acted (stepOf r c) (bodyOf datagram) slots out)) (sym is)
@@ -194,7 +197,8 @@ module _ (c : Client) (ticket : ℕ) (armed : c .cancel ≡ Armed ticket) where
           by-row row taken (row-stays (length slots) (length out) datagram row taken)
 
 -- The cancel number: a start sets it to 0,
-pub start-uncancelled : (c : Client) (call : Call) (n : ℕ) → starting c call n .answer ≡ Done → starting c call n .client .cancels ≡ 0
+pub start-uncancelled : (c : Client) (call : Call) (n : ℕ) → starting c call n .answer ≡ Done
+    → starting c call n .client .cancels ≡ 0
 unfolding started
 start-uncancelled c call n told = ap (λ (o : Outcome). o .client .cancels) (start-accepted c call n told .does)
 
@@ -219,7 +223,8 @@ module _ (c : Client) where
   unfolding stepOf going failed pinged withWaits withOutgoing waiting unarmed
   acting-leaves kind = timer-rows Leaves (λ waits. refl) refl (λ cause. refl) kind c
 
-  pub timer-cancels : (kind : TimerKind) (ticket : ℕ) (out : List ℕ) → timing c kind ticket out .outcome .client .cancels ≡ c .cancels
+  pub timer-cancels : (kind : TimerKind) (ticket : ℕ) (out : List ℕ)
+      → timing c kind ticket out .outcome .client .cancels ≡ c .cancels
   timer-cancels kind ticket out =
       timer-by-rows c (λ d. d .cancels ≡ c .cancels) refl kind ticket out
       (λ row taken. subst Leaves (sym (taken .is)) (acting-leaves kind))
@@ -235,13 +240,15 @@ module _ (c : Client) where
   unfolding stepOf responsePlan
   response-leaves p = put-leaves (p .complete) (c .call .idempotent) _
 
-  arrived-leaves : (slots out : ℕ) (datagram : List ℕ) (row : Row) → ArrivalTaken c slots out datagram row → Leaves row
+  arrived-leaves : (slots out : ℕ) (datagram : List ℕ) (row : Row) → ArrivalTaken c slots out datagram row
+      → Leaves row
   unfolding stepOf going failed workingPlan resent acknowledged cancelDisarmed withWaits withOutgoing withResends waiting sendsAgain unarmed
   arrived-leaves slots out datagram row taken =
-      arrival-rows c (reading datagram .header) (reading datagram .little) (bodyOf datagram) Leaves response-leaves
+      arrival-rows c (reading datagram .header) (reading datagram .little) (bodyOf datagram) Leaves (λ p a. response-leaves p)
       (λ status. refl) (λ status. refl) refl (λ resends. refl) (λ cause. refl) (λ count. refl) refl row (taken .arrives)
 
-  pub arrive-cancels : (datagram slots out : List ℕ) → arriving c datagram slots out .outcome .client .cancels ≡ c .cancels
+  pub arrive-cancels : (datagram slots out : List ℕ)
+      → arriving c datagram slots out .outcome .client .cancels ≡ c .cancels
   arrive-cancels datagram slots out =
       arrive-by-rows c datagram slots out (λ d later. d .cancels ≡ c .cancels) refl (arrived-leaves (length slots) (length out) datagram)
 

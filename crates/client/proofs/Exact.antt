@@ -49,7 +49,8 @@ use Rattle.client.proofs.Accepting.{start-accepted, transmit-accepted, 
 
 -- A start gives the next number of a record whose number is a u32,
 module _ (c : Client) (call : Call) (n : ℕ) (told : starting c call n .answer ≡ Done) where
-  pub start-number : c .number < 4294967296 → starting c call n .client .number ≡ choose (isQueued (c .state)) 0 (c .number + 1)
+  pub start-number : c .number < 4294967296
+      → starting c call n .client .number ≡ choose (isQueued (c .state)) 0 (c .number + 1)
   unfolding started
   start-number small =
       let a = start-accepted c call n told in

@@ -41,7 +41,8 @@ pub next-cancel : (cancels : ℕ) → cancels < 4294967296 → (cancels ≡ 4294
 next-cancel cancels small left = omega (arith, left)
 
 -- Start: the new call's record keeps the rules.
-pub started-sound : (c : Client) (number : ℕ) (call : Call) (n : ℕ) → n ≤ messageSize → sound (started c number call n) ≡ true
+pub started-sound : (c : Client) (number : ℕ) (call : Call) (n : ℕ) → n ≤ messageSize
+    → sound (started c number call n) ≡ true
 unfolding started incomingSound cleared slotSound both choose
 started-sound c number call n short =
     rules-hold (started c number call n)
@@ -58,7 +59,8 @@ module _ (c : Client) (kept : sound c ≡ true) where
   active-cancel active = subst (λ (named : Bool). timerSound named (c .cancel) (c .tickets) ≡ true) active (timers-kept c kept .cancel)
 
   -- In SEND_FRAGS a fragment is left to send, of at most 32,
-  fragment-left : isSending (c .state) ≡ true → (c .outgoing .sent < c .outgoing .count) × (c .outgoing .count ≤ lastNumber + 1)
+  fragment-left : isSending (c .state) ≡ true
+      → (c .outgoing .sent < c .outgoing .count) × (c .outgoing .count ≤ lastNumber + 1)
   unfolding isQueued
   fragment-left sends =
       let state = sending-state (c .state) sends in
@@ -68,7 +70,8 @@ module _ (c : Client) (kept : sound c ≡ true) where
       )
 
   -- so a transmit counts one more as sent, be it the last or not;
-  pub transmitted-one-more : isSending (c .state) ≡ true → (last : Bool) → transmitted last c .outgoing .sent ≡ c .outgoing .sent + 1
+  pub transmitted-one-more : isSending (c .state) ≡ true → (last : Bool)
+      → transmitted last c .outgoing .sent ≡ c .outgoing .sent + 1
   unfolding transmitted withOutgoing waiting choose
   transmitted-one-more sends true = sent-more (c .outgoing) (fragment-left sends .0) (fragment-left sends .1)
   transmitted-one-more sends false = sent-more (c .outgoing) (fragment-left sends .0) (fragment-left sends .1)
@@ -145,7 +148,8 @@ module _ (c : Client) (kept : sound c ≡ true) where
   failed-sound notice e = unarmed-sound c (untimed-told c kept e) Fault refl refl
 
   -- A local cancel in an active state, with a ticket left where CANCEL is off.
-  pub cancelled-sound : (number : ℕ) → isActive (c .state) ≡ true → (off (c .cancel) ≡ true → usedUp (c .tickets) ≡ false)
+  pub cancelled-sound : (number : ℕ) → isActive (c .state) ≡ true
+      → (off (c .cancel) ≡ true → usedUp (c .tickets) ≡ false)
       → sound (cancelled c number) ≡ true
   unfolding cancelled withCancels
   cancelled-sound number active free =
@@ -153,7 +157,8 @@ module _ (c : Client) (kept : sound c ≡ true) where
       rules-hold (cancelled c number) (record { counts = r .counts; outgoing = r .outgoing; incoming = r .incoming; timers = r .timers })
 
   -- Fack: where no more is acknowledged than the message has.
-  pub acknowledged-sound : (count : ℕ) → isActive (c .state) ≡ true → count ≤ c .outgoing .count → sound (acknowledged c count) ≡ true
+  pub acknowledged-sound : (count : ℕ) → isActive (c .state) ≡ true → count ≤ c .outgoing .count
+      → sound (acknowledged c count) ≡ true
   unfolding acknowledged withOutgoing outgoingSound hasNothing hasMessage acknowledgedTo
   acknowledged-sound count active fits =
       let r = rules-told c kept in
@@ -171,7 +176,8 @@ module _ (c : Client) (kept : sound c ≡ true) where
 
   -- Response: where what is held after the put keeps its rules, and a ticket is left unless an idempotent call is complete.
   pub response-sound : (p : Fragment) → isActive (c .state) ≡ true → incomingSound (putInto (c .incoming) p) ≡ true
-      → (both (p .complete) (c .call .idempotent) ≡ false → usedUp (c .tickets) ≡ false) → sound (responsePlan c p .client) ≡ true
+      → (both (p .complete) (c .call .idempotent) ≡ false → usedUp (c .tickets) ≡ false)
+      → sound (responsePlan c p .client) ≡ true
   unfolding responsePlan putRecord withIncoming withWaits waiting ackPending unarmed both choose isQueued isSending isWaiting
   response-sound p active right free = by-tests (p .complete) (c .call .idempotent) free
     where
@@ -196,7 +202,8 @@ module _ (c : Client) (kept : sound c ≡ true) where
   dispatched-active dispatched = ap isActive (dispatched-state (c .state) dispatched)
 
   -- Working: where a ticket is left.
-  pub working-sound : isDispatched (c .state) ≡ true → usedUp (c .tickets) ≡ false → sound (workingPlan c .client) ≡ true
+  pub working-sound : isDispatched (c .state) ≡ true → usedUp (c .tickets) ≡ false
+      → sound (workingPlan c .client) ≡ true
   unfolding workingPlan going withWaits isQueued isWaiting
   working-sound dispatched free =
       let old = untimed-told c kept (ap isQueued (dispatched-state (c .state) dispatched)) in
@@ -206,7 +213,8 @@ module _ (c : Client) (kept : sound c ≡ true) where
       Dispatched refl free (active-cancel (dispatched-active dispatched))
 
   -- Nocall with a count within the limit: the message goes out again.
-  pub resent-sound : (resends : ℕ) → isDispatched (c .state) ≡ true → resends ≤ retryLimit → sound (resent c resends) ≡ true
+  pub resent-sound : (resends : ℕ) → isDispatched (c .state) ≡ true → resends ≤ retryLimit
+      → sound (resent c resends) ≡ true
   unfolding resent withResends withOutgoing sending isQueued
   resent-sound resends dispatched few =
       let old = untimed-told c kept (ap isQueued (dispatched-state (c .state) dispatched)) in

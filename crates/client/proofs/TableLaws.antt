@@ -30,7 +30,8 @@ pub record RefusedAtMost (a : Answer) (most : Refusal) : Type 0 where
 
 -- What a table gives where the test of one of its lines holds.
 lowest : {A : Type 0} (refuse : Refusal → A) (answer : A → Answer) → ((r : Refusal) → answer (refuse r) ≡ Refused r)
-    → (table : List Line) (behind : A) → risesFrom 0 table ≡ true → (line : Line) → Stands line table → line .test ≡ true
+    → (table : List Line) (behind : A) → risesFrom 0 table ≡ true → (line : Line) → Stands line table
+    → line .test ≡ true
     → RefusedAtMost (answer (firstOf refuse table behind)) (line .refusal)
 unfolding behindAnswer
 lowest {A} refuse answer told table behind rises line stands holds = by-case (answerOf table) refl
@@ -64,7 +65,8 @@ module _ (c : Client) where
   unfolding transmitRefusals both choose
   transmit-rise message out = refl
 
-  pub transmit-lowest : (message out : List ℕ) (line : Line) → Stands line (transmitRefusals c (length message) (length out))
+  pub transmit-lowest : (message out : List ℕ) (line : Line)
+      → Stands line (transmitRefusals c (length message) (length out))
       → line .test ≡ true → RefusedAtMost (transmitting c message out .outcome .answer) (line .refusal)
   unfolding transmitVerdict
   transmit-lowest message out line stands holds =

@@ -91,14 +91,16 @@ transmit-unfacked c message out told =
 
 -- at a local cancel,
 pub cancel-unfacked : (c : Client) (out : List ℕ) → cancelling c out .outcome .answer ≡ Done
-    → Sized (pduHeader 0 0 0 (cancelling c out .outcome .client)) → Unfacked (cancelling c out .outcome .sent) (cancelling c out .out)
+    → Sized (pduHeader 0 0 0 (cancelling c out .outcome .client))
+    → Unfacked (cancelling c out .outcome .sent) (cancelling c out .out)
 cancel-unfacked c out told =
     let a = cancel-accepted c out told in
     step-unfacked c (a .row) [] out _ (a .does) (ap puts (a .taken .is) ∙ cancel-puts-none c) (omega arith) (a .taken .buffer)
 
 -- and at a timer.
 pub timer-unfacked : (c : Client) (kind : TimerKind) (ticket : ℕ) (out : List ℕ)
-    → timing c kind ticket out .outcome .answer ≡ Done → Sized (pduHeader 0 0 0 (timing c kind ticket out .outcome .client))
+    → timing c kind ticket out .outcome .answer ≡ Done
+    → Sized (pduHeader 0 0 0 (timing c kind ticket out .outcome .client))
     → Unfacked (timing c kind ticket out .outcome .sent) (timing c kind ticket out .out)
 timer-unfacked c kind ticket out told =
     let a = timer-accepted c kind ticket out told in
