@@ -1,5 +1,5 @@
--- What the client makes of cancels: what a local cancel sends and leaves, and that CANCEL stays armed until the cancel is
--- answered or the call ends.
+-- What the client makes of cancels: what a local cancel sends and leaves, and that CANCEL stays armed until the
+-- cancel is answered or the call ends.
 use Prim.Native.Nat.{ℕ, _+_, _<_}
 use mathlib.Core.Bool.{Bool, true, false, false≢true}
 use mathlib.Core.List.{List, []}
@@ -79,7 +79,8 @@ start-idle FaultState e = refl
 unfoldable pub Stays : Client → ℕ → Type 0
 Stays d ticket = (d .cancel ≡ Armed ticket) ⊎ (isActive (d .state) ≡ false)
 
--- A datagram that is a cancel_ack, type 10, with the record's call number, well formed and with the record's cancel number.
+-- A datagram that is a cancel_ack, type 10, with the record's call number, well formed and with the record's cancel
+-- number.
 pub record AnswersLast (c : Client) (datagram : List ℕ) : Type 0 where
   pub kind : reading datagram .header .kind ≡ 10
   pub call : reading datagram .header .number ≡ c .number
@@ -114,7 +115,8 @@ module _ (c : Client) (ticket : ℕ) (armed : c .cancel ≡ Armed ticket) where
   pub start-stays : (call : Call) (n : ℕ) → Stays (starting c call n .client) ticket
   start-stays call n =
       start-by-rows c (λ d. Stays d ticket) unchanged call n
-      (λ number can. absurd (false≢true (sym (start-idle (c .state) (can .row)) ∙ armed-active c ticket (can .kept) armed)))
+      (λ number can.
+      absurd (false≢true (sym (start-idle (c .state) (can .row)) ∙ armed-active c ticket (can .kept) armed)))
 
   -- a transmit,
   transmitted-stays : (last : Bool) → StaysAfter (Transmit last)
@@ -135,7 +137,8 @@ module _ (c : Client) (ticket : ℕ) (armed : c .cancel ≡ Armed ticket) where
 
   pub timer-stays : (kind : TimerKind) (t : ℕ) (out : List ℕ) → Stays (timing c kind t out .outcome .client) ticket
   timer-stays kind t out =
-      timer-by-rows c (λ d. Stays d ticket) unchanged kind t out (λ row taken. subst StaysAfter (sym (taken .is)) (acting-stays kind))
+      timer-by-rows c (λ d. Stays d ticket) unchanged kind t out
+      (λ row taken. subst StaysAfter (sym (taken .is)) (acting-stays kind))
 
   -- and a further local cancel, which does not arm it afresh.
   pub cancel-stays : (out : List ℕ) → cancelling c out .outcome .client .cancel ≡ Armed ticket
@@ -160,8 +163,10 @@ module _ (c : Client) (ticket : ℕ) (armed : c .cancel ≡ Armed ticket) where
       → (row ≡ CancelAck) ⊎ StaysAfter row
   unfolding Stays stepOf going failed workingPlan resent acknowledged withWaits withOutgoing withResends waiting sendsAgain unarmed isActive
   row-stays slots out datagram row taken =
-      arrival-rows c (reading datagram .header) (reading datagram .little) (bodyOf datagram) (λ r. (r ≡ CancelAck) ⊎ StaysAfter r)
-      (λ p a. inr (response-stays p)) (λ status. inr (inr refl)) (λ status. inr (inr refl)) (inr (inl armed)) (λ resends. inr (inl armed))
+      arrival-rows c (reading datagram .header) (reading datagram .little) (bodyOf datagram)
+      (λ r. (r ≡ CancelAck) ⊎ StaysAfter r)
+      (λ p a. inr (response-stays p)) (λ status. inr (inr refl)) (λ status. inr (inr refl)) (inr (inl armed))
+      (λ resends. inr (inl armed))
       (λ cause. inr (inr refl)) (λ count. inr (inl armed)) (inl refl) row (taken .arrives)
 
   -- A datagram was taken and answers the last cancel, and CANCEL is off.
@@ -169,7 +174,8 @@ module _ (c : Client) (ticket : ℕ) (armed : c .cancel ≡ Armed ticket) where
   Answered answer d datagram = (answer ≡ Done) × (d .cancel ≡ Off) × AnswersLast c datagram
 
   abbrev StaysUnless : List ℕ → Arrival Outcome → Type 0
-  StaysUnless datagram a = Answered (a .outcome .answer) (a .outcome .client) datagram ⊎ Stays (a .outcome .client) ticket
+  StaysUnless datagram a =
+      Answered (a .outcome .answer) (a .outcome .client) datagram ⊎ Stays (a .outcome .client) ticket
 
   ack-answered : (datagram slots out : List ℕ) → ArrivalTaken c (length slots) (length out) datagram CancelAck
       → StaysUnless datagram (acted (stepOf CancelAck c) (bodyOf datagram) slots out)
@@ -244,13 +250,15 @@ module _ (c : Client) where
       → Leaves row
   unfolding stepOf going failed workingPlan resent acknowledged cancelDisarmed withWaits withOutgoing withResends waiting sendsAgain unarmed
   arrived-leaves slots out datagram row taken =
-      arrival-rows c (reading datagram .header) (reading datagram .little) (bodyOf datagram) Leaves (λ p a. response-leaves p)
+      arrival-rows c (reading datagram .header) (reading datagram .little) (bodyOf datagram) Leaves
+      (λ p a. response-leaves p)
       (λ status. refl) (λ status. refl) refl (λ resends. refl) (λ cause. refl) (λ count. refl) refl row (taken .arrives)
 
   pub arrive-cancels : (datagram slots out : List ℕ)
       → arriving c datagram slots out .outcome .client .cancels ≡ c .cancels
   arrive-cancels datagram slots out =
-      arrive-by-rows c datagram slots out (λ d later. d .cancels ≡ c .cancels) refl (arrived-leaves (length slots) (length out) datagram)
+      arrive-by-rows c datagram slots out (λ d later. d .cancels ≡ c .cancels) refl
+      (arrived-leaves (length slots) (length out) datagram)
 
 -- As a cancel a PDU tells its reader the call and the cancel number.
 pub record AsksCancel (c : Client) (n : ℕ) (pdu : List ℕ) : Type 0 where
@@ -339,14 +347,18 @@ module _ (c : Client) (out : List ℕ) (told : cancelling c out .outcome .answer
       subst (AsksCancel c (c .cancels + 1))
       (sym (ap (λ (s : Step Outcome). sentBytes (s .outcome .sent) (s .out)) does
       ∙ ap (λ (q : Posting). sentBytes (q .sent) (q .out)) posted
-      ∙ whole-bytes (pduHeader 8 0 0 c) (cancelBytes (c .cancels + 1)) out room (fits .sized) (unfold cancelBytes in omega arith)))
+      ∙ whole-bytes (pduHeader 8 0 0 c) (cancelBytes (c .cancels + 1)) out room (fits .sized)
+      (unfold cancelBytes in omega arith)))
       (cancel-tells c (c .cancels + 1) (omega (arith, numbered)) fits)
 
   -- it arms CANCEL if that is off;
   pub cancel-arms : CancelAfter (c .cancel) (c .tickets) (after .cancel) (after .tickets)
   unfolding sending done cancelRow stepOf going cancelled withCancels cancelArmed
   cancel-arms =
-      subst (λ (s : Step Outcome). CancelAfter (c .cancel) (c .tickets) (s .outcome .client .cancel) (s .outcome .client .tickets)) (sym does)
+      subst
+      (λ (s : Step Outcome).
+      CancelAfter (c .cancel) (c .tickets) (s .outcome .client .cancel) (s .outcome .client .tickets))
+      (sym does)
       (by-timer (c .cancel) (judged .can .free))
     where
       by-timer : (t : Timer) → (off t ≡ true → usedUp (c .tickets) ≡ false)
@@ -391,8 +403,8 @@ module _ (c : Client) (out : List ℕ) (told : cancelling c out .outcome .answer
   unfolding sending done cancelRow stepOf going
   cancel-untold = ap (λ (s : Step Outcome). s .outcome .notice) does
 
--- A cancel_ack, type 10, that is taken has the record's cancel number; CANCEL was armed and is off then, and nothing else of
--- the record changes.
+-- A cancel_ack, type 10, that is taken has the record's cancel number; CANCEL was armed and is off then, and nothing
+-- else of the record changes.
 module _ (c : Client) (datagram slots out : List ℕ) (told : arriving c datagram slots out .outcome .answer ≡ Done)
     (typed : reading datagram .header .kind ≡ 10) where
   pub cancel-ack-answers : AnswersLast c datagram × (off (c .cancel) ≡ false)

@@ -109,12 +109,14 @@ module _ (c : Client) (datagram slots out : List ℕ) (told : arriving c datagra
 
   -- After a response, type 2, its slot has the length of its body,
   pub response-length : h .kind ≡ 2
-      → arriving c datagram slots out .outcome .client .incoming ≡ stored (c .incoming) (h .fragment) (length body) (isLast (h .flags1))
+      → arriving c datagram slots out .outcome .client .incoming
+      ≡ stored (c .incoming) (h .fragment) (length body) (isLast (h .flags1))
   unfolding acted sending done stepOf responsePlan putOf withIncoming withWaits
   response-length typed =
       let a = response-accepted c datagram slots out told typed in
       ap (λ (x : Arrival Outcome). x .outcome .client .incoming) (a .does)
-      ∙ ap (λ (k : ℕ). stored (c .incoming) (h .fragment) k (isLast (h .flags1))) (body-length body (body-short datagram (a .taken .read)))
+      ∙ ap (λ (k : ℕ). stored (c .incoming) (h .fragment) k (isLast (h .flags1)))
+      (body-length body (body-short datagram (a .taken .read)))
 
   -- and is held,
   pub response-held : h .kind ≡ 2
@@ -123,7 +125,8 @@ module _ (c : Client) (datagram slots out : List ℕ) (told : arriving c datagra
   response-held typed =
       let a = response-accepted c datagram slots out told typed in
       ap (λ (m : Incoming). held m (h .fragment)) (response-length typed)
-      ∙ stored-held (c .incoming) (h .fragment) (length body) (isLast (h .flags1)) (rules-told c (a .taken .judged .kept) .incoming)
+      ∙ stored-held (c .incoming) (h .fragment) (length body) (isLast (h .flags1))
+      (rules-told c (a .taken .judged .kept) .incoming)
       (a .taken .judged .can .can)
 
   -- and its body lies in its place of the slot buffer.

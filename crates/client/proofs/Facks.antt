@@ -97,7 +97,8 @@ module _ (c : Client) (datagram slots out : List ℕ) (told : arriving c datagra
 
   -- A response that is put is answered by what its flags ask for,
   response-posts : h .kind ≡ 2 → (wanted : Bool) → wantsFack (h .flags1) ≡ wanted
-      → record { sent = sent; out = arriving c datagram slots out .out } ≡ sentOut (fackFor wanted (h .serial) (put .count)) after [] out
+      → record { sent = sent; out = arriving c datagram slots out .out }
+      ≡ sentOut (fackFor wanted (h .serial) (put .count)) after [] out
   unfolding stepOf responsePlan putOf
   response-posts typed wanted e =
       posts (stepOf (Response put) c) (bodyOf datagram) slots out _ _ (response typed .does)
@@ -109,7 +110,8 @@ module _ (c : Client) (datagram slots out : List ℕ) (told : arriving c datagra
   count-is typed =
       let a = response typed in
       a .taken .judged .can .count
-      ∙ ap contiguous (sym (ap (λ (x : Arrival Outcome). x .outcome .client .incoming) (a .does) ∙ response-holds put c))
+      ∙ ap contiguous
+      (sym (ap (λ (x : Arrival Outcome). x .outcome .client .incoming) (a .does) ∙ response-holds put c))
 
   header-kept : h .kind ≡ 2 → (f : ℕ) → pduHeader 9 0 f after ≡ pduHeader 9 0 f c
   unfolding acted sending done stepOf responsePlan

@@ -137,7 +137,8 @@ module _ (c : Client) (h : Header) (little : Bool) (body : List ℕ) where
   of-type : (kind : ℕ) (has : Bool) (own taken : Row) (rest : Verdict)
       → (h .kind ≡ kind → has ≡ true → ArrivesAs own) → (rest ≡ Go taken → ArrivesAs taken)
       → choose (eqb (h .kind) kind) (rowIn has own) rest ≡ Go taken → ArrivesAs taken
-  of-type kind has own taken rest here behind e = by-choice (chosen (eqb (h .kind) kind) (rowIn has own) rest (Go taken) e)
+  of-type kind has own taken rest here behind e =
+      by-choice (chosen (eqb (h .kind) kind) (rowIn has own) rest (Go taken) e)
     where
       by-choice : ((eqb (h .kind) kind ≡ true) × (rowIn has own ≡ Go taken)) ⊎ (rest ≡ Go taken) → ArrivesAs taken
       by-choice (inl f) =

@@ -1,5 +1,5 @@
--- The numbers of each table of refusals rise, so the lowest position decides: where the test of a line holds, the event is
--- refused with a number at most that line's.
+-- The numbers of each table of refusals rise, so the lowest position decides: where the test of a line holds, the
+-- event is refused with a number at most that line's.
 use Prim.Native.Nat.{ℕ, _≤_}
 use mathlib.Core.Bool.{true, true≢false}
 use mathlib.Core.List.{List}
@@ -44,7 +44,9 @@ lowest {A} refuse answer told table behind rises line stands holds = by-case (an
     by-case (Refused r) e = record {
       refusal = r;
       is = ap answer (by-answer refuse table behind ∙ ap (behindAnswer refuse behind) e) ∙ told r;
-      low = subst (λ (n : ℕ). n ≤ refusalNumber (line .refusal)) (by-answer refusalNumber table 0 ∙ ap (behindAnswer refusalNumber 0) e) least;
+      low =
+          subst (λ (n : ℕ). n ≤ refusalNumber (line .refusal))
+          (by-answer refusalNumber table 0 ∙ ap (behindAnswer refusalNumber 0) e) least;
     }
 
 module _ (c : Client) where
@@ -98,7 +100,8 @@ module _ (c : Client) where
   unfolding cancelVerdict
   cancel-lowest out line stands holds =
       rw (cancel-answers c out)
-      (lowest Refuse answeredBy (λ r. refl) (cancelRefusals c (length out)) _ (cancel-rise (length out)) line stands holds)
+      (lowest Refuse answeredBy (λ r. refl) (cancelRefusals c (length out)) _
+      (cancel-rise (length out)) line stands holds)
 
   -- and an arriving datagram.
   pub arrive-rise : (slots out : ℕ) (datagram : List ℕ) → risesFrom 0 (arrivalRefusals c slots out datagram) ≡ true
