@@ -255,7 +255,8 @@ isFack SendNocall = false
 isFack (Fack serial fragments) = true
 isFack (CancelAck n accepts) = false
 
--- What a row neither tells, sends, stores nor changes that puts no fragment and hears no cancel.
+-- A row that puts no fragment and hears no cancel: nothing is told, facked or stored, and what is held and the number last
+-- seen stay.
 pub record Plain (s : Server) (h : Header) (row : Row) : Type 0 where
   pub unput : putsFragment row ≡ false
   pub untold : stepOf row s h .notice ≡ Untold
@@ -270,26 +271,33 @@ pub plain-rows : (s : Server) (h : Header) (P : Row → Type 0) → ((row : Row)
 unfolding stepOf going answered transmitted repeatable rewinding acknowledged holding unarmed withOutgoing withResends
 plain-rows s h P plain begin put hear = by-row
   where
+    left : (row : Row) → putsFragment row ≡ false → stepOf row s h .notice ≡ Untold → isFack (stepOf row s h .send) ≡ false
+        → stepOf row s h .store ≡ Unstored → stepOf row s h .server .incoming ≡ s .incoming
+        → stepOf row s h .server .seen ≡ s .seen → P row
+    left row unput untold unfacked unstored held seen =
+        plain row
+        (record { unput = unput; untold = untold; unfacked = unfacked; unstored = unstored; held = held; seen = seen })
+
     by-row : (row : Row) → P row
-    by-row (ReplyRow n) = plain (ReplyRow n) (record { unput = refl; untold = refl; unfacked = refl; unstored = refl; held = refl; seen = refl })
-    by-row TransmitMore = plain TransmitMore (record { unput = refl; untold = refl; unfacked = refl; unstored = refl; held = refl; seen = refl })
-    by-row TransmitRepeatable = plain TransmitRepeatable (record { unput = refl; untold = refl; unfacked = refl; unstored = refl; held = refl; seen = refl })
-    by-row TransmitHeld = plain TransmitHeld (record { unput = refl; untold = refl; unfacked = refl; unstored = refl; held = refl; seen = refl })
-    by-row (FaultRepeatable status) = plain (FaultRepeatable status) (record { unput = refl; untold = refl; unfacked = refl; unstored = refl; held = refl; seen = refl })
-    by-row (FaultHeld status) = plain (FaultHeld status) (record { unput = refl; untold = refl; unfacked = refl; unstored = refl; held = refl; seen = refl })
-    by-row (ResendData resends) = plain (ResendData resends) (record { unput = refl; untold = refl; unfacked = refl; unstored = refl; held = refl; seen = refl })
-    by-row (ResendFault status resends) = plain (ResendFault status resends) (record { unput = refl; untold = refl; unfacked = refl; unstored = refl; held = refl; seen = refl })
-    by-row Spend = plain Spend (record { unput = refl; untold = refl; unfacked = refl; unstored = refl; held = refl; seen = refl })
+    by-row (ReplyRow n) = left (ReplyRow n) refl refl refl refl refl refl
+    by-row TransmitMore = left TransmitMore refl refl refl refl refl refl
+    by-row TransmitRepeatable = left TransmitRepeatable refl refl refl refl refl refl
+    by-row TransmitHeld = left TransmitHeld refl refl refl refl refl refl
+    by-row (FaultRepeatable status) = left (FaultRepeatable status) refl refl refl refl refl refl
+    by-row (FaultHeld status) = left (FaultHeld status) refl refl refl refl refl refl
+    by-row (ResendData resends) = left (ResendData resends) refl refl refl refl refl refl
+    by-row (ResendFault status resends) = left (ResendFault status resends) refl refl refl refl refl refl
+    by-row Spend = left Spend refl refl refl refl refl refl
     by-row (Begin p) = begin p
     by-row (Put p) = put p
-    by-row Working = plain Working (record { unput = refl; untold = refl; unfacked = refl; unstored = refl; held = refl; seen = refl })
-    by-row Nocall = plain Nocall (record { unput = refl; untold = refl; unfacked = refl; unstored = refl; held = refl; seen = refl })
-    by-row Rewind = plain Rewind (record { unput = refl; untold = refl; unfacked = refl; unstored = refl; held = refl; seen = refl })
-    by-row (RepeatFault status) = plain (RepeatFault status) (record { unput = refl; untold = refl; unfacked = refl; unstored = refl; held = refl; seen = refl })
-    by-row (Acknowledge count) = plain (Acknowledge count) (record { unput = refl; untold = refl; unfacked = refl; unstored = refl; held = refl; seen = refl })
+    by-row Working = left Working refl refl refl refl refl refl
+    by-row Nocall = left Nocall refl refl refl refl refl refl
+    by-row Rewind = left Rewind refl refl refl refl refl refl
+    by-row (RepeatFault status) = left (RepeatFault status) refl refl refl refl refl refl
+    by-row (Acknowledge count) = left (Acknowledge count) refl refl refl refl refl refl
     by-row (HearCancel n) = hear n
-    by-row (AcceptCancel n) = plain (AcceptCancel n) (record { unput = refl; untold = refl; unfacked = refl; unstored = refl; held = refl; seen = refl })
-    by-row (DeclineCancel n) = plain (DeclineCancel n) (record { unput = refl; untold = refl; unfacked = refl; unstored = refl; held = refl; seen = refl })
+    by-row (AcceptCancel n) = left (AcceptCancel n) refl refl refl refl refl refl
+    by-row (DeclineCancel n) = left (DeclineCancel n) refl refl refl refl refl refl
 
 -- A begin and a put hold what they make.
 pub begin-held : (s : Server) (h : Header) (p : Fragment) → stepOf (Begin p) s h .server .incoming ≡ putInto cleared p
