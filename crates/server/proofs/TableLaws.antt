@@ -14,30 +14,37 @@ use Rattle.answers.specs.declared.Refusal.the-variants.{OldCall, NoRow, Repeate
 use Rattle.bodies.specs.Cancel.{cancelNumberIn}
 use Rattle.facks.specs.Mask.{acknowledgedBy}
 use Rattle.flags.specs.Flags.{idempotent, hasFlag}
-use Rattle.fragments.specs.declared.Fragment.{Fragment}
 use Rattle.incoming.specs.Slots.{cleared}
 use Rattle.pdu.specs.declared.Header.{Header}
-use Rattle.server.specs.declared.records.Idle.{Idle}
 use Rattle.server.specs.declared.records.Idle.the-variants.{Fresh, Spent, Repeatable}
 use Rattle.server.specs.declared.records.Reply.{Reply}
 use Rattle.server.specs.declared.records.Reply.the-variants.{Data, Fault}
 use Rattle.server.specs.declared.records.State.{State}
 use Rattle.server.specs.declared.records.State.the-variants.{Idle as IdleState, Collect, Running, Replying, Held}
 use Rattle.server.specs.declared.records.Server.{Server}
-use Rattle.server.specs.records.States.{isFresh, isIdle, isRunning, isHeld}
+use Rattle.server.specs.records.States.{isIdle, isRunning, isHeld}
 use Rattle.server.specs.declared.judge.Order.{Order}
 use Rattle.server.specs.declared.judge.Order.the-variants.{Below, Equal, Newer}
 use Rattle.server.specs.declared.judge.Row.{Row}
 use Rattle.server.specs.declared.judge.Row.the-variants.{Reply as ReplyRow, TransmitMore, TransmitRepeatable, TransmitHeld, FaultRepeatable, FaultHeld, ResendData, ResendFault, Spend, Begin, Put, Working, Nocall, Rewind, RepeatFault, Acknowledge, HearCancel, AcceptCancel, DeclineCancel}
 use Rattle.server.specs.declared.judge.Verdict.{Verdict}
 use Rattle.server.specs.declared.judge.Verdict.the-variants.{Refuse, Go}
-use Rattle.server.specs.judge.Rows.{says, orderBy, orderOf, orderFor, replayRow, requestNewer, requestAgain, requestIdle, requestEqual, requestRow, pingEqual, pingRow, whereReplied, acknowledgementRow, ackRow, runningCancel, cancelEqual, cancelRow, requestPut, isForServer, arrivalRow}
+use Rattle.server.specs.judge.Rows.{isRow, says, orderBy, orderOf, orderFor, replayRow, requestNewer, requestAgain, requestIdle, requestEqual, requestRow, pingEqual, pingRow, whereReplied, acknowledgementRow, ackRow, runningCancel, cancelEqual, cancelRow, requestPut, isForServer, arrivalRow}
 
 -- What is known of both ways of a choice, by its test, is known of it.
-pub choice-by : {A : Type 0} (P : A → Type 0) (t : Bool) (a b : A) → (t ≡ true → P a) → (t ≡ false → P b) → P (choose t a b)
+pub choice-by : {A : Type 0} (P : A → Type 0) (t : Bool) (a b : A) → (t ≡ true → P a) → (t ≡ false → P b)
+    → P (choose t a b)
 unfolding choose
 choice-by P true a b holds fails = holds refl
 choice-by P false a b holds fails = fails refl
+
+-- A refusal is no row, and a row is the one that was taken.
+pub refusal-no-row : (r : Refusal) (row : Row) → Refuse r ≡ Go row → ⊥
+unfolding isRow
+refusal-no-row r row e = false≢true (ap isRow e)
+
+pub same-row : (row taken : Row) → Go row ≡ Go taken → row ≡ taken
+same-row row taken e = cc
 
 -- What an order tells of the two numbers.
 OrderTells : Bool → ℕ → ℕ → Order → Type 0
@@ -55,7 +62,8 @@ module _ (fresh : Bool) (mine theirs : ℕ) where
       by-number true e f = (f, eqb-true mine theirs e)
       by-number false e f = tt
 
-      by-order : (t : Bool) → ltb mine theirs ≡ t → fresh ≡ false → OrderTells fresh mine theirs (choose t Newer (choose (eqb mine theirs) Equal Below))
+      by-order : (t : Bool) → ltb mine theirs ≡ t → fresh ≡ false
+          → OrderTells fresh mine theirs (choose t Newer (choose (eqb mine theirs) Equal Below))
       by-order true e f = inr (ltb-true mine theirs e)
       by-order false e f = by-number (eqb mine theirs) refl f
 
@@ -156,6 +164,18 @@ abbrev Tells : Server → Header → Bool → List ℕ → Verdict → Type 0
 Tells s h little body (Refuse r) = Stops h (Refuse r)
 Tells s h little body (Go row) = RowTells row s h little body
 
+-- What stands in REPLYING and HELD alone is what it is, where it has a row.
+replied-row : (order : Order) (state : State) (v : Verdict) (row : Row) → acknowledgementRow order state v ≡ Go row
+    → v ≡ Go row
+unfolding acknowledgementRow whereReplied
+replied-row Below state v row e = absurd (refusal-no-row OldCall row e)
+replied-row Equal (IdleState idle) v row e = absurd (refusal-no-row NoRow row e)
+replied-row Equal Collect v row e = absurd (refusal-no-row NoRow row e)
+replied-row Equal Running v row e = absurd (refusal-no-row NoRow row e)
+replied-row Equal Replying v row e = e
+replied-row Equal (Held reply) v row e = e
+replied-row Newer state v row e = absurd (refusal-no-row NoRow row e)
+
 -- What the table says of a PDU tells it.
 module _ (s : Server) (h : Header) (little : Bool) (body : List ℕ) where
   -- A replay,
@@ -204,7 +224,8 @@ module _ (s : Server) (h : Header) (little : Bool) (body : List ℕ) where
   request-tells Newer k o = request-newer-tells (s .state) k o refl
 
   -- a ping,
-  ping-equal-tells : (state : State) → h .kind ≡ 1 → orderFor s h ≡ Equal → s .state ≡ state → Tells s h little body (pingEqual state)
+  ping-equal-tells : (state : State) → h .kind ≡ 1 → orderFor s h ≡ Equal → s .state ≡ state
+      → Tells s h little body (pingEqual state)
   unfolding pingEqual says isIdle
   ping-equal-tells (IdleState idle) k o t = (k, inr (o, inl (ap isIdle t)))
   ping-equal-tells Collect k o t = (k, inr (o, inr t))
@@ -299,3 +320,65 @@ module _ (s : Server) (h : Header) (little : Bool) (body : List ℕ) where
   -- and where the table has none, one of its refusals stands there.
   pub table-stops : (r : Refusal) → arrivalRow s h little body ≡ Refuse r → Stops h (Refuse r)
   table-stops r is = subst (Tells s h little body) is arrival-tells
+
+  -- What the table says of a PDU, by its type: a request,
+  pub request-arrives : h .kind ≡ 0
+      → arrivalRow s h little body
+      ≡ requestRow (orderFor s h) (s .state) (hasFlag idempotent (h .flags1)) (requestPut cleared h body) (requestPut (s .incoming) h body)
+  unfolding arrivalRow choose
+  request-arrives k = rw k
+
+  -- a ping,
+  pub ping-arrives : h .kind ≡ 1 → arrivalRow s h little body ≡ pingRow (orderFor s h) (s .state)
+  unfolding arrivalRow choose
+  ping-arrives k = rw k
+
+  -- an ack,
+  pub ack-arrives : h .kind ≡ 7
+      → arrivalRow s h little body ≡ acknowledgementRow (orderFor s h) (s .state) (ackRow (s .call .idempotent))
+  unfolding arrivalRow choose
+  ack-arrives k = rw k
+
+  -- a cancel
+  pub cancel-arrives : h .kind ≡ 8
+      → arrivalRow s h little body ≡ cancelRow (orderFor s h) (s .state) (s .seen) (cancelNumberIn little body)
+  unfolding arrivalRow choose
+  cancel-arrives k = rw k
+
+  -- and a fack.
+  pub fack-arrives : h .kind ≡ 9
+      → arrivalRow s h little body
+      ≡ acknowledgementRow (orderFor s h) (s .state) (Go (Acknowledge (acknowledgedBy (h .fragment))))
+  unfolding arrivalRow choose
+  fack-arrives k = rw k
+
+  -- A newer request begins but in RUNNING,
+  pub newer-begins : h .kind ≡ 0 → orderFor s h ≡ Newer → isRunning (s .state) ≡ false
+      → arrivalRow s h little body ≡ Go (Begin (requestPut cleared h body))
+  unfolding requestRow requestNewer isRunning
+  newer-begins k newer idle =
+      request-arrives k
+      ∙ ap (λ (o : Order). requestRow o (s .state) (hasFlag idempotent (h .flags1)) (requestPut cleared h body) (requestPut (s .incoming) h body)) newer
+      ∙ by-state (s .state) idle
+    where
+      by-state : (state : State) → isRunning state ≡ false
+          → requestNewer state (requestPut cleared h body) ≡ Go (Begin (requestPut cleared h body))
+      by-state (IdleState idle) e = refl
+      by-state Collect e = refl
+      by-state Running e = absurd (true≢false e)
+      by-state Replying e = refl
+      by-state (Held reply) e = refl
+
+  -- and one of an equal number with the bit set does in IDLE repeatable.
+  pub again-begins : h .kind ≡ 0 → orderFor s h ≡ Equal → s .state ≡ IdleState Repeatable
+      → hasFlag idempotent (h .flags1) ≡ true
+      → arrivalRow s h little body ≡ Go (Begin (requestPut cleared h body))
+  unfolding requestRow requestEqual requestIdle requestAgain choose
+  again-begins k equal state bit =
+      request-arrives k
+      ∙ (λ i. requestRow (equal i) (state i) (bit i) (requestPut cleared h body) (requestPut (s .incoming) h body))
+
+  -- A fack that has a row acknowledges.
+  pub fack-row : (row : Row) → h .kind ≡ 9 → arrivalRow s h little body ≡ Go row
+      → row ≡ Acknowledge (acknowledgedBy (h .fragment))
+  fack-row row k is = sym (same-row _ row (replied-row (orderFor s h) (s .state) _ row (sym (fack-arrives k) ∙ is)))
