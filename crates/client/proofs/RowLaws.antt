@@ -1,4 +1,4 @@
--- Which row the table says of what arrives, and what is known of it then.
+-- Which row the table says of an event, and what is known of what arrives by its row.
 use Prim.Native.Nat.{ℕ, _+_, _≤_, _<_}
 use mathlib.Core.Bool.{Bool, true, false, not, false≢true}
 use mathlib.Core.List.{List}
@@ -20,12 +20,14 @@ use Rattle.fragments.specs.Put.{putOf}
 use Rattle.pdu.specs.declared.Header.{Header}
 use Rattle.timers.specs.Tickets.{off}
 use Rattle.client.specs.declared.records.Client.{Client}
+use Rattle.client.specs.declared.records.TimerKind.{TimerKind}
+use Rattle.client.specs.declared.records.TimerKind.the-variants.{Wait, Ack, Cancel as CancelKind}
 use Rattle.client.specs.declared.judge.Row.{Row}
 use Rattle.client.specs.declared.judge.Row.the-variants.{Transmit, Ping, SendAck, Cancel, Response, Fault, Reject, Working, Resend, GiveUp, Fack, CancelAck}
 use Rattle.client.specs.declared.judge.Verdict.{Verdict}
 use Rattle.client.specs.declared.judge.Verdict.the-variants.{Refuse, Go}
 use Rattle.client.specs.records.States.{isActive, isDispatched}
-use Rattle.client.specs.judge.Rows.{rowIn, isRow, nocallRow, isCurrent, arrivalRow}
+use Rattle.client.specs.judge.Rows.{rowIn, isRow, waitRow, timerRow, nocallRow, isCurrent, arrivalRow}
 
 -- A refusal is no row.
 pub unrowed : (row : Row) (r : Refusal) → Refuse r ≡ Go row → ⊥
@@ -113,13 +115,15 @@ module _ (c : Client) (h : Header) (little : Bool) (body : List ℕ) where
   unfolding nocallRow choose
   nocall-arrives typed row = by-count (ltb (c .resends) retryLimit) refl
     where
-      by-count : (t : Bool) → ltb (c .resends) retryLimit ≡ t → ArrivesAs (choose t (Resend (c .resends + 1)) (GiveUp 2))
+      by-count : (t : Bool) → ltb (c .resends) retryLimit ≡ t
+          → ArrivesAs (choose t (Resend (c .resends + 1)) (GiveUp 2))
       by-count true e =
           record { typed = typed; row = row; count = refl; below = ltb-true (c .resends) retryLimit e }
       by-count false e =
           record { typed = typed; row = row; cause = refl; limit = ltb-false (c .resends) retryLimit e }
 
-  current-arrives : h .kind ≡ 10 → isCurrent (c .cancel) (c .cancels) (cancelNumberIn little body) ≡ true → ArrivesAs CancelAck
+  current-arrives : h .kind ≡ 10 → isCurrent (c .cancel) (c .cancels) (cancelNumberIn little body) ≡ true
+      → ArrivesAs CancelAck
   unfolding isCurrent
   current-arrives typed current =
       let told = both-true (not (off (c .cancel))) (eqb (c .cancels) (cancelNumberIn little body)) current in
@@ -133,7 +137,8 @@ module _ (c : Client) (h : Header) (little : Bool) (body : List ℕ) where
   of-type : (kind : ℕ) (has : Bool) (own taken : Row) (rest : Verdict)
       → (h .kind ≡ kind → has ≡ true → ArrivesAs own) → (rest ≡ Go taken → ArrivesAs taken)
       → choose (eqb (h .kind) kind) (rowIn has own) rest ≡ Go taken → ArrivesAs taken
-  of-type kind has own taken rest here behind e = by-choice (chosen (eqb (h .kind) kind) (rowIn has own) rest (Go taken) e)
+  of-type kind has own taken rest here behind e =
+      by-choice (chosen (eqb (h .kind) kind) (rowIn has own) rest (Go taken) e)
     where
       by-choice : ((eqb (h .kind) kind ≡ true) × (rowIn has own ≡ Go taken)) ⊎ (rest ≡ Go taken) → ArrivesAs taken
       by-choice (inl f) =
@@ -153,13 +158,18 @@ module _ (c : Client) (h : Header) (little : Bool) (body : List ℕ) where
       (of-type 10 _ _ row _ current-arrives
       (λ e. absurd (unrowed row WrongSide e))))))))
 
-  -- A response, a fack and a cancel_ack have their row by their type.
+  -- A response, working, a fack and a cancel_ack have their row by their type.
   pub response-typed : h .kind ≡ 2 → (row : Row) → arrivalRow c h little body ≡ Go row
       → row ≡ Response (putOf (c .incoming) (h .flags1) (h .serial) (h .fragment) (bodyLength body))
   unfolding arrivalRow choose
   response-typed typed row e = sym (row-in (isActive (c .state)) _ row (rw typed at e) .1)
 
-  pub fack-typed : h .kind ≡ 9 → (row : Row) → arrivalRow c h little body ≡ Go row → row ≡ Fack (acknowledgedBy (h .fragment))
+  pub working-typed : h .kind ≡ 4 → (row : Row) → arrivalRow c h little body ≡ Go row → row ≡ Working
+  unfolding arrivalRow choose
+  working-typed typed row e = sym (row-in (isDispatched (c .state)) Working row (rw typed at e) .1)
+
+  pub fack-typed : h .kind ≡ 9 → (row : Row) → arrivalRow c h little body ≡ Go row
+      → row ≡ Fack (acknowledgedBy (h .fragment))
   unfolding arrivalRow choose
   fack-typed typed row e = sym (row-in (isActive (c .state)) _ row (rw typed at e) .1)
 
@@ -167,3 +177,33 @@ module _ (c : Client) (h : Header) (little : Bool) (body : List ℕ) where
   unfolding arrivalRow choose
   cancel-ack-typed typed row e =
       sym (row-in (isCurrent (c .cancel) (c .cancels) (cancelNumberIn little body)) CancelAck row (rw typed at e) .1)
+
+  -- What holds of each row of an arrival holds of the row that one has,
+  pub arrival-rows : (P : Row → Type 0) → ((p : Fragment) → ArrivesResponse c h body p → P (Response p))
+      → ((status : ℕ) → P (Fault status)) → ((status : ℕ) → P (Reject status)) → P Working
+      → ((resends : ℕ) → P (Resend resends)) → ((cause : ℕ) → P (GiveUp cause)) → ((count : ℕ) → P (Fack count))
+      → P CancelAck → (row : Row) → ArrivesAs row → P row
+  arrival-rows P response fault reject working resend over fack ack (Transmit last) a = absurd a
+  arrival-rows P response fault reject working resend over fack ack (Ping waits) a = absurd a
+  arrival-rows P response fault reject working resend over fack ack SendAck a = absurd a
+  arrival-rows P response fault reject working resend over fack ack (Cancel number) a = absurd a
+  arrival-rows P response fault reject working resend over fack ack (Response p) a = response p a
+  arrival-rows P response fault reject working resend over fack ack (Fault status) a = fault status
+  arrival-rows P response fault reject working resend over fack ack (Reject status) a = reject status
+  arrival-rows P response fault reject working resend over fack ack Working a = working
+  arrival-rows P response fault reject working resend over fack ack (Resend resends) a = resend resends
+  arrival-rows P response fault reject working resend over fack ack (GiveUp cause) a = over cause
+  arrival-rows P response fault reject working resend over fack ack (Fack count) a = fack count
+  arrival-rows P response fault reject working resend over fack ack CancelAck a = ack
+
+-- and what holds of each row of a timer, of the row that a timer event has.
+pub timer-rows : (P : Row → Type 0) → ((waits : ℕ) → P (Ping waits)) → P SendAck → ((cause : ℕ) → P (GiveUp cause))
+    → (kind : TimerKind) (c : Client) → P (timerRow kind c)
+unfolding timerRow waitRow choose
+timer-rows P ping ack over Wait c = by-count (ltb (c .waits) retryLimit)
+  where
+    by-count : (t : Bool) → P (choose t (Ping (c .waits + 1)) (GiveUp 1))
+    by-count true = ping (c .waits + 1)
+    by-count false = over 1
+timer-rows P ping ack over Ack c = ack
+timer-rows P ping ack over CancelKind c = over 3
