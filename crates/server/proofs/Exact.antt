@@ -46,13 +46,14 @@ use Rattle.server.specs.declared.Outcome.{Outcome}
 use Rattle.server.specs.Machine.{done, replying, sending, transmitting, acted, arriving}
 use Rattle.server.proofs.RuleLaws.{rules-told, count-most}
 use Rattle.server.proofs.TableLaws.{fack-row}
-use Rattle.server.proofs.StepLaws.{transmitted-one-more, row-held}
+use Rattle.server.proofs.StepLaws.{transmitted-one-more, begin-held, put-held}
 use Rattle.server.proofs.Judging.{CanTake, transmit-rows, reply-taken, transmit-taken}
 use Rattle.server.proofs.Arriving.{ArriveTaken, arrive-taken}
 use Rattle.server.proofs.Accepting.{reply-accepted, transmit-accepted, arrive-accepted, reply-is, transmit-is, arrive-is}
 
 -- A reply gives the message's fragment count.
-pub reply-count : (s : Server) (n : ℕ) → replying s n .answer ≡ Done → replying s n .server .outgoing .count ≡ fragments n
+pub reply-count : (s : Server) (n : ℕ) → replying s n .answer ≡ Done
+    → replying s n .server .outgoing .count ≡ fragments n
 unfolding done stepOf going answered unarmed withOutgoing replied
 reply-count s n is =
     let a = reply-accepted s n is in
@@ -106,7 +107,8 @@ module _ (s : Server) (datagram slots out : List ℕ) where
   held-then row taken = ap (λ (x : Arrival Outcome). x .outcome .server .incoming) (arrive-is s row datagram slots out taken)
 
   -- and where a body lies that one stores.
-  stored-then : (row : Row) → Taken row → (f : ℕ) → stepOf row s h .store ≡ At f → f ≡ h .fragment → h .fragment ≤ lastNumber
+  stored-then : (row : Row) → Taken row → (f : ℕ) → stepOf row s h .store ≡ At f → f ≡ h .fragment
+      → h .fragment ≤ lastNumber
       → arriving s datagram slots out .slots ≡ putAt (bodySize * h .fragment) (bodyOf datagram) slots
   unfolding acted storing
   stored-then row taken f store is number =
@@ -141,7 +143,7 @@ module _ (s : Server) (datagram slots out : List ℕ) where
         → after .incoming ≡ stored (s .incoming) (h .fragment) (length (bodyOf datagram)) (isLast (h .flags1))
     put-length taken =
         let j = known (Put p) taken in
-        held-then (Put p) taken ∙ row-held s h (Put p) ∙ put-whole (s .incoming) p (j .told .3) (j .short)
+        held-then (Put p) taken ∙ put-held s h p ∙ put-whole (s .incoming) p (j .told .3) (j .short)
 
     -- it is held,
     pub put-is-held : Taken (Put p) → held (after .incoming) (h .fragment) ≡ true
@@ -152,7 +154,8 @@ module _ (s : Server) (datagram slots out : List ℕ) where
         (rules-told s (j .judged .kept) .incoming) (put-here (s .incoming) p (j .told .3) (j .judged .can .can))
 
     -- and its body lies in its place;
-    pub put-bytes : Taken (Put p) → arriving s datagram slots out .slots ≡ putAt (bodySize * h .fragment) (bodyOf datagram) slots
+    pub put-bytes : Taken (Put p)
+        → arriving s datagram slots out .slots ≡ putAt (bodySize * h .fragment) (bodyOf datagram) slots
     unfolding stepOf putPlan
     put-bytes taken =
         let j = known (Put p) taken in
@@ -164,7 +167,7 @@ module _ (s : Server) (datagram slots out : List ℕ) where
         → after .incoming ≡ stored cleared (h .fragment) (length (bodyOf datagram)) (isLast (h .flags1))
     begin-length taken =
         let j = known (Begin p) taken in
-        held-then (Begin p) taken ∙ row-held s h (Begin p) ∙ put-whole cleared p (j .told .2) (j .short)
+        held-then (Begin p) taken ∙ begin-held s h p ∙ put-whole cleared p (j .told .2) (j .short)
 
     pub begin-is-held : Taken (Begin p) → held (after .incoming) (h .fragment) ≡ true
     begin-is-held taken =
@@ -173,7 +176,8 @@ module _ (s : Server) (datagram slots out : List ℕ) where
         ∙ stored-held cleared (h .fragment) (length (bodyOf datagram)) (isLast (h .flags1)) cleared-sound
         (put-here cleared p (j .told .2) (j .judged .can .can))
 
-    pub begin-bytes : Taken (Begin p) → arriving s datagram slots out .slots ≡ putAt (bodySize * h .fragment) (bodyOf datagram) slots
+    pub begin-bytes : Taken (Begin p)
+        → arriving s datagram slots out .slots ≡ putAt (bodySize * h .fragment) (bodyOf datagram) slots
     unfolding stepOf putPlan
     begin-bytes taken =
         let j = known (Begin p) taken in
