@@ -12,6 +12,7 @@ use timers::Timer;
 use words::MESSAGE_SIZE;
 use words::PDU_SIZE;
 use words::RETRY_LIMIT;
+ghost use Prim.Native.Nat.{_≤_};
 ghost use mathlib.Core.Logic.{_⊎_};
 ghost use mathlib.Core.Path.{_≡_};
 ghost use Rattle.words.specs.Choice.{choose, both};
@@ -363,19 +364,32 @@ fn cancel_ack(c: Client, h: Header, little: bool, body: &[u8]) -> Verdict
     Verdict::Go(Row::CancelAck)
 }
 
-// 10 to 20, of a header and a body that were read, by the type.
-fn pdu(c: Client, h: Header, little: bool, body: &[u8]) -> Verdict
+// 13 to 20, of what the server answers a call with: types 2 to 6.
+fn answer(c: Client, h: Header, little: bool, body: &[u8]) -> Verdict
+    requires { ⌜ (2 ≤ h .kind) × (h .kind ≤ 6) ⌝ }
     ensures { λ r. ⌜ r ≡ pduVerdict c h little (now (body .entry)) ⌝ }
 {
     let kind = h.kind;
     match kind {
         2 => response(c, h, little, body),
-        3 | 6 => failure(c, h, little, body),
         4 => working(c, h, little, body),
         5 => nocall(c, h, little, body),
+        _ => failure(c, h, little, body),
+    }
+}
+
+// 10 to 20, of a header and a body that were read, by the type: the client takes 2 to 6, 9 and 10.
+fn pdu(c: Client, h: Header, little: bool, body: &[u8]) -> Verdict
+    ensures { λ r. ⌜ r ≡ pduVerdict c h little (now (body .entry)) ⌝ }
+{
+    let kind = h.kind;
+    match kind {
+        2..=6 => answer(c, h, little, body),
         9 => fack(c, h, little, body),
         10 => cancel_ack(c, h, little, body),
-        _ => Verdict::Refuse(Refusal::WrongSide),
+        0..=1 => Verdict::Refuse(Refusal::WrongSide),
+        7..=8 => Verdict::Refuse(Refusal::WrongSide),
+        11..=255 => Verdict::Refuse(Refusal::WrongSide),
     }
 }
 

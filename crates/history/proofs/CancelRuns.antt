@@ -31,7 +31,8 @@ use Rattle.server.specs.step.Plan.{going}
 use Rattle.server.specs.step.Steps.{answered, transmitted, repeatable, rewinding, stepOf}
 use Rattle.server.specs.Machine.{done as doneWith, replyBy, sending, stepBy, replying, transmitting, faulting, timing}
 use Rattle.server.proofs.StateLaws.{replying-state}
-use Rattle.server.proofs.Judging.{CanTake, refusal-no-row, same-row, reply-taken, transmit-rows, transmit-taken, fault-rows, fault-taken, timer-rows, timer-taken}
+use Rattle.server.proofs.TableLaws.{refusal-no-row, same-row}
+use Rattle.server.proofs.Judging.{CanTake, reply-taken, transmit-rows, transmit-taken, fault-rows, fault-taken, timer-rows, timer-taken}
 use Rattle.server.proofs.Accepting.{reply-accepted, transmit-accepted, fault-accepted, timer-accepted}
 use Rattle.server.proofs.CancelAnswers.{CancelComes, WellFormed, cancelNumber, formed-read}
 use Rattle.server.proofs.Cancels.{cancel-taken, cancel-heard}

@@ -34,7 +34,8 @@ use Rattle.server.specs.step.Plan.{going}
 use Rattle.server.specs.step.Steps.{answered, transmitted, repeatable, rewinding, stepOf}
 use Rattle.server.specs.Machine.{done, replyBy, replying, sending, stepBy, transmitting, timing, faulting}
 use Rattle.server.proofs.StateLaws.{running-state, replying-state, held-state}
-use Rattle.server.proofs.Judging.{CanReply, Judged, refusal-no-row, same-row, reply-taken, transmit-taken, fault-taken, timer-rows, timer-taken}
+use Rattle.server.proofs.TableLaws.{refusal-no-row, same-row}
+use Rattle.server.proofs.Judging.{CanReply, Judged, reply-taken, transmit-taken, fault-taken, timer-rows, timer-taken}
 use Rattle.server.proofs.Accepting.{reply-accepted, transmit-accepted, fault-accepted, timer-accepted}
 use Rattle.server.proofs.StepLaws.{row-sound}
 use Rattle.history.specs.Lists.{In, andThen}
