@@ -12,7 +12,12 @@ use timers::Timer;
 use words::MESSAGE_SIZE;
 use words::PDU_SIZE;
 use words::RETRY_LIMIT;
+ghost use mathlib.Core.Logic.{_⊎_};
 ghost use mathlib.Core.Path.{_≡_};
+ghost use Rattle.words.specs.Choice.{choose, both};
+ghost use Rattle.answers.specs.declared.Refusal.the-variants.{TicketsUsedUp};
+ghost use Rattle.timers.specs.Tickets.{usedUp};
+ghost use Rattle.client.specs.declared.judge.Verdict.the-variants.{Refuse, Go};
 ghost use Rattle.client.specs.judge.Rows.{nextNumber, waitRow, timerRow as rowOfTimer, nocallRow, isCurrent, arms as armsRow};
 ghost use Rattle.client.specs.judge.Refusals.{startVerdict, transmitVerdict, timerVerdict, mayCancel, cancelVerdict, isOld, pduVerdict, activityVerdict, arrivalVerdict};
 
@@ -58,6 +63,38 @@ const LAST_CALL_NUMBER: u32 = 4294967295;
 
 // The last cancel number.
 const LAST_CANCEL_NUMBER: u32 = 4294967295;
+
+// Whether a row arms a timer.
+fn arms(c: Client, row: Row) -> bool
+    ensures { λ r. ⌜ r ≡ armsRow c row ⌝ }
+{
+    let call = c.call;
+    let cancel = c.cancel;
+    match row {
+        Row::Transmit(last) => last,
+        Row::Ping(_) => true,
+        Row::SendAck => false,
+        Row::Cancel(_) => timers::is_off(cancel),
+        Row::Response(p) => !words::both(p.complete, call.idempotent),
+        Row::Fault(_) => false,
+        Row::Reject(_) => false,
+        Row::Working => true,
+        Row::Resend(_) => false,
+        Row::GiveUp(_) => false,
+        Row::Fack(_) => false,
+        Row::CancelAck => false,
+    }
+}
+
+// A row of an event that nothing else refuses: 20 where it arms a timer and no ticket is left.
+fn with_ticket(c: Client, row: Row) -> Verdict
+    ensures { λ r. ⌜ r ≡ choose (both (armsRow c row) (usedUp (c .tickets))) (Refuse TicketsUsedUp) (Go row) ⌝ }
+{
+    if timers::used_up(c.tickets) && arms(c, row) {
+        return Verdict::Refuse(Refusal::TicketsUsedUp);
+    }
+    Verdict::Go(row)
+}
 
 // The number of the next call.
 fn next_number(queued: bool, number: u32) -> u32
@@ -111,12 +148,7 @@ pub fn transmit(c: Client, message: usize, out: usize) -> Verdict
     if !sending {
         return Verdict::Refuse(Refusal::NoRow);
     }
-    let last = outgoing::sends_last(o);
-    let up = words::both(last, timers::used_up(c.tickets));
-    if up {
-        return Verdict::Refuse(Refusal::TicketsUsedUp);
-    }
-    Verdict::Go(Row::Transmit(last))
+    with_ticket(c, Row::Transmit(outgoing::sends_last(o)))
 }
 
 // WAIT: ping, or at its limit local cause 1.
@@ -163,34 +195,7 @@ pub fn timer(c: Client, kind: TimerKind, ticket: u64, out: usize) -> Verdict
     if !armed {
         return Verdict::Refuse(Refusal::LateTimer);
     }
-    let row = timer_row(kind, c);
-    let up = words::both(arms(c, row), timers::used_up(c.tickets));
-    if up {
-        return Verdict::Refuse(Refusal::TicketsUsedUp);
-    }
-    Verdict::Go(row)
-}
-
-// Whether a row arms a timer.
-fn arms(c: Client, row: Row) -> bool
-    ensures { λ r. ⌜ r ≡ armsRow c row ⌝ }
-{
-    let call = c.call;
-    let cancel = c.cancel;
-    match row {
-        Row::Transmit(last) => last,
-        Row::Ping(_) => true,
-        Row::SendAck => false,
-        Row::Cancel(_) => timers::is_off(cancel),
-        Row::Response(p) => !words::both(p.complete, call.idempotent),
-        Row::Fault(_) => false,
-        Row::Reject(_) => false,
-        Row::Working => true,
-        Row::Resend(_) => false,
-        Row::GiveUp(_) => false,
-        Row::Fack(_) => false,
-        Row::CancelAck => false,
-    }
+    with_ticket(c, timer_row(kind, c))
 }
 
 // Whether a local cancel has a row.
@@ -206,7 +211,6 @@ pub fn cancel(c: Client, out: usize) -> Verdict
     ensures { λ r. ⌜ r ≡ cancelVerdict c out ⌝ }
 {
     let state = c.state;
-    let timer = c.cancel;
     if out != PDU_SIZE {
         return Verdict::Refuse(Refusal::WrongLength);
     }
@@ -218,11 +222,7 @@ pub fn cancel(c: Client, out: usize) -> Verdict
     if !may {
         return Verdict::Refuse(Refusal::NoRow);
     }
-    let up = words::both(timers::is_off(timer), timers::used_up(c.tickets));
-    if up {
-        return Verdict::Refuse(Refusal::TicketsUsedUp);
-    }
-    Verdict::Go(Row::Cancel(std::num::wrapping_add_u32(c.cancels, 1)))
+    with_ticket(c, Row::Cancel(std::num::wrapping_add_u32(c.cancels, 1)))
 }
 
 // 13: a number that is not the client's; in QUEUED it has none.
@@ -240,7 +240,6 @@ fn response(c: Client, h: Header, little: bool, body: &[u8]) -> Verdict
 {
     let state = c.state;
     let m = c.incoming;
-    let call = c.call;
     let wrong = fragments::is_wrong(h.flags1, h.fragment);
     if wrong {
         return Verdict::Refuse(Refusal::WrongFragment);
@@ -264,17 +263,12 @@ fn response(c: Client, h: Header, little: bool, body: &[u8]) -> Verdict
     }
     let length = fragments::body_length(body.len());
     let p = fragments::put_of(m, h.flags1, h.serial, h.fragment, length);
-    let finishes = words::both(p.complete, call.idempotent);
-    let up = words::both(!finishes, timers::used_up(c.tickets));
-    if up {
-        return Verdict::Refuse(Refusal::TicketsUsedUp);
-    }
-    Verdict::Go(Row::Response(p))
+    with_ticket(c, Row::Response(p))
 }
 
-// A fault: 13, 14, 15.
-fn fault(c: Client, h: Header, little: bool, body: &[u8]) -> Verdict
-    requires { ⌜ h .kind ≡ 3 ⌝ }
+// A fault, or a reject: 13, 14, 15.
+fn failure(c: Client, h: Header, little: bool, body: &[u8]) -> Verdict
+    requires { ⌜ (h .kind ≡ 3) ⊎ (h .kind ≡ 6) ⌝ }
     ensures { λ r. ⌜ r ≡ pduVerdict c h little (now (body .entry)) ⌝ }
 {
     let state = c.state;
@@ -290,28 +284,11 @@ fn fault(c: Client, h: Header, little: bool, body: &[u8]) -> Verdict
     if !active {
         return Verdict::Refuse(Refusal::NoRow);
     }
-    Verdict::Go(Row::Fault(words::number32(body, 0, little)))
-}
-
-// A reject: 13, 14, 15.
-fn reject(c: Client, h: Header, little: bool, body: &[u8]) -> Verdict
-    requires { ⌜ h .kind ≡ 6 ⌝ }
-    ensures { λ r. ⌜ r ≡ pduVerdict c h little (now (body .entry)) ⌝ }
-{
-    let state = c.state;
-    let old = is_old(state, c.number, h.number);
-    if old {
-        return Verdict::Refuse(Refusal::OldCall);
+    let status = words::number32(body, 0, little);
+    if h.kind == 3 {
+        return Verdict::Go(Row::Fault(status));
     }
-    let malformed = bodies::is_status_malformed(body, little);
-    if malformed {
-        return Verdict::Refuse(Refusal::MalformedBody);
-    }
-    let active = records::is_active(state);
-    if !active {
-        return Verdict::Refuse(Refusal::NoRow);
-    }
-    Verdict::Go(Row::Reject(words::number32(body, 0, little)))
+    Verdict::Go(Row::Reject(status))
 }
 
 // Working: 13, 15, 20.
@@ -328,11 +305,7 @@ fn working(c: Client, h: Header, little: bool, body: &[u8]) -> Verdict
     if !dispatched {
         return Verdict::Refuse(Refusal::NoRow);
     }
-    let up = timers::used_up(c.tickets);
-    if up {
-        return Verdict::Refuse(Refusal::TicketsUsedUp);
-    }
-    Verdict::Go(Row::Working)
+    with_ticket(c, Row::Working)
 }
 
 // The row of a nocall: the request goes out again, or at the limit local cause 2.
@@ -425,10 +398,9 @@ fn pdu(c: Client, h: Header, little: bool, body: &[u8]) -> Verdict
     let kind = h.kind;
     match kind {
         2 => response(c, h, little, body),
-        3 => fault(c, h, little, body),
+        3 | 6 => failure(c, h, little, body),
         4 => working(c, h, little, body),
         5 => nocall(c, h, little, body),
-        6 => reject(c, h, little, body),
         9 => fack(c, h, little, body),
         10 => cancel_ack(c, h, little, body),
         _ => Verdict::Refuse(Refusal::WrongSide),

@@ -3,8 +3,8 @@ use Prim.Native.Nat.{ℕ}
 use mathlib.Core.Path.{ap, _∙_}
 use borrow.Author.Needs.{needs}
 use Rattle.bodies.specs.Fack.{fackBytes, fackSent as fackFields}
-use Rattle.client.specs.Sending.{pduHeader, fackSent}
 use Rattle.calls.proofs.PostLaws.{posted-as}
+use Rattle.client.specs.Sending.{pduHeader, fackSent}
 use Rattle.client.proofs.send_fack.Statement.{statement}
 use Rattle.client.proofs.send_fack.Tie as tie
 
@@ -14,7 +14,7 @@ returns c =
     let a = c .before .before .before .before .before .before .before .before .before .before .before .args in
     posted-as _ _ _ _ _ _ _ (c .before .before .post .ensures)
     (c .before .before .before .before .before .before .before .header .ensures ∙ ap (λ (n : ℕ). pduHeader 9 0 n (a .c)) (c .before .before .before .before .before .before .before .before .number .ensures))
-    (c .before .before .before .before .before .write-fack .ensures ∙ ap (λ (k : ℕ). fackBytes (fackFields (a .serial) k)) (c .before .before .before .before .before .before .mask .ensures .word))
+    (c .before .before .before .before .before .write-fack .ensures ∙ ap (λ (k : ℕ). fackBytes (fackFields (a .serial) k)) (c .before .before .before .before .before .before .mask .ensures))
 
 pub send-fack-spec : {M : Type 1} → statement M
 send-fack-spec =
