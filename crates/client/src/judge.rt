@@ -12,6 +12,7 @@ use timers::Timer;
 use words::MESSAGE_SIZE;
 use words::PDU_SIZE;
 use words::RETRY_LIMIT;
+ghost use Prim.Native.Nat.{_≤_};
 ghost use mathlib.Core.Logic.{_⊎_};
 ghost use mathlib.Core.Path.{_≡_};
 ghost use Rattle.words.specs.Choice.{choose, both};
@@ -114,17 +115,14 @@ pub fn start(c: Client, length: u32) -> StartVerdict
     if MESSAGE_SIZE < length {
         return StartVerdict::Refuse(Refusal::WrongLength);
     }
-    let sound = records::is_sound(c);
-    if !sound {
+    if !records::is_sound(c) {
         return StartVerdict::Refuse(Refusal::BrokenRecord);
     }
-    let may = records::may_start(state);
-    if !may {
+    if !records::may_start(state) {
         return StartVerdict::Refuse(Refusal::NoRow);
     }
     let queued = records::is_queued(state);
-    let up = words::both(!queued, c.number == LAST_CALL_NUMBER);
-    if up {
+    if words::both(!queued, c.number == LAST_CALL_NUMBER) {
         return StartVerdict::Refuse(Refusal::NumbersUsedUp);
     }
     StartVerdict::Go(next_number(queued, c.number))
@@ -137,12 +135,10 @@ pub fn transmit(c: Client, message: usize, out: usize) -> Verdict
     let state = c.state;
     let o = c.outgoing;
     let sending = records::is_sending(state);
-    let lent = outgoing::is_transmit_lent(sending, message, o.length, out);
-    if !lent {
+    if !outgoing::is_transmit_lent(sending, message, o.length, out) {
         return Verdict::Refuse(Refusal::WrongLength);
     }
-    let sound = records::is_sound(c);
-    if !sound {
+    if !records::is_sound(c) {
         return Verdict::Refuse(Refusal::BrokenRecord);
     }
     if !sending {
@@ -183,16 +179,13 @@ pub fn timer(c: Client, kind: TimerKind, ticket: u64, out: usize) -> Verdict
     if out != PDU_SIZE {
         return Verdict::Refuse(Refusal::WrongLength);
     }
-    let sound = records::is_sound(c);
-    if !sound {
+    if !records::is_sound(c) {
         return Verdict::Refuse(Refusal::BrokenRecord);
     }
-    let named = records::is_named(kind, state);
-    if !named {
+    if !records::is_named(kind, state) {
         return Verdict::Refuse(Refusal::NoRow);
     }
-    let armed = timers::is_armed_with(records::timer_of(kind, wait, ack, cancel), ticket);
-    if !armed {
+    if !timers::is_armed_with(records::timer_of(kind, wait, ack, cancel), ticket) {
         return Verdict::Refuse(Refusal::LateTimer);
     }
     with_ticket(c, timer_row(kind, c))
@@ -214,12 +207,10 @@ pub fn cancel(c: Client, out: usize) -> Verdict
     if out != PDU_SIZE {
         return Verdict::Refuse(Refusal::WrongLength);
     }
-    let sound = records::is_sound(c);
-    if !sound {
+    if !records::is_sound(c) {
         return Verdict::Refuse(Refusal::BrokenRecord);
     }
-    let may = may_cancel(state, c.cancels);
-    if !may {
+    if !may_cancel(state, c.cancels) {
         return Verdict::Refuse(Refusal::NoRow);
     }
     with_ticket(c, Row::Cancel(std::num::wrapping_add_u32(c.cancels, 1)))
@@ -240,25 +231,20 @@ fn response(c: Client, h: Header, little: bool, body: &[u8]) -> Verdict
 {
     let state = c.state;
     let m = c.incoming;
-    let wrong = fragments::is_wrong(h.flags1, h.fragment);
-    if wrong {
+    if fragments::is_wrong(h.flags1, h.fragment) {
         return Verdict::Refuse(Refusal::WrongFragment);
     }
-    let old = is_old(state, c.number, h.number);
-    if old {
+    if is_old(state, c.number, h.number) {
         return Verdict::Refuse(Refusal::OldCall);
     }
-    let active = records::is_active(state);
-    if !active {
+    if !records::is_active(state) {
         return Verdict::Refuse(Refusal::NoRow);
     }
-    let held = fragments::is_held(m, h.fragment);
-    if held {
+    if fragments::is_held(m, h.fragment) {
         return Verdict::Refuse(Refusal::Repeated);
     }
     let last = fragments::is_last(h.flags1);
-    let clash = fragments::contradicts_held(m, h.fragment, last);
-    if clash {
+    if fragments::contradicts_held(m, h.fragment, last) {
         return Verdict::Refuse(Refusal::Contradiction);
     }
     let length = fragments::body_length(body.len());
@@ -272,16 +258,13 @@ fn failure(c: Client, h: Header, little: bool, body: &[u8]) -> Verdict
     ensures { λ r. ⌜ r ≡ pduVerdict c h little (now (body .entry)) ⌝ }
 {
     let state = c.state;
-    let old = is_old(state, c.number, h.number);
-    if old {
+    if is_old(state, c.number, h.number) {
         return Verdict::Refuse(Refusal::OldCall);
     }
-    let malformed = bodies::is_status_malformed(body, little);
-    if malformed {
+    if bodies::is_status_malformed(body, little) {
         return Verdict::Refuse(Refusal::MalformedBody);
     }
-    let active = records::is_active(state);
-    if !active {
+    if !records::is_active(state) {
         return Verdict::Refuse(Refusal::NoRow);
     }
     let status = words::number32(body, 0, little);
@@ -297,12 +280,10 @@ fn working(c: Client, h: Header, little: bool, body: &[u8]) -> Verdict
     ensures { λ r. ⌜ r ≡ pduVerdict c h little (now (body .entry)) ⌝ }
 {
     let state = c.state;
-    let old = is_old(state, c.number, h.number);
-    if old {
+    if is_old(state, c.number, h.number) {
         return Verdict::Refuse(Refusal::OldCall);
     }
-    let dispatched = records::is_dispatched(state);
-    if !dispatched {
+    if !records::is_dispatched(state) {
         return Verdict::Refuse(Refusal::NoRow);
     }
     with_ticket(c, Row::Working)
@@ -324,12 +305,10 @@ fn nocall(c: Client, h: Header, little: bool, body: &[u8]) -> Verdict
     ensures { λ r. ⌜ r ≡ pduVerdict c h little (now (body .entry)) ⌝ }
 {
     let state = c.state;
-    let old = is_old(state, c.number, h.number);
-    if old {
+    if is_old(state, c.number, h.number) {
         return Verdict::Refuse(Refusal::OldCall);
     }
-    let dispatched = records::is_dispatched(state);
-    if !dispatched {
+    if !records::is_dispatched(state) {
         return Verdict::Refuse(Refusal::NoRow);
     }
     Verdict::Go(nocall_row(c.resends))
@@ -342,16 +321,13 @@ fn fack(c: Client, h: Header, little: bool, body: &[u8]) -> Verdict
 {
     let state = c.state;
     let o = c.outgoing;
-    let old = is_old(state, c.number, h.number);
-    if old {
+    if is_old(state, c.number, h.number) {
         return Verdict::Refuse(Refusal::OldCall);
     }
-    let malformed = bodies::is_fack_malformed(body, little);
-    if malformed {
+    if bodies::is_fack_malformed(body, little) {
         return Verdict::Refuse(Refusal::MalformedBody);
     }
-    let active = records::is_active(state);
-    if !active {
+    if !records::is_active(state) {
         return Verdict::Refuse(Refusal::NoRow);
     }
     let count = facks::acknowledged_by(h.fragment);
@@ -376,34 +352,44 @@ fn cancel_ack(c: Client, h: Header, little: bool, body: &[u8]) -> Verdict
 {
     let state = c.state;
     let cancel = c.cancel;
-    let old = is_old(state, c.number, h.number);
-    if old {
+    if is_old(state, c.number, h.number) {
         return Verdict::Refuse(Refusal::OldCall);
     }
-    let malformed = bodies::is_cancel_ack_malformed(body, little);
-    if malformed {
+    if bodies::is_cancel_ack_malformed(body, little) {
         return Verdict::Refuse(Refusal::MalformedBody);
     }
-    let current = is_current(cancel, c.cancels, words::number32(body, 4, little));
-    if !current {
+    if !is_current(cancel, c.cancels, words::number32(body, 4, little)) {
         return Verdict::Refuse(Refusal::NoRow);
     }
     Verdict::Go(Row::CancelAck)
 }
 
-// 10 to 20, of a header and a body that were read, by the type.
-fn pdu(c: Client, h: Header, little: bool, body: &[u8]) -> Verdict
+// 13 to 20, of what the server answers a call with: types 2 to 6.
+fn answer(c: Client, h: Header, little: bool, body: &[u8]) -> Verdict
+    requires { ⌜ (2 ≤ h .kind) × (h .kind ≤ 6) ⌝ }
     ensures { λ r. ⌜ r ≡ pduVerdict c h little (now (body .entry)) ⌝ }
 {
     let kind = h.kind;
     match kind {
         2 => response(c, h, little, body),
-        3 | 6 => failure(c, h, little, body),
         4 => working(c, h, little, body),
         5 => nocall(c, h, little, body),
+        _ => failure(c, h, little, body),
+    }
+}
+
+// 10 to 20, of a header and a body that were read, by the type: the client takes 2 to 6, 9 and 10.
+fn pdu(c: Client, h: Header, little: bool, body: &[u8]) -> Verdict
+    ensures { λ r. ⌜ r ≡ pduVerdict c h little (now (body .entry)) ⌝ }
+{
+    let kind = h.kind;
+    match kind {
+        2..=6 => answer(c, h, little, body),
         9 => fack(c, h, little, body),
         10 => cancel_ack(c, h, little, body),
-        _ => Verdict::Refuse(Refusal::WrongSide),
+        0..=1 => Verdict::Refuse(Refusal::WrongSide),
+        7..=8 => Verdict::Refuse(Refusal::WrongSide),
+        11..=255 => Verdict::Refuse(Refusal::WrongSide),
     }
 }
 
@@ -413,8 +399,7 @@ fn of_mine(c: Client, h: Header, little: bool, body: &[u8]) -> Verdict
 {
     let mine = c.activity;
     let theirs = h.activity;
-    let same = words::same_uuid(mine, theirs);
-    if !same {
+    if !words::same_uuid(mine, theirs) {
         return Verdict::Refuse(Refusal::OtherActivity);
     }
     pdu(c, h, little, body)
@@ -424,12 +409,10 @@ fn of_mine(c: Client, h: Header, little: bool, body: &[u8]) -> Verdict
 pub fn arrival(c: Client, slots: usize, out: usize, d: &[u8]) -> Verdict
     ensures { λ r. ⌜ r ≡ arrivalVerdict c slots out (now (d .entry)) ⌝ }
 {
-    let lent = fragments::is_lent_right(slots, out);
-    if !lent {
+    if !fragments::is_lent_right(slots, out) {
         return Verdict::Refuse(Refusal::WrongLength);
     }
-    let sound = records::is_sound(c);
-    if !sound {
+    if !records::is_sound(c) {
         return Verdict::Refuse(Refusal::BrokenRecord);
     }
     let reading = reader::read(d);

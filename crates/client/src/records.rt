@@ -1,5 +1,5 @@
 // The client's record: what a console keeps of its activity, the rules that a record keeps, the ways in
-// which a row leaves its timers, the record with another part, and which timer a row arms.
+// which a row leaves its timers, the record with another part, and which timer an event names.
 use calls::Call;
 use incoming::Incoming;
 use outgoing::Outgoing;

@@ -47,11 +47,7 @@ fn going(c: Client, send: Send, notice: Notice) -> Plan
 fn failed(c: Client, notice: Notice) -> Plan
     ensures { λ r. ⌜ r ≡ failedPlan c notice ⌝ }
 {
-    going(
-        records::to_unarmed(c, State::Fault),
-        Send::Nothing,
-        notice,
-    )
+    going(records::to_unarmed(c, State::Fault), Send::Nothing, notice)
 }
 
 // The record of a call that starts with that number.
@@ -178,7 +174,11 @@ pub fn step(row: Row, c: Client) -> Plan
     match row {
         Row::Transmit(last) => going(transmitted(last, c), Send::Request(o.sent), Notice::Nothing),
         Row::Ping(waits) => going(pinged(c, waits), Send::Ping, Notice::Nothing),
-        Row::SendAck => going(records::to_unarmed(c, State::Complete), Send::Ack, Notice::Nothing),
+        Row::SendAck => going(
+            records::to_unarmed(c, State::Complete),
+            Send::Ack,
+            Notice::Nothing,
+        ),
         Row::Cancel(number) => going(cancelled(c, number), Send::Cancel(number), Notice::Nothing),
         Row::Response(p) => response(c, p),
         Row::Fault(status) => failed(c, Notice::Fault(status)),

@@ -1,6 +1,6 @@
 -- What is known of a datagram that takes a row.
 use Prim.Native.Nat.{ℕ, _≤_}
-use mathlib.Core.Bool.{Bool, true, false, false≢true}
+use mathlib.Core.Bool.{Bool, true, false, not, false≢true}
 use mathlib.Core.List.{List}
 use mathlib.Core.Logic.{_⊎_, inl, inr}
 use mathlib.Core.Path.{_≡_, refl, sym, ap, subst, _∙_}
@@ -8,18 +8,20 @@ use native.Mathlib.Omega.{arith}
 use lib.Dec.{eqb}
 use lib.ListN.{length}
 use borrow.Author.Tests.{not-false, eq-eqb}
+use Rattle.words.specs.Choice.{both}
 use Rattle.words.specs.Same.{same}
 use Rattle.words.specs.Sizes.{bodySize, pduSize, slotsSize}
-use Rattle.words.proofs.SameLaws.{same-equal}
-use Rattle.words.proofs.Tests.{choose-true, choose-false, either-false}
+use Rattle.words.proofs.SameLaws.{same-equal, same-self}
+use Rattle.words.proofs.Tests.{choose-true, choose-false, both-hold, either-false}
 use Rattle.answers.specs.declared.Refusal.{Refusal}
 use Rattle.answers.specs.declared.Refusal.the-variants.{OldCall, NoRow, Repeated}
 use Rattle.answers.specs.declared.Answer.the-variants.{Done, Refused}
-use Rattle.answers.proofs.TableLaws.{AllPassed, all-behind, passed-parts}
+use Rattle.answers.specs.Table.{firstOf}
+use Rattle.answers.proofs.TableLaws.{AllPassed, joined, all-behind, passed-parts}
 use Rattle.facks.specs.Mask.{acknowledgedBy}
 use Rattle.facks.proofs.MaskLaws.{acknowledges-most}
 use Rattle.fragments.specs.declared.Fragment.{Fragment}
-use Rattle.fragments.specs.Fragment.{isLast, wrongFragment}
+use Rattle.fragments.specs.Fragment.{lentRight, isLast, wrongFragment}
 use Rattle.fragments.specs.Judgement.{held, contradicts}
 use Rattle.fragments.specs.Put.{putOf}
 use Rattle.fragments.proofs.FlagLaws.{lent-right, put-can}
@@ -29,7 +31,7 @@ use Rattle.incoming.specs.Slots.{cleared}
 use Rattle.pdu.specs.declared.Header.{Header}
 use Rattle.pdu.specs.Header.{bodyOf}
 use Rattle.reader.specs.Reading.{readRefusals, reading}
-use Rattle.reader.proofs.Readable.{read-answers}
+use Rattle.reader.proofs.Readable.{read-answers, read-passed}
 use Rattle.writer.proofs.RoundTrip.{body-short}
 use Rattle.server.specs.declared.records.State.the-variants.{Collect}
 use Rattle.server.specs.declared.records.Server.{Server}
@@ -42,7 +44,7 @@ use Rattle.server.specs.declared.judge.Row.the-variants.{Reply as ReplyR
 use Rattle.server.specs.declared.judge.Verdict.{Verdict}
 use Rattle.server.specs.declared.judge.Verdict.the-variants.{Refuse, Go}
 use Rattle.server.specs.judge.Rows.{says, orderFor, requestPut, arrivalRow}
-use Rattle.server.specs.judge.Refusals.{isRequest, isMaybeOrBroadcast, isMalformed, puts, slotsFor, isHeldAlready, sameCall, isOtherCall, isContradiction, pduRefusals, arrivalRefusals, arrivalVerdict}
+use Rattle.server.specs.judge.Refusals.{isRequest, isMaybeOrBroadcast, isMalformed, puts, slotsFor, isHeldAlready, sameCall, isOtherCall, isContradiction, pduRefusals, pduVerdict, arrivalRefusals, arrivalVerdict}
 use Rattle.server.proofs.TableLaws.{Begins, RowTells, Stops, row-tells, table-stops}
 use Rattle.server.proofs.Judging.{CanBegin, CanCollect, CanTake, Judged, Takes, table-passed, second-fails}
 
@@ -208,3 +210,19 @@ arrive-taken s slots out d row e =
       told = tells;
       judged = record { kept = not-false (sound s) (told .0 .1 .0); can = row-can s h little body pdu short row tells };
     }
+
+-- A datagram that passes 1 to 9 is judged by the table of its PDU.
+pub entered-judged : (s : Server) (slots out : ℕ) (d : List ℕ) → slots ≡ slotsSize → out ≡ pduSize → sound s ≡ true → reading d .answer ≡ Done
+    → s .activity ≡ reading d .header .activity
+    → arrivalVerdict s slots out d ≡ pduVerdict s (reading d .header) (reading d .little) (bodyOf d)
+unfolding arrivalVerdict arrivalRefusals pduVerdict firstOf lentRight
+entered-judged s slots out d room buffer kept read own =
+    let h = reading d .header in
+    let row = arrivalRow s h (reading d .little) (bodyOf d) in
+    let lent = both-hold _ _ (eq-eqb slots slotsSize room) (eq-eqb out pduSize buffer) in
+    let named = ap (same (s .activity)) (sym own) ∙ same-self (s .activity) in
+    choose-false (not (both (eqb slots slotsSize) (eqb out pduSize))) _ _ (ap not lent)
+    ∙ choose-false (not (sound s)) _ _ (ap not kept)
+    ∙ joined Refuse (readRefusals d) _ row
+    ∙ all-behind Refuse (readRefusals d) _ (read-passed d read)
+    ∙ choose-false (not (same (s .activity) (h .activity))) _ _ (ap not named)

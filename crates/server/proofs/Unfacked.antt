@@ -8,7 +8,6 @@ use native.Mathlib.Omega.{arith}
 use lib.ListN.{length}
 use borrow.Author.Tests.{eqb-false}
 use Rattle.words.specs.Sizes.{bodySize, pduSize}
-use Rattle.answers.specs.declared.Refusal.the-variants.{NoRow}
 use Rattle.answers.specs.declared.Answer.the-variants.{Done}
 use Rattle.bodies.specs.Status.{statusBytes}
 use Rattle.bodies.specs.Cancel.{cancelAckBytes}
@@ -26,9 +25,6 @@ use Rattle.writer.proofs.Returns.{Sized}
 use Rattle.server.specs.declared.records.Server.{Server}
 use Rattle.server.specs.declared.judge.Row.{Row}
 use Rattle.server.specs.declared.judge.Row.the-variants.{Reply as ReplyRow, TransmitMore, TransmitRepeatable, TransmitHeld, FaultRepeatable, FaultHeld, ResendData, ResendFault, Spend, Begin, Put, Working, Nocall, Rewind, RepeatFault, Acknowledge, HearCancel, AcceptCancel, DeclineCancel}
-use Rattle.server.specs.declared.judge.Verdict.{Verdict}
-use Rattle.server.specs.declared.judge.Verdict.the-variants.{Go}
-use Rattle.server.specs.judge.Rows.{timerRow}
 use Rattle.server.specs.declared.step.Send.{Send}
 use Rattle.server.specs.declared.step.Send.the-variants.{Nothing, Response, Fault, Working as SendWorking, Nocall as SendNocall, Fack, CancelAck}
 use Rattle.server.specs.step.Plan.{going}
@@ -36,8 +32,7 @@ use Rattle.server.specs.step.Steps.{heardPlan, stepOf}
 use Rattle.server.specs.Sending.{echoed, echoHeader, replyHeader, responseSent, emptySent, sentOut}
 use Rattle.server.specs.declared.Outcome.{Outcome}
 use Rattle.server.specs.Machine.{refused, done, replying, sending, transmitting, timing, faulting}
-use Rattle.server.proofs.TableLaws.{refusal-no-row, same-row}
-use Rattle.server.proofs.Judging.{transmit-rows, fault-rows, timer-rows, transmit-taken, fault-taken, timer-taken}
+use Rattle.server.proofs.Judging.{transmit-rows, fault-rows, resend-rows, transmit-taken, fault-taken, timer-taken}
 use Rattle.server.proofs.Accepting.{reply-cases, transmit-accepted, fault-accepted, timer-accepted, transmit-is, fault-is, timer-is}
 use Rattle.server.proofs.Sends.{fault-whole, empty-whole, cancel-ack-short, cancel-ack-whole}
 
@@ -177,18 +172,14 @@ fault-unfacked s status out is =
     (sym (fault-is s (a .row) status out (a .is))) (step-unfacked s blank (a .row) [] out other (omega arith) (j .buffer))
 
 -- nor at the timer.
-timer-puts-none : (s : Server) (row : Row) → timerRow (s .state) (s .resends) ≡ Go row → putsFragment row ≡ false
-timer-puts-none s row =
-    timer-rows s (λ (v : Verdict). v ≡ Go row → putsFragment row ≡ false) (λ other is. absurd (refusal-no-row NoRow row is))
-    (λ held below is. sym (ap putsFragment (same-row _ row is))) (λ status held below is. sym (ap putsFragment (same-row _ row is)))
-    (λ held limit is. sym (ap putsFragment (same-row _ row is)))
-
 pub timer-unfacked : (s : Server) (ticket : ℕ) (out : List ℕ) → timing s ticket out .outcome .answer ≡ Done
     → SizedHeaders (timing s ticket out .outcome .server) blank
     → Unfacked (timing s ticket out .outcome .sent) (timing s ticket out .out)
 timer-unfacked s ticket out is =
     let a = timer-accepted s ticket out is in
     let j = timer-taken s ticket (length out) (a .row) (a .is) in
+    let other =
+    resend-rows s (a .row) (λ (r : Row). putsFragment r ≡ false) (j .is) (λ held below. refl) (λ status held below. refl) (λ held limit. refl) in
     subst (λ (x : Step Outcome). SizedHeaders (x .outcome .server) blank → Unfacked (x .outcome .sent) (x .out))
     (sym (timer-is s (a .row) ticket out (a .is)))
-    (step-unfacked s blank (a .row) [] out (timer-puts-none s (a .row) (j .is)) (omega arith) (j .buffer))
+    (step-unfacked s blank (a .row) [] out other (omega arith) (j .buffer))

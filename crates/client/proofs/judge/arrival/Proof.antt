@@ -6,7 +6,6 @@ use mathlib.Core.Path.{_≡_, sym, ap, _∙_}
 use borrow.Author.Needs.{needs}
 use Rattle.words.specs.Choice.{choose}
 use Rattle.words.proofs.Tests.{tests}
-use Rattle.answers.specs.declared.Answer.{Answer}
 use Rattle.answers.specs.declared.Refusal.the-variants.{WrongLength, BrokenRecord}
 use Rattle.answers.specs.Table.{firstOf, behindAnswer}
 use Rattle.answers.proofs.TableLaws.{joined, by-answer}
@@ -16,7 +15,7 @@ use Rattle.reader.proofs.Readable.{read-answers}
 use Rattle.fragments.specs.Fragment.{lentRight}
 use Rattle.client.specs.declared.records.Client.{Client}
 use Rattle.client.specs.declared.judge.Verdict.{Verdict}
-use Rattle.client.specs.declared.judge.Verdict.the-variants.{Refuse, Go}
+use Rattle.client.specs.declared.judge.Verdict.the-variants.{Refuse}
 use Rattle.client.specs.records.Rules.{sound}
 use Rattle.client.specs.judge.Refusals.{activityVerdict, arrivalRefusals, arrivalVerdict}
 use Rattle.client.proofs.judge.arrival.Statement.{statement}
@@ -40,32 +39,32 @@ returns c = rw (lines, ← c .before .is-lent-right .ensures) (search tests)
 returns-2 : tie.Need-returns-2
 unfolding behindAnswer
 returns-2 c = rw (
-      lines,
-      ← c .before .before .before .is-lent-right .ensures,
-      ← c .before .is-sound .ensures,
-    ) (search tests)
+  lines,
+  ← c .before .before .before .is-lent-right .ensures,
+  ← c .before .is-sound .ensures,
+) (search tests)
 
 returns-3 : tie.Need-returns-3
 unfolding behindAnswer
 returns-3 c = rw (
-      lines,
-      ← c .before .before .before .before .before .before .before .is-lent-right .ensures,
-      ← c .before .before .before .before .before .is-sound .ensures,
-      ← c .before .before .before .read .ensures,
-      c .before .answer .given .1,
-    ) (search tests)
+  lines,
+  ← c .before .before .before .before .before .before .before .is-lent-right .ensures,
+  ← c .before .before .before .before .before .is-sound .ensures,
+  ← c .before .before .before .read .ensures,
+  c .before .answer .given .1,
+) (search tests)
 
 returns-4 : tie.Need-returns-4
 unfolding behindAnswer
 returns-4 c = rw (
-      lines,
-      ← c .before .before .before .before .before .before .before .before .is-lent-right .ensures,
-      ← c .before .before .before .before .before .before .is-sound .ensures,
-      ← c .before .before .before .before .read .ensures,
-      ← c .before .body .ensures,
-      ← c .of-mine .ensures,
-      c .before .before .enum-told .given .1,
-    ) (search tests)
+  lines,
+  ← c .before .before .before .before .before .before .before .before .is-lent-right .ensures,
+  ← c .before .before .before .before .before .before .is-sound .ensures,
+  ← c .before .before .before .before .read .ensures,
+  ← c .before .body .ensures,
+  ← c .of-mine .ensures,
+  c .before .before .enum-told .given .1,
+) (search tests)
 
 pub arrival-spec : {M : Type 1} → statement M
 arrival-spec =

@@ -22,11 +22,11 @@ returns-3 c = rw (← c .before .before .before .is-sound .ensures, ← c .befor
 returns-4 : tie.Need-returns-4
 unfolding cancelVerdict cancelRefusals cancelRow firstOf
 returns-4 c = rw (
-      ← c .before .before .before .before .before .is-sound .ensures,
-      ← c .before .before .before .may-cancel .ensures,
-      ← c .before .wrapping-add-u32 .ensures,
-      ← c .with-ticket .ensures,
-    ) (search tests)
+  ← c .before .before .before .before .before .is-sound .ensures,
+  ← c .before .before .before .may-cancel .ensures,
+  ← c .before .wrapping-add-u32 .ensures,
+  ← c .with-ticket .ensures,
+) (search tests)
 
 pub cancel-spec : {M : Type 1} → statement M
 cancel-spec =

@@ -38,7 +38,7 @@ lines : (c : Client) (h : Header) (little : Bool) (body : List ℕ) → h .kind 
     (choose (contradicts (c .incoming) (h .fragment) (isLast (h .flags1))) (Refuse Contradiction)
     (choose (both (arms c (Response (fragment c h body))) (usedUp (c .tickets))) (Refuse TicketsUsedUp)
     (Go (Response (fragment c h body))))))))
-unfolding pduVerdict pduRefusals firstOf arrivalRow isResponse isMalformed isContradiction isForClient rowIn isRow armsTimer arms both either choose
+unfolding pduVerdict pduRefusals firstOf arrivalRow isResponse isMalformed isContradiction isForClient rowIn isRow armsTimer both either choose
 lines c h little body e = by-test (isActive (c .state)) (λ is. rw (e, is)) (λ is. rw (e, is))
 
 returns : tie.Need-returns

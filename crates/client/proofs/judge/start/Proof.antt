@@ -21,21 +21,21 @@ returns-3 c = rw (← c .before .before .before .is-sound .ensures, ← c .befor
 returns-4 : tie.Need-returns-4
 unfolding startVerdict startRefusals firstOf
 returns-4 c = rw (
-      ← c .before .before .before .before .before .before .before .is-sound .ensures,
-      ← c .before .before .before .before .before .may-start .ensures,
-      ← c .before .before .before .is-queued .ensures,
-      ← c .before .both .ensures,
-    ) (search tests)
+  ← c .before .before .before .before .before .before .before .is-sound .ensures,
+  ← c .before .before .before .before .before .may-start .ensures,
+  ← c .before .before .before .is-queued .ensures,
+  ← c .before .both .ensures,
+) (search tests)
 
 returns-5 : tie.Need-returns-5
 unfolding startVerdict startRefusals firstOf
 returns-5 c = rw (
-      ← c .before .before .before .before .before .before .before .before .is-sound .ensures,
-      ← c .before .before .before .before .before .before .may-start .ensures,
-      ← c .before .before .before .before .is-queued .ensures,
-      ← c .before .before .both .ensures,
-      ← c .next-number .ensures,
-    ) (search tests)
+  ← c .before .before .before .before .before .before .before .before .is-sound .ensures,
+  ← c .before .before .before .before .before .before .may-start .ensures,
+  ← c .before .before .before .before .is-queued .ensures,
+  ← c .before .before .both .ensures,
+  ← c .next-number .ensures,
+) (search tests)
 
 pub start-spec : {M : Type 1} → statement M
 start-spec =

@@ -21,22 +21,22 @@ returns-3 c = rw (← c .before .before .before .is-sound .ensures, ← c .befor
 returns-4 : tie.Need-returns-4
 unfolding timerVerdict timerRefusals firstOf
 returns-4 c = rw (
-      ← c .before .before .before .before .before .before .is-sound .ensures,
-      ← c .before .before .before .before .is-named .ensures,
-      ← c .before .before .timer-of .ensures,
-      ← c .before .is-armed-with .ensures,
-    ) (search tests)
+  ← c .before .before .before .before .before .before .is-sound .ensures,
+  ← c .before .before .before .before .is-named .ensures,
+  ← c .before .before .timer-of .ensures,
+  ← c .before .is-armed-with .ensures,
+) (search tests)
 
 returns-5 : tie.Need-returns-5
 unfolding timerVerdict timerRefusals firstOf
 returns-5 c = rw (
-      ← c .before .before .before .before .before .before .before .before .is-sound .ensures,
-      ← c .before .before .before .before .before .before .is-named .ensures,
-      ← c .before .before .before .before .timer-of .ensures,
-      ← c .before .before .before .is-armed-with .ensures,
-      ← c .before .timer-row .ensures,
-      ← c .with-ticket .ensures,
-    ) (search tests)
+  ← c .before .before .before .before .before .before .before .before .is-sound .ensures,
+  ← c .before .before .before .before .before .before .is-named .ensures,
+  ← c .before .before .before .before .timer-of .ensures,
+  ← c .before .before .before .is-armed-with .ensures,
+  ← c .before .timer-row .ensures,
+  ← c .with-ticket .ensures,
+) (search tests)
 
 pub timer-spec : {M : Type 1} → statement M
 timer-spec =

@@ -14,28 +14,28 @@ returns c = rw (← c .before .before .is-sending .ensures, ← c .before .is-tr
 returns-2 : tie.Need-returns-2
 unfolding transmitVerdict transmitRefusals transmitRow firstOf
 returns-2 c = rw (
-      ← c .before .before .before .before .is-sending .ensures,
-      ← c .before .before .before .is-transmit-lent .ensures,
-      ← c .before .is-sound .ensures,
-    ) (search tests)
+  ← c .before .before .before .before .is-sending .ensures,
+  ← c .before .before .before .is-transmit-lent .ensures,
+  ← c .before .is-sound .ensures,
+) (search tests)
 
 returns-3 : tie.Need-returns-3
 unfolding transmitVerdict transmitRefusals transmitRow firstOf
 returns-3 c = rw (
-      ← c .before .before .before .before .before .is-sending .ensures,
-      ← c .before .before .before .before .is-transmit-lent .ensures,
-      ← c .before .before .is-sound .ensures,
-    ) (search tests)
+  ← c .before .before .before .before .before .is-sending .ensures,
+  ← c .before .before .before .before .is-transmit-lent .ensures,
+  ← c .before .before .is-sound .ensures,
+) (search tests)
 
 returns-4 : tie.Need-returns-4
 unfolding transmitVerdict transmitRefusals transmitRow firstOf
 returns-4 c = rw (
-      ← c .before .before .before .before .before .before .before .is-sending .ensures,
-      ← c .before .before .before .before .before .before .is-transmit-lent .ensures,
-      ← c .before .before .before .before .is-sound .ensures,
-      ← c .before .sends-last .ensures,
-      ← c .with-ticket .ensures,
-    ) (search tests)
+  ← c .before .before .before .before .before .before .before .is-sending .ensures,
+  ← c .before .before .before .before .before .before .is-transmit-lent .ensures,
+  ← c .before .before .before .before .is-sound .ensures,
+  ← c .before .sends-last .ensures,
+  ← c .with-ticket .ensures,
+) (search tests)
 
 pub transmit-spec : {M : Type 1} → statement M
 transmit-spec =

@@ -27,7 +27,7 @@ lines : (c : Client) (h : Header) (little : Bool) (body : List ℕ) → h .kind 
     (choose (not (isDispatched (c .state))) (Refuse NoRow)
     (choose (both (arms c Working) (usedUp (c .tickets))) (Refuse TicketsUsedUp)
     (Go Working)))
-unfolding pduVerdict pduRefusals firstOf arrivalRow isResponse isMalformed isContradiction isForClient rowIn isRow armsTimer arms both either choose
+unfolding pduVerdict pduRefusals firstOf arrivalRow isResponse isMalformed isContradiction isForClient rowIn isRow armsTimer both either choose
 lines c h little body e = by-test (isDispatched (c .state)) (λ is. rw (e, is)) (λ is. rw (e, is))
 
 returns : tie.Need-returns

@@ -1,4 +1,4 @@
--- `client_record::arm_cancel` meets its contract.
+-- `client::records::arm_cancel` meets its contract.
 use Rattle.client.specs.records.Record.{cancelArmed}
 use borrow.Author.Needs.{needs}
 use Rattle.client.proofs.records.arm_cancel.Statement.{statement}

@@ -1,4 +1,4 @@
--- `client_record::counts_are_sound` meets its contract.
+-- `client::records::counts_are_sound` meets its contract.
 use Rattle.words.proofs.Tests.{tests}
 use Rattle.client.specs.records.Rules.{countsSound}
 use borrow.Author.Needs.{needs}

@@ -1,4 +1,4 @@
--- `client_record::disarm_cancel` meets its contract.
+-- `client::records::disarm_cancel` meets its contract.
 use Rattle.client.specs.records.Record.{cancelDisarmed}
 use borrow.Author.Needs.{needs}
 use Rattle.client.proofs.records.disarm_cancel.Statement.{statement}

@@ -1,4 +1,4 @@
--- `client_record::fresh` meets its contract.
+-- `client::records::fresh` meets its contract.
 use Rattle.client.specs.records.Record.{fresh}
 use borrow.Author.Needs.{needs}
 use Rattle.client.proofs.records.fresh.Statement.{statement}

@@ -1,4 +1,4 @@
--- `client_record::is_ack_pending` meets its contract.
+-- `client::records::is_ack_pending` meets its contract.
 use Rattle.words.proofs.Tests.{tests}
 use Rattle.client.specs.records.States.{isAckPending}
 use borrow.Author.Needs.{needs}

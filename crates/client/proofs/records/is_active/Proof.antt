@@ -1,4 +1,4 @@
--- `client_record::is_active` meets its contract.
+-- `client::records::is_active` meets its contract.
 use Rattle.words.proofs.Tests.{tests}
 use Rattle.client.specs.records.States.{isActive}
 use borrow.Author.Needs.{needs}

@@ -1,4 +1,4 @@
--- `client_record::is_dispatched` meets its contract.
+-- `client::records::is_dispatched` meets its contract.
 use Rattle.words.proofs.Tests.{tests}
 use Rattle.client.specs.records.States.{isDispatched}
 use borrow.Author.Needs.{needs}

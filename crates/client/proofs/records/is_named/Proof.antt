@@ -1,4 +1,4 @@
--- `client_record::is_named` meets its contract.
+-- `client::records::is_named` meets its contract.
 use borrow.Author.Needs.{needs}
 use Rattle.client.specs.records.Arming.{namedBy}
 use Rattle.client.proofs.records.is_named.Statement.{statement}

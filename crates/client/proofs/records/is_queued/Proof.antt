@@ -1,4 +1,4 @@
--- `client_record::is_queued` meets its contract.
+-- `client::records::is_queued` meets its contract.
 use Rattle.words.proofs.Tests.{tests}
 use Rattle.client.specs.records.States.{isQueued}
 use borrow.Author.Needs.{needs}

@@ -1,4 +1,4 @@
--- `client_record::is_sending` meets its contract.
+-- `client::records::is_sending` meets its contract.
 use Rattle.words.proofs.Tests.{tests}
 use Rattle.client.specs.records.States.{isSending}
 use borrow.Author.Needs.{needs}

@@ -14,26 +14,26 @@ returns c = rw (← c .before .counts-are-sound .ensures) (search (tests, not-tr
 returns-2 : tie.Need-returns-2
 unfolding sound both
 returns-2 c = rw (
-      ← c .before .before .before .counts-are-sound .ensures,
-      ← c .before .outgoing-is-sound .ensures,
-    ) (search (tests, not-true, not-false))
+  ← c .before .before .before .counts-are-sound .ensures,
+  ← c .before .outgoing-is-sound .ensures,
+) (search (tests, not-true, not-false))
 
 returns-3 : tie.Need-returns-3
 unfolding sound both
 returns-3 c = rw (
-      ← c .before .before .before .before .before .counts-are-sound .ensures,
-      ← c .before .before .before .outgoing-is-sound .ensures,
-      ← c .before .is-sound .ensures,
-    ) (search (tests, not-true, not-false))
+  ← c .before .before .before .before .before .counts-are-sound .ensures,
+  ← c .before .before .before .outgoing-is-sound .ensures,
+  ← c .before .is-sound .ensures,
+) (search (tests, not-true, not-false))
 
 returns-4 : tie.Need-returns-4
 unfolding sound both
 returns-4 c = rw (
-      ← c .before .before .before .before .before .before .counts-are-sound .ensures,
-      ← c .before .before .before .before .outgoing-is-sound .ensures,
-      ← c .before .before .is-sound .ensures,
-      ← c .timers-are-sound .ensures,
-    ) (search (tests, not-true, not-false))
+  ← c .before .before .before .before .before .before .counts-are-sound .ensures,
+  ← c .before .before .before .before .outgoing-is-sound .ensures,
+  ← c .before .before .is-sound .ensures,
+  ← c .timers-are-sound .ensures,
+) (search (tests, not-true, not-false))
 
 pub is-sound-spec : {M : Type 1} → statement M
 is-sound-spec =

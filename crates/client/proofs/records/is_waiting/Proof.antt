@@ -1,4 +1,4 @@
--- `client_record::is_waiting` meets its contract.
+-- `client::records::is_waiting` meets its contract.
 use Rattle.words.proofs.Tests.{tests}
 use Rattle.client.specs.records.States.{isWaiting}
 use borrow.Author.Needs.{needs}

@@ -1,4 +1,4 @@
--- `client_record::may_start` meets its contract.
+-- `client::records::may_start` meets its contract.
 use Rattle.words.proofs.Tests.{tests}
 use Rattle.client.specs.records.States.{mayStart}
 use borrow.Author.Needs.{needs}

@@ -1,4 +1,4 @@
--- `client_record::message_rule` meets its contract.
+-- `client::records::message_rule` meets its contract.
 use Rattle.words.proofs.Tests.{tests}
 use Rattle.client.specs.records.Rules.{messageRule}
 use borrow.Author.Needs.{needs}

@@ -1,4 +1,4 @@
--- `client_record::outgoing_is_sound` meets its contract.
+-- `client::records::outgoing_is_sound` meets its contract.
 use Rattle.client.specs.records.Rules.{outgoingSound}
 use borrow.Author.Needs.{needs}
 use Rattle.client.proofs.records.outgoing_is_sound.Statement.{statement}

@@ -1,4 +1,4 @@
--- `client_record::timer_of` meets its contract.
+-- `client::records::timer_of` meets its contract.
 use Rattle.client.specs.records.Arming.{namedTimer}
 use Rattle.words.proofs.Tests.{tests}
 use borrow.Author.Needs.{needs}

@@ -1,4 +1,4 @@
--- `client_record::timers_are_sound` meets its contract.
+-- `client::records::timers_are_sound` meets its contract.
 use Rattle.client.specs.records.Rules.{timersSound}
 use borrow.Author.Needs.{needs}
 use Rattle.client.proofs.records.timers_are_sound.Statement.{statement}

@@ -1,4 +1,4 @@
--- `client_record::to_ack_pending` meets its contract.
+-- `client::records::to_ack_pending` meets its contract.
 use Rattle.client.specs.records.Record.{ackPending}
 use borrow.Author.Needs.{needs}
 use Rattle.client.proofs.records.to_ack_pending.Statement.{statement}

@@ -1,4 +1,4 @@
--- `client_record::to_sending` meets its contract.
+-- `client::records::to_sending` meets its contract.
 use Rattle.client.specs.records.Record.{sending}
 use borrow.Author.Needs.{needs}
 use Rattle.client.proofs.records.to_sending.Statement.{statement}

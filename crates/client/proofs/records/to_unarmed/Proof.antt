@@ -1,4 +1,4 @@
--- `client_record::to_unarmed` meets its contract.
+-- `client::records::to_unarmed` meets its contract.
 use Rattle.words.proofs.Tests.{tests}
 use Rattle.client.specs.records.Record.{unarmed}
 use borrow.Author.Needs.{needs}

@@ -1,4 +1,4 @@
--- `client_record::to_waiting` meets its contract.
+-- `client::records::to_waiting` meets its contract.
 use Rattle.client.specs.records.Record.{waiting}
 use borrow.Author.Needs.{needs}
 use Rattle.client.proofs.records.to_waiting.Statement.{statement}

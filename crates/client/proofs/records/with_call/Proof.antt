@@ -1,4 +1,4 @@
--- `client_record::with_call` meets its contract.
+-- `client::records::with_call` meets its contract.
 use borrow.Author.Needs.{needs}
 use Rattle.client.proofs.records.with_call.Statement.{statement}
 use Rattle.client.proofs.records.with_call.Tie as tie

@@ -1,4 +1,4 @@
--- `client_record::with_cancels` meets its contract.
+-- `client::records::with_cancels` meets its contract.
 use Rattle.client.specs.records.Record.{withCancels}
 use Rattle.words.proofs.Tests.{tests}
 use Rattle.client.proofs.records.with_cancels.Statement.{statement}

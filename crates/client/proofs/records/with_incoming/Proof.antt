@@ -1,4 +1,4 @@
--- `client_record::with_incoming` meets its contract.
+-- `client::records::with_incoming` meets its contract.
 use Rattle.client.specs.records.Record.{withIncoming}
 use Rattle.words.proofs.Tests.{tests}
 use Rattle.client.proofs.records.with_incoming.Statement.{statement}

@@ -1,4 +1,4 @@
--- `client_record::with_outgoing` meets its contract.
+-- `client::records::with_outgoing` meets its contract.
 use Rattle.client.specs.records.Record.{withOutgoing}
 use Rattle.words.proofs.Tests.{tests}
 use Rattle.client.proofs.records.with_outgoing.Statement.{statement}

@@ -1,4 +1,4 @@
--- `client_record::with_resends` meets its contract.
+-- `client::records::with_resends` meets its contract.
 use Rattle.client.specs.records.Record.{withResends}
 use Rattle.words.proofs.Tests.{tests}
 use Rattle.client.proofs.records.with_resends.Statement.{statement}

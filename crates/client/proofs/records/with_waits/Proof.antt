@@ -1,4 +1,4 @@
--- `client_record::with_waits` meets its contract.
+-- `client::records::with_waits` meets its contract.
 use Rattle.client.specs.records.Record.{withWaits}
 use Rattle.words.proofs.Tests.{tests}
 use Rattle.client.proofs.records.with_waits.Statement.{statement}

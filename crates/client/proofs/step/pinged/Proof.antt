@@ -7,11 +7,11 @@ use Rattle.client.proofs.step.pinged.Tie as tie
 returns : tie.Need-returns
 unfolding pinged
 returns c = rw (
-      c .with-waits .ensures,
-      c .before .to-waiting .ensures,
-      c .before .before .with-outgoing .ensures,
-      c .before .before .before .after-ping .ensures,
-    )
+  c .with-waits .ensures,
+  c .before .to-waiting .ensures,
+  c .before .before .with-outgoing .ensures,
+  c .before .before .before .after-ping .ensures,
+)
 
 pub pinged-spec : {M : Type 1} → statement M
 pinged-spec =

@@ -7,11 +7,11 @@ use Rattle.client.proofs.step.resent.Tie as tie
 returns : tie.Need-returns
 unfolding resent
 returns c = rw (
-      c .with-resends .ensures,
-      c .before .to-sending .ensures,
-      c .before .before .with-outgoing .ensures,
-      c .before .before .before .rewind .ensures,
-    )
+  c .with-resends .ensures,
+  c .before .to-sending .ensures,
+  c .before .before .with-outgoing .ensures,
+  c .before .before .before .rewind .ensures,
+)
 
 pub resent-spec : {M : Type 1} → statement M
 resent-spec =

@@ -7,12 +7,12 @@ use Rattle.client.proofs.step.response.Tie as tie
 returns : tie.Need-returns
 unfolding responsePlan
 returns c = rw (
-      c .put-notice .ensures,
-      c .before .fack-for .ensures,
-      c .before .before .received .ensures,
-      c .before .before .before .put-into .ensures,
-      c .before .before .before .before .put-record .ensures,
-    )
+  c .put-notice .ensures,
+  c .before .fack-for .ensures,
+  c .before .before .received .ensures,
+  c .before .before .before .put-into .ensures,
+  c .before .before .before .before .put-record .ensures,
+)
 
 pub response-spec : {M : Type 1} → statement M
 response-spec =

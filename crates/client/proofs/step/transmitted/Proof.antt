@@ -8,10 +8,10 @@ use Rattle.client.proofs.step.transmitted.Tie as tie
 returns : tie.Need-returns
 unfolding transmitted
 returns c = rw (
-      c .to-waiting .ensures,
-      c .before .before .with-outgoing .ensures,
-      c .before .before .before .after-send .ensures,
-    ) (search tests)
+  c .to-waiting .ensures,
+  c .before .before .with-outgoing .ensures,
+  c .before .before .before .after-send .ensures,
+) (search tests)
 
 returns-2 : tie.Need-returns-2
 unfolding transmitted
