@@ -2,7 +2,7 @@
 use Prim.Native.Nat.{ℕ, _≤_}
 use mathlib.Core.Bool.{Bool, true, false, not, false≢true}
 use mathlib.Core.List.{List}
-use mathlib.Core.Logic.{_⊎_, inl, inr}
+use mathlib.Core.Logic.{inl, inr}
 use mathlib.Core.Path.{_≡_, refl, sym, ap, subst, _∙_}
 use native.Mathlib.Omega.{arith}
 use lib.Dec.{eqb}
@@ -20,9 +20,8 @@ use Rattle.answers.specs.Table.{firstOf}
 use Rattle.answers.proofs.TableLaws.{AllPassed, joined, all-behind, passed-parts}
 use Rattle.facks.specs.Mask.{acknowledgedBy}
 use Rattle.facks.proofs.MaskLaws.{acknowledges-most}
-use Rattle.fragments.specs.declared.Fragment.{Fragment}
 use Rattle.fragments.specs.Fragment.{lentRight, isLast, wrongFragment}
-use Rattle.fragments.specs.Judgement.{held, contradicts}
+use Rattle.fragments.specs.Judgement.{contradicts}
 use Rattle.fragments.specs.Put.{putOf}
 use Rattle.fragments.proofs.FlagLaws.{lent-right, put-can}
 use Rattle.fragments.proofs.PutLaws.{CanPut}
@@ -135,7 +134,8 @@ module _ (s : Server) (h : Header) (little : Bool) (body : List ℕ)
       short = omega arith;
     }
 
-    put-can-take : h .kind ≡ 0 → orderFor s h ≡ Equal → s .state ≡ Collect → CanCollect s h (requestPut (s .incoming) h body)
+    put-can-take : h .kind ≡ 0 → orderFor s h ≡ Equal → s .state ≡ Collect
+        → CanCollect s h (requestPut (s .incoming) h body)
     unfolding requestPut putOf puts slotsFor
     put-can-take k equal state = record {
       collect = state;
@@ -185,7 +185,8 @@ pub record ArriveTaken (s : Server) (slots out : ℕ) (d : List ℕ) (row : Row)
   pub told : RowTells row s (reading d .header) (reading d .little) (bodyOf d)
   pub judged : Judged s (reading d .header) row
 
-pub arrive-taken : (s : Server) (slots out : ℕ) (d : List ℕ) (row : Row) → arrivalVerdict s slots out d ≡ Go row → ArriveTaken s slots out d row
+pub arrive-taken : (s : Server) (slots out : ℕ) (d : List ℕ) (row : Row) → arrivalVerdict s slots out d ≡ Go row
+    → ArriveTaken s slots out d row
 unfolding arrivalVerdict arrivalRefusals
 arrive-taken s slots out d row e =
     let h = reading d .header in
@@ -212,7 +213,8 @@ arrive-taken s slots out d row e =
     }
 
 -- A datagram that passes 1 to 9 is judged by the table of its PDU.
-pub entered-judged : (s : Server) (slots out : ℕ) (d : List ℕ) → slots ≡ slotsSize → out ≡ pduSize → sound s ≡ true → reading d .answer ≡ Done
+pub entered-judged : (s : Server) (slots out : ℕ) (d : List ℕ) → slots ≡ slotsSize → out ≡ pduSize → sound s ≡ true
+    → reading d .answer ≡ Done
     → s .activity ≡ reading d .header .activity
     → arrivalVerdict s slots out d ≡ pduVerdict s (reading d .header) (reading d .little) (bodyOf d)
 unfolding arrivalVerdict arrivalRefusals pduVerdict firstOf lentRight

@@ -33,7 +33,7 @@ use Rattle.server.specs.declared.judge.Row.{Row}
 use Rattle.server.specs.declared.judge.Row.the-variants.{HearCancel, AcceptCancel, DeclineCancel}
 use Rattle.server.specs.declared.judge.Verdict.{Verdict}
 use Rattle.server.specs.declared.judge.Verdict.the-variants.{Refuse, Go}
-use Rattle.server.specs.judge.Rows.{says, orderOf, orderFor, runningCancel, cancelEqual, cancelRow, isForServer, arrivalRow}
+use Rattle.server.specs.judge.Rows.{says, orderOf, orderFor, runningCancel, cancelEqual, cancelRow, isForServer}
 use Rattle.server.specs.judge.Refusals.{isRequest, isMalformed, isContradiction, pduRefusals, pduVerdict, arrivalVerdict}
 use Rattle.server.specs.Machine.{refused, arrivalBy, arriving}
 use Rattle.server.proofs.TableLaws.{choice-by, newer-ordered, equal-ordered, below-ordered, cancel-arrives}
@@ -113,7 +113,8 @@ idle-row (Held reply) seen n e = absurd (false≢true e)
 
 -- and of any order it is 13, 15, or one of three rows.
 pub cancel-rows : (s : Server) (order : Order) (n : ℕ) (P : Verdict → Type 0) → P (Refuse OldCall) → P (Refuse NoRow)
-    → (s .state ≡ Running → s .seen < n → P (Go (HearCancel n))) → (s .state ≡ Running → n ≤ s .seen → P (Go (AcceptCancel n)))
+    → (s .state ≡ Running → s .seen < n → P (Go (HearCancel n)))
+    → (s .state ≡ Running → n ≤ s .seen → P (Go (AcceptCancel n)))
     → (isRunning (s .state) ≡ false → P (Go (DeclineCancel n))) → P (cancelRow order (s .state) (s .seen) n)
 unfolding cancelRow cancelEqual runningCancel isRunning
 cancel-rows s order n P old none hear accept decline = by-order order
@@ -133,7 +134,8 @@ cancel-rows s order n P old none hear accept decline = by-order order
     by-order Newer = none
 
 -- Only a number below is old.
-unold : (s : Server) (order : Order) (n : ℕ) → (order ≡ Newer) ⊎ (order ≡ Equal) → says OldCall (cancelRow order (s .state) (s .seen) n) ≡ false
+unold : (s : Server) (order : Order) (n : ℕ) → (order ≡ Newer) ⊎ (order ≡ Equal)
+    → says OldCall (cancelRow order (s .state) (s .seen) n) ≡ false
 unfolding cancelRow says
 unold s order n (inl e) = ap (λ (x : Order). says OldCall (cancelRow x (s .state) (s .seen) n)) e
 unold s order n (inr e) = ap (λ (x : Order). says OldCall (cancelRow x (s .state) (s .seen) n)) e ∙ by-state (s .state)
@@ -151,7 +153,8 @@ not-below fresh mine theirs (inl e) = inl (newer-ordered fresh mine theirs (inl 
 not-below true mine theirs (inr most) = inl (newer-ordered true mine theirs (inl refl))
 not-below false mine theirs (inr most) = by-order (ltb mine theirs) refl
   where
-    by-order : (t : Bool) → ltb mine theirs ≡ t → (orderOf false mine theirs ≡ Newer) ⊎ (orderOf false mine theirs ≡ Equal)
+    by-order : (t : Bool) → ltb mine theirs ≡ t
+        → (orderOf false mine theirs ≡ Newer) ⊎ (orderOf false mine theirs ≡ Equal)
     by-order true e = inl (newer-ordered false mine theirs (inr (ltb-true mine theirs e)))
     by-order false e = let least = ltb-false mine theirs e in inr (equal-ordered false mine theirs refl (omega (arith, least)))
 
@@ -227,7 +230,8 @@ module _ (s : Server) (datagram slots out : List ℕ) where
         answered-by OldCall (judged ∙ choose-true (says OldCall row) _ _ (ap (says OldCall) is))
 
     -- Any other that is not well formed is 14,
-    pub malformed-cancel : (isFresh (s .state) ≡ true) ⊎ (s .number ≤ h .number) → (WellFormed datagram → ⊥) → answer ≡ Refused MalformedBody
+    pub malformed-cancel : (isFresh (s .state) ≡ true) ⊎ (s .number ≤ h .number) → (WellFormed datagram → ⊥)
+        → answer ≡ Refused MalformedBody
     unfolding orderFor
     malformed-cancel known other =
         let order = not-below (isFresh (s .state)) (s .number) (h .number) known in

@@ -272,6 +272,7 @@ module _ (s : Server) (datagram slots out : List ℕ) where
       by-cancel (λ (x : Arrival Outcome). (x .outcome .notice ≡ Untold) × (x .outcome .server ≡ s)) typed (λ r. (refl, refl))
       (λ runs above. absurd (unheard runs above why)) (refl, refl) (refl, refl)
     where
-      unheard : s .state ≡ Running → s .seen < cancelNumber datagram → (isRunning (s .state) ≡ false) ⊎ (cancelNumber datagram ≤ s .seen) → ⊥
+      unheard : s .state ≡ Running → s .seen < cancelNumber datagram
+          → (isRunning (s .state) ≡ false) ⊎ (cancelNumber datagram ≤ s .seen) → ⊥
       unheard runs above (inl stopped) = false≢true (sym stopped ∙ ap isRunning runs)
       unheard runs above (inr seen) = omega (arith, above, seen)

@@ -52,7 +52,8 @@ use Rattle.server.proofs.Arriving.{ArriveTaken, arrive-taken}
 use Rattle.server.proofs.Accepting.{reply-accepted, transmit-accepted, arrive-accepted, reply-is, transmit-is, arrive-is}
 
 -- A reply gives the message's fragment count.
-pub reply-count : (s : Server) (n : ℕ) → replying s n .answer ≡ Done → replying s n .server .outgoing .count ≡ fragments n
+pub reply-count : (s : Server) (n : ℕ) → replying s n .answer ≡ Done
+    → replying s n .server .outgoing .count ≡ fragments n
 unfolding done stepOf going answered unarmed withOutgoing replied
 reply-count s n is =
     let a = reply-accepted s n is in
@@ -106,7 +107,8 @@ module _ (s : Server) (datagram slots out : List ℕ) where
   held-then row taken = ap (λ (x : Arrival Outcome). x .outcome .server .incoming) (arrive-is s row datagram slots out taken)
 
   -- and where a body lies that one stores.
-  stored-then : (row : Row) → Taken row → (f : ℕ) → stepOf row s h .store ≡ At f → f ≡ h .fragment → h .fragment ≤ lastNumber
+  stored-then : (row : Row) → Taken row → (f : ℕ) → stepOf row s h .store ≡ At f → f ≡ h .fragment
+      → h .fragment ≤ lastNumber
       → arriving s datagram slots out .slots ≡ putAt (bodySize * h .fragment) (bodyOf datagram) slots
   unfolding acted storing
   stored-then row taken f store is number =
@@ -152,7 +154,8 @@ module _ (s : Server) (datagram slots out : List ℕ) where
         (rules-told s (j .judged .kept) .incoming) (put-here (s .incoming) p (j .told .3) (j .judged .can .can))
 
     -- and its body lies in its place;
-    pub put-bytes : Taken (Put p) → arriving s datagram slots out .slots ≡ putAt (bodySize * h .fragment) (bodyOf datagram) slots
+    pub put-bytes : Taken (Put p)
+        → arriving s datagram slots out .slots ≡ putAt (bodySize * h .fragment) (bodyOf datagram) slots
     unfolding stepOf putPlan
     put-bytes taken =
         let j = known (Put p) taken in
@@ -173,7 +176,8 @@ module _ (s : Server) (datagram slots out : List ℕ) where
         ∙ stored-held cleared (h .fragment) (length (bodyOf datagram)) (isLast (h .flags1)) cleared-sound
         (put-here cleared p (j .told .2) (j .judged .can .can))
 
-    pub begin-bytes : Taken (Begin p) → arriving s datagram slots out .slots ≡ putAt (bodySize * h .fragment) (bodyOf datagram) slots
+    pub begin-bytes : Taken (Begin p)
+        → arriving s datagram slots out .slots ≡ putAt (bodySize * h .fragment) (bodyOf datagram) slots
     unfolding stepOf putPlan
     begin-bytes taken =
         let j = known (Begin p) taken in

@@ -12,9 +12,9 @@ use Rattle.words.specs.Sizes.{pduSize}
 use Rattle.calls.specs.declared.Sent.{Sent}
 use Rattle.calls.specs.declared.Sent.the-variants.{Nothing as Unsent}
 use Rattle.calls.specs.Events.{Arrival}
-use Rattle.calls.specs.Sent.{sentHeader, Posting, sentBytes}
+use Rattle.calls.specs.Sent.{sentHeader, sentBytes}
 use Rattle.calls.proofs.PostLaws.{same-fits}
-use Rattle.incoming.specs.Slots.{cleared, contiguous}
+use Rattle.incoming.specs.Slots.{contiguous}
 use Rattle.incoming.proofs.RuleLaws.{kept-by}
 use Rattle.outgoing.specs.Sending.{noMessage}
 use Rattle.facks.specs.Mask.{lastContiguous, maskOf}
@@ -41,7 +41,7 @@ use Rattle.server.specs.judge.Rows.{requestPut}
 use Rattle.server.specs.judge.Refusals.{arrivalVerdict}
 use Rattle.server.specs.declared.step.Plan.{Plan}
 use Rattle.server.specs.declared.step.Send.{Send}
-use Rattle.server.specs.declared.step.Send.the-variants.{Nothing, Fack}
+use Rattle.server.specs.declared.step.Send.the-variants.{Fack}
 use Rattle.server.specs.step.Plan.{going}
 use Rattle.server.specs.step.Steps.{begun, fackFor, putPlan, heardPlan, stepOf}
 use Rattle.server.specs.Sending.{echoed, echoHeader, sentOut}
@@ -84,7 +84,8 @@ puts-stored s h (AcceptCancel n) = refl
 puts-stored s h (DeclineCancel n) = refl
 
 -- A request that is put is answered by what its flags ask for: a fack of what is held then.
-put-sends : (s : Server) (h : Header) (little : Bool) (body : List ℕ) (row : Row) → putsFragment row ≡ true → RowTells row s h little body
+put-sends : (s : Server) (h : Header) (little : Bool) (body : List ℕ) (row : Row) → putsFragment row ≡ true
+    → RowTells row s h little body
     → stepOf row s h .send ≡ fackFor (wantsFack (h .flags1)) (h .serial) (contiguous (stepOf row s h .server .incoming))
 unfolding stepOf putPlan begun withIncoming requestPut putOf
 put-sends s h little body (ReplyRow n) e told = absurd told
@@ -117,7 +118,8 @@ put-sends s h little body (DeclineCancel n) e told = absurd (false≢true e)
 
 -- The fack that a plan sends, of what its record holds, tells it.
 plan-tells : (plan : Plan) (h : Header) (out : List ℕ) → sound (plan .server) ≡ true → length out ≡ pduSize
-    → plan .send ≡ Fack (h .serial) (contiguous (plan .server .incoming)) → Fits (echoHeader 9 0 (plan .server) h) → h .serial < 65536
+    → plan .send ≡ Fack (h .serial) (contiguous (plan .server .incoming)) → Fits (echoHeader 9 0 (plan .server) h)
+    → h .serial < 65536
     → let posted = sentOut (plan .send) (plan .server) h [] out in
     TellsHeld (plan .server .incoming) (h .number) (plan .server .outgoing .serial) (h .serial) (sentBytes (posted .sent) (posted .out))
 unfolding echoHeader sentHeader sentOut maskOf
@@ -182,7 +184,8 @@ module _ (s : Server) (datagram slots out : List ℕ) (row : Row)
       ∙ ap (λ (x : Send). sentOut x (stepOf row s h .server) h [] out .sent) send
 
   -- What is not put gets no fack.
-  pub others-unfacked : putsFragment row ≡ false → SizedHeaders after h → Unfacked sent (arriving s datagram slots out .out)
+  pub others-unfacked : putsFragment row ≡ false → SizedHeaders after h
+      → Unfacked sent (arriving s datagram slots out .out)
   unfolding acted
   others-unfacked other =
       subst (λ (x : Arrival Outcome). SizedHeaders (x .outcome .server) h → Unfacked (x .outcome .sent) (x .out))

@@ -47,7 +47,8 @@ abbrev pub DeafRow : Server → Header → Row → Type 0
 DeafRow s h row = Deaf s (stepOf row s h .notice) (stepOf row s h .server)
 
 -- Every row is so but a begin, a put and a cancel that is heard.
-pub row-deaf : (s : Server) (h : Header) (P : Row → Type 0) → ((row : Row) → DeafRow s h row → P row) → ((p : Fragment) → P (Begin p))
+pub row-deaf : (s : Server) (h : Header) (P : Row → Type 0) → ((row : Row) → DeafRow s h row → P row)
+    → ((p : Fragment) → P (Begin p))
     → ((p : Fragment) → P (Put p)) → ((n : ℕ) → P (HearCancel n)) → (row : Row) → P row
 unfolding stepOf going answered transmitted repeatable rewinding acknowledged holding unarmed withOutgoing withResends
 row-deaf s h P deaf begin put hear (ReplyRow n) = deaf _ (record { untold = refl; seen = refl })
@@ -142,7 +143,8 @@ heard-row s h =
     (λ p told. absurd (false≢true (sym (put-unheard (p .complete)) ∙ told))) (λ n told. record { number = n; is = refl })
 
 -- Every row but a begin leaves the number last seen as it was or raises it.
-row-raises : (s : Server) (h : Header) (row : Row) → CanTake row s h → ((p : Fragment) → row ≡ Begin p → ⊥) → s .seen ≤ stepOf row s h .server .seen
+row-raises : (s : Server) (h : Header) (row : Row) → CanTake row s h → ((p : Fragment) → row ≡ Begin p → ⊥)
+    → s .seen ≤ stepOf row s h .server .seen
 unfolding stepOf putPlan heardPlan withIncoming withSeen unarmed
 row-raises s h =
     row-deaf s h (λ (row : Row). CanTake row s h → ((p : Fragment) → row ≡ Begin p → ⊥) → s .seen ≤ stepOf row s h .server .seen)

@@ -44,7 +44,8 @@ fresh-sound activity boot tickets =
 
 module _ (s : Server) where
   -- To HELD with RESEND armed, where a ticket is left.
-  pub holding-sound : (reply : Reply) → Untimed (Held reply) (s .resends) (s .outgoing) (s .incoming) → usedUp (s .tickets) ≡ false
+  pub holding-sound : (reply : Reply) → Untimed (Held reply) (s .resends) (s .outgoing) (s .incoming)
+      → usedUp (s .tickets) ≡ false
       → sound (holding s reply) ≡ true
   unfolding holding isHeld
   holding-sound reply b free =
@@ -57,7 +58,8 @@ module _ (s : Server) where
       })
 
   -- To a state with nothing armed.
-  pub unarmed-sound : (state : State) → Untimed state (s .resends) (s .outgoing) (s .incoming) → sound (unarmed s state) ≡ true
+  pub unarmed-sound : (state : State) → Untimed state (s .resends) (s .outgoing) (s .incoming)
+      → sound (unarmed s state) ≡ true
   unfolding unarmed
   unarmed-sound state b =
       rules-hold (unarmed s state)

@@ -17,7 +17,7 @@ use Rattle.outgoing.specs.Sending.{noMessage, bounded, hasNothing, hasMessage, 
 use Rattle.outgoing.proofs.SendLaws.{message-count-range, replied-bounded, replied-message, replied-below, sent-more, sent-bounded, sent-message, acknowledged-bounded, rewound-below, rewound-bounded, rewound-message}
 use Rattle.pdu.specs.declared.Header.{Header}
 use Rattle.timers.proofs.TimerLaws.{off-sound}
-use Rattle.server.specs.declared.records.Idle.the-variants.{Spent, Repeatable}
+use Rattle.server.specs.declared.records.Idle.the-variants.{Repeatable}
 use Rattle.server.specs.declared.records.Reply.the-variants.{Data, Fault}
 use Rattle.server.specs.declared.records.State.{State}
 use Rattle.server.specs.declared.records.State.the-variants.{Idle as IdleState, Collect, Running, Replying, Held}
@@ -35,14 +35,16 @@ use Rattle.server.proofs.RecordLaws.{Untimed, untimed-told, holding-sou
 use Rattle.server.proofs.Judging.{CanTransmitMore, Judged}
 
 -- To IDLE repeatable, from what could be held.
-repeatable-sound : (s : Server) (state : State) → Untimed state (s .resends) (s .outgoing) (s .incoming) → sound (repeatable s) ≡ true
+repeatable-sound : (s : Server) (state : State) → Untimed state (s .resends) (s .outgoing) (s .incoming)
+    → sound (repeatable s) ≡ true
 unfolding repeatable
 repeatable-sound s state b =
     unarmed-sound s (IdleState Repeatable)
     (record { count = b .count; outgoing = repeatable-holds (s .outgoing) state (b .outgoing); held = b .held })
 
 -- To REPLYING at the first unacknowledged fragment, from HELD with data.
-rewinding-sound : (s : Server) → Untimed (Held Data) (s .resends) (s .outgoing) (s .incoming) → sound (rewinding s) ≡ true
+rewinding-sound : (s : Server) → Untimed (Held Data) (s .resends) (s .outgoing) (s .incoming)
+    → sound (rewinding s) ≡ true
 unfolding rewinding withOutgoing
 rewinding-sound s b =
     let message = data-told (s .outgoing) (b .outgoing) in
@@ -56,7 +58,8 @@ rewinding-sound s b =
     })
 
 -- A request is put where no message is out: to COLLECT, or to RUNNING where all is held.
-putting-sound : (s : Server) (p : Fragment) → leb (s .resends) retryLimit ≡ true → outgoingSound Collect (s .outgoing) ≡ true
+putting-sound : (s : Server) (p : Fragment) → leb (s .resends) retryLimit ≡ true
+    → outgoingSound Collect (s .outgoing) ≡ true
     → incomingSound (putInto (s .incoming) p) ≡ true → sound (putPlan s p .server) ≡ true
 unfolding putPlan withIncoming unarmed putState messageRule choose
 putting-sound s p count out right =
@@ -79,7 +82,8 @@ module _ (s : Server) (kept : sound s ≡ true) where
   out-in state is = subst (λ (x : State). outgoingSound x (s .outgoing) ≡ true) is (rules-told s kept .outgoing)
 
   -- so what no timer touches is told for it, whatever the count is then.
-  untimed-in : (state : State) (resends : ℕ) → s .state ≡ state → resends ≤ retryLimit → Untimed state resends (s .outgoing) (s .incoming)
+  untimed-in : (state : State) (resends : ℕ) → s .state ≡ state → resends ≤ retryLimit
+      → Untimed state resends (s .outgoing) (s .incoming)
   untimed-in state resends is few =
       record { count = le-leb resends retryLimit few; outgoing = out-in state is; held = rules-told s kept .incoming }
 
@@ -98,7 +102,8 @@ module _ (s : Server) (kept : sound s ≡ true) where
       })
 
   -- In REPLYING a fragment is left to send, of at most 32,
-  fragment-left : isReplying (s .state) ≡ true → (s .outgoing .sent < s .outgoing .count) × (s .outgoing .count ≤ lastNumber + 1)
+  fragment-left : isReplying (s .state) ≡ true
+      → (s .outgoing .sent < s .outgoing .count) × (s .outgoing .count ≤ lastNumber + 1)
   fragment-left replies =
       let told = replying-told (s .outgoing) (out-in Replying (replying-state (s .state) replies)) in
       (told .1, message-count-range (s .outgoing) (told .0) .1)
@@ -109,7 +114,8 @@ module _ (s : Server) (kept : sound s ≡ true) where
   transmitted-one-more replies = sent-more (s .outgoing) (fragment-left replies .0) (fragment-left replies .1)
 
   -- of a message that is within its bounds,
-  sent-told : isReplying (s .state) ≡ true → (bounded (afterSend (s .outgoing)) ≡ true) × (hasMessage (afterSend (s .outgoing)) ≡ true)
+  sent-told : isReplying (s .state) ≡ true
+      → (bounded (afterSend (s .outgoing)) ≡ true) × (hasMessage (afterSend (s .outgoing)) ≡ true)
   sent-told replies =
       let out = out-in Replying (replying-state (s .state) replies) in (
         sent-bounded (s .outgoing) (out-told (s .outgoing) Replying out .0) (fragment-left replies .0) (fragment-left replies .1),
@@ -144,7 +150,8 @@ module _ (s : Server) (kept : sound s ≡ true) where
       })
 
   -- A fault can be held from RUNNING.
-  fault-untimed : (status : ℕ) → isRunning (s .state) ≡ true → Untimed (Held (Fault status)) (s .resends) (s .outgoing) (s .incoming)
+  fault-untimed : (status : ℕ) → isRunning (s .state) ≡ true
+      → Untimed (Held (Fault status)) (s .resends) (s .outgoing) (s .incoming)
   unfolding messageRule heldRule
   fault-untimed status runs =
       let r = rules-told s kept in
@@ -156,7 +163,8 @@ module _ (s : Server) (kept : sound s ≡ true) where
       }
 
   -- Put, in COLLECT: where what is held after the put keeps its rules.
-  pub put-sound : (p : Fragment) → s .state ≡ Collect → incomingSound (putInto (s .incoming) p) ≡ true → sound (putPlan s p .server) ≡ true
+  pub put-sound : (p : Fragment) → s .state ≡ Collect → incomingSound (putInto (s .incoming) p) ≡ true
+      → sound (putPlan s p .server) ≡ true
   put-sound p state right = putting-sound s p (rules-told s kept .count) (out-in Collect state) right
 
   -- Fack: where no more is acknowledged than the message has.

@@ -14,17 +14,15 @@ use Rattle.answers.specs.declared.Refusal.the-variants.{OldCall, NoRow, Repeate
 use Rattle.bodies.specs.Cancel.{cancelNumberIn}
 use Rattle.facks.specs.Mask.{acknowledgedBy}
 use Rattle.flags.specs.Flags.{idempotent, hasFlag}
-use Rattle.fragments.specs.declared.Fragment.{Fragment}
 use Rattle.incoming.specs.Slots.{cleared}
 use Rattle.pdu.specs.declared.Header.{Header}
-use Rattle.server.specs.declared.records.Idle.{Idle}
 use Rattle.server.specs.declared.records.Idle.the-variants.{Fresh, Spent, Repeatable}
 use Rattle.server.specs.declared.records.Reply.{Reply}
 use Rattle.server.specs.declared.records.Reply.the-variants.{Data, Fault}
 use Rattle.server.specs.declared.records.State.{State}
 use Rattle.server.specs.declared.records.State.the-variants.{Idle as IdleState, Collect, Running, Replying, Held}
 use Rattle.server.specs.declared.records.Server.{Server}
-use Rattle.server.specs.records.States.{isFresh, isIdle, isRunning, isHeld}
+use Rattle.server.specs.records.States.{isIdle, isRunning, isHeld}
 use Rattle.server.specs.declared.judge.Order.{Order}
 use Rattle.server.specs.declared.judge.Order.the-variants.{Below, Equal, Newer}
 use Rattle.server.specs.declared.judge.Row.{Row}
@@ -34,7 +32,8 @@ use Rattle.server.specs.declared.judge.Verdict.the-variants.{Refuse, Go}
 use Rattle.server.specs.judge.Rows.{isRow, says, orderBy, orderOf, orderFor, replayRow, requestNewer, requestAgain, requestIdle, requestEqual, requestRow, pingEqual, pingRow, whereReplied, acknowledgementRow, ackRow, runningCancel, cancelEqual, cancelRow, requestPut, isForServer, arrivalRow}
 
 -- What is known of both ways of a choice, by its test, is known of it.
-pub choice-by : {A : Type 0} (P : A → Type 0) (t : Bool) (a b : A) → (t ≡ true → P a) → (t ≡ false → P b) → P (choose t a b)
+pub choice-by : {A : Type 0} (P : A → Type 0) (t : Bool) (a b : A) → (t ≡ true → P a) → (t ≡ false → P b)
+    → P (choose t a b)
 unfolding choose
 choice-by P true a b holds fails = holds refl
 choice-by P false a b holds fails = fails refl
@@ -63,7 +62,8 @@ module _ (fresh : Bool) (mine theirs : ℕ) where
       by-number true e f = (f, eqb-true mine theirs e)
       by-number false e f = tt
 
-      by-order : (t : Bool) → ltb mine theirs ≡ t → fresh ≡ false → OrderTells fresh mine theirs (choose t Newer (choose (eqb mine theirs) Equal Below))
+      by-order : (t : Bool) → ltb mine theirs ≡ t → fresh ≡ false
+          → OrderTells fresh mine theirs (choose t Newer (choose (eqb mine theirs) Equal Below))
       by-order true e f = inr (ltb-true mine theirs e)
       by-order false e f = by-number (eqb mine theirs) refl f
 
@@ -165,7 +165,8 @@ Tells s h little body (Refuse r) = Stops h (Refuse r)
 Tells s h little body (Go row) = RowTells row s h little body
 
 -- What stands in REPLYING and HELD alone is what it is, where it has a row.
-replied-row : (order : Order) (state : State) (v : Verdict) (row : Row) → acknowledgementRow order state v ≡ Go row → v ≡ Go row
+replied-row : (order : Order) (state : State) (v : Verdict) (row : Row) → acknowledgementRow order state v ≡ Go row
+    → v ≡ Go row
 unfolding acknowledgementRow whereReplied
 replied-row Below state v row e = absurd (refusal-no-row OldCall row e)
 replied-row Equal (IdleState idle) v row e = absurd (refusal-no-row NoRow row e)
@@ -223,7 +224,8 @@ module _ (s : Server) (h : Header) (little : Bool) (body : List ℕ) where
   request-tells Newer k o = request-newer-tells (s .state) k o refl
 
   -- a ping,
-  ping-equal-tells : (state : State) → h .kind ≡ 1 → orderFor s h ≡ Equal → s .state ≡ state → Tells s h little body (pingEqual state)
+  ping-equal-tells : (state : State) → h .kind ≡ 1 → orderFor s h ≡ Equal → s .state ≡ state
+      → Tells s h little body (pingEqual state)
   unfolding pingEqual says isIdle
   ping-equal-tells (IdleState idle) k o t = (k, inr (o, inl (ap isIdle t)))
   ping-equal-tells Collect k o t = (k, inr (o, inr t))
@@ -368,7 +370,8 @@ module _ (s : Server) (h : Header) (little : Bool) (body : List ℕ) where
       by-state (Held reply) e = refl
 
   -- and one of an equal number with the bit set does in IDLE repeatable.
-  pub again-begins : h .kind ≡ 0 → orderFor s h ≡ Equal → s .state ≡ IdleState Repeatable → hasFlag idempotent (h .flags1) ≡ true
+  pub again-begins : h .kind ≡ 0 → orderFor s h ≡ Equal → s .state ≡ IdleState Repeatable
+      → hasFlag idempotent (h .flags1) ≡ true
       → arrivalRow s h little body ≡ Go (Begin (requestPut cleared h body))
   unfolding requestRow requestEqual requestIdle requestAgain choose
   again-begins k equal state bit =
@@ -376,5 +379,6 @@ module _ (s : Server) (h : Header) (little : Bool) (body : List ℕ) where
       ∙ (λ i. requestRow (equal i) (state i) (bit i) (requestPut cleared h body) (requestPut (s .incoming) h body))
 
   -- A fack that has a row acknowledges.
-  pub fack-row : (row : Row) → h .kind ≡ 9 → arrivalRow s h little body ≡ Go row → row ≡ Acknowledge (acknowledgedBy (h .fragment))
+  pub fack-row : (row : Row) → h .kind ≡ 9 → arrivalRow s h little body ≡ Go row
+      → row ≡ Acknowledge (acknowledgedBy (h .fragment))
   fack-row row k is = sym (same-row _ row (replied-row (orderFor s h) (s .state) _ row (sym (fack-arrives k) ∙ is)))

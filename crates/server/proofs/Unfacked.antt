@@ -112,7 +112,8 @@ putsFragment (AcceptCancel n) = false
 putsFragment (DeclineCancel n) = false
 
 -- Every other row sends no fack,
-pub others-send : (s : Server) (h : Header) (row : Row) → putsFragment row ≡ false → isFack (stepOf row s h .send) ≡ false
+pub others-send : (s : Server) (h : Header) (row : Row) → putsFragment row ≡ false
+    → isFack (stepOf row s h .send) ≡ false
 unfolding stepOf going heardPlan
 others-send s h (ReplyRow n) e = refl
 others-send s h TransmitMore e = refl
@@ -135,7 +136,8 @@ others-send s h (AcceptCancel n) e = refl
 others-send s h (DeclineCancel n) e = refl
 
 -- so none goes out with it.
-pub step-unfacked : (s : Server) (h : Header) (row : Row) (lent out : List ℕ) → putsFragment row ≡ false → length lent ≤ bodySize
+pub step-unfacked : (s : Server) (h : Header) (row : Row) (lent out : List ℕ) → putsFragment row ≡ false
+    → length lent ≤ bodySize
     → length out ≡ pduSize → let x = sending (stepOf row s h) h lent out in
     SizedHeaders (x .outcome .server) h → Unfacked (x .outcome .sent) (x .out)
 unfolding sending done
