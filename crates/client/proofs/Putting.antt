@@ -1,24 +1,21 @@
 -- Only a response puts a fragment: every other row leaves what is held, stores nothing and sends no fack.
-use Prim.Native.Nat.{_+_}
 use mathlib.Core.Bool.{Bool, true, false, true≢false}
 use mathlib.Core.Path.{_≡_, refl}
-use lib.Dec.{ltb}
 use Rattle.words.specs.Choice.{choose}
-use Rattle.words.specs.Sizes.{retryLimit}
 use Rattle.fragments.specs.declared.Fragment.{Fragment}
 use Rattle.fragments.specs.declared.Stored.the-variants.{Nothing as Unstored}
 use Rattle.fragments.specs.Put.{putInto}
 use Rattle.client.specs.declared.records.Client.{Client}
 use Rattle.client.specs.declared.records.TimerKind.{TimerKind}
-use Rattle.client.specs.declared.records.TimerKind.the-variants.{Wait, Ack, Cancel as CancelKind}
 use Rattle.client.specs.declared.judge.Row.{Row}
 use Rattle.client.specs.declared.judge.Row.the-variants.{Transmit, Ping, SendAck, Cancel, Response, Fault, Reject, Working, Resend, GiveUp, Fack, CancelAck}
 use Rattle.client.specs.declared.step.Send.{Send}
 use Rattle.client.specs.declared.step.Send.the-variants.{Nothing, Request, Ping as SendPing, Ack as AckPdu, Fack as SendFack, Cancel as SendCancel}
 use Rattle.client.specs.records.Record.{waiting, sending as sendsAgain, unarmed, cancelArmed, cancelDisarmed, withOutgoing, withIncoming, withWaits, withResends, withCancels}
-use Rattle.client.specs.judge.Rows.{transmitRow, waitRow, timerRow, cancelRow}
+use Rattle.client.specs.judge.Rows.{transmitRow, timerRow, cancelRow}
 use Rattle.client.specs.step.Plan.{going, failed}
 use Rattle.client.specs.step.Steps.{transmitted, pinged, cancelled, responsePlan, workingPlan, resent, acknowledged, stepOf}
+use Rattle.client.proofs.RowLaws.{timer-rows}
 
 -- Only a response puts a fragment.
 abbrev pub puts : Row → Bool
@@ -72,14 +69,7 @@ unfolding transmitRow
 transmit-puts-none c = refl
 
 pub timer-puts-none : (kind : TimerKind) (c : Client) → puts (timerRow kind c) ≡ false
-unfolding timerRow waitRow choose
-timer-puts-none Wait c = by-count (ltb (c .waits) retryLimit)
-  where
-    by-count : (t : Bool) → puts (choose t (Ping (c .waits + 1)) (GiveUp 1)) ≡ false
-    by-count true = refl
-    by-count false = refl
-timer-puts-none Ack c = refl
-timer-puts-none CancelKind c = refl
+timer-puts-none = timer-rows (λ row. puts row ≡ false) (λ waits. refl) refl (λ cause. refl)
 
 pub cancel-puts-none : (c : Client) → puts (cancelRow c) ≡ false
 unfolding cancelRow

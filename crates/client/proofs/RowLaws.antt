@@ -1,4 +1,4 @@
--- Which row the table says of what arrives, and what is known of it then.
+-- Which row the table says of an event, and what is known of what arrives by its row.
 use Prim.Native.Nat.{ℕ, _+_, _≤_, _<_}
 use mathlib.Core.Bool.{Bool, true, false, not, false≢true}
 use mathlib.Core.List.{List}
@@ -20,12 +20,14 @@ use Rattle.fragments.specs.Put.{putOf}
 use Rattle.pdu.specs.declared.Header.{Header}
 use Rattle.timers.specs.Tickets.{off}
 use Rattle.client.specs.declared.records.Client.{Client}
+use Rattle.client.specs.declared.records.TimerKind.{TimerKind}
+use Rattle.client.specs.declared.records.TimerKind.the-variants.{Wait, Ack, Cancel as CancelKind}
 use Rattle.client.specs.declared.judge.Row.{Row}
 use Rattle.client.specs.declared.judge.Row.the-variants.{Transmit, Ping, SendAck, Cancel, Response, Fault, Reject, Working, Resend, GiveUp, Fack, CancelAck}
 use Rattle.client.specs.declared.judge.Verdict.{Verdict}
 use Rattle.client.specs.declared.judge.Verdict.the-variants.{Refuse, Go}
 use Rattle.client.specs.records.States.{isActive, isDispatched}
-use Rattle.client.specs.judge.Rows.{rowIn, isRow, nocallRow, isCurrent, arrivalRow}
+use Rattle.client.specs.judge.Rows.{rowIn, isRow, waitRow, timerRow, nocallRow, isCurrent, arrivalRow}
 
 -- A refusal is no row.
 pub unrowed : (row : Row) (r : Refusal) → Refuse r ≡ Go row → ⊥
@@ -167,3 +169,32 @@ module _ (c : Client) (h : Header) (little : Bool) (body : List ℕ) where
   unfolding arrivalRow choose
   cancel-ack-typed typed row e =
       sym (row-in (isCurrent (c .cancel) (c .cancels) (cancelNumberIn little body)) CancelAck row (rw typed at e) .1)
+
+  -- What holds of each row of an arrival holds of the row that one has,
+  pub arrival-rows : (P : Row → Type 0) → ((p : Fragment) → P (Response p)) → ((status : ℕ) → P (Fault status))
+      → ((status : ℕ) → P (Reject status)) → P Working → ((resends : ℕ) → P (Resend resends)) → ((cause : ℕ) → P (GiveUp cause))
+      → ((count : ℕ) → P (Fack count)) → P CancelAck → (row : Row) → ArrivesAs row → P row
+  arrival-rows P response fault reject working resend over fack ack (Transmit last) a = absurd a
+  arrival-rows P response fault reject working resend over fack ack (Ping waits) a = absurd a
+  arrival-rows P response fault reject working resend over fack ack SendAck a = absurd a
+  arrival-rows P response fault reject working resend over fack ack (Cancel number) a = absurd a
+  arrival-rows P response fault reject working resend over fack ack (Response p) a = response p
+  arrival-rows P response fault reject working resend over fack ack (Fault status) a = fault status
+  arrival-rows P response fault reject working resend over fack ack (Reject status) a = reject status
+  arrival-rows P response fault reject working resend over fack ack Working a = working
+  arrival-rows P response fault reject working resend over fack ack (Resend resends) a = resend resends
+  arrival-rows P response fault reject working resend over fack ack (GiveUp cause) a = over cause
+  arrival-rows P response fault reject working resend over fack ack (Fack count) a = fack count
+  arrival-rows P response fault reject working resend over fack ack CancelAck a = ack
+
+-- and what holds of each row of a timer, of the row that a timer event has.
+pub timer-rows : (P : Row → Type 0) → ((waits : ℕ) → P (Ping waits)) → P SendAck → ((cause : ℕ) → P (GiveUp cause))
+    → (kind : TimerKind) (c : Client) → P (timerRow kind c)
+unfolding timerRow waitRow choose
+timer-rows P ping ack over Wait c = by-count (ltb (c .waits) retryLimit)
+  where
+    by-count : (t : Bool) → P (choose t (Ping (c .waits + 1)) (GiveUp 1))
+    by-count true = ping (c .waits + 1)
+    by-count false = over 1
+timer-rows P ping ack over Ack c = ack
+timer-rows P ping ack over CancelKind c = over 3
