@@ -2,7 +2,6 @@
 use Prim.Native.Nat.{ℕ, _<_}
 use mathlib.Core.List.{List}
 use native.Mathlib.Omega.{arith}
-use Rattle.client.specs.arrivals.Rows.{received}
 use Rattle.incoming.specs.declared.Incoming.{Incoming}
 use Rattle.outgoing.specs.declared.Outgoing.{Outgoing}
 use Rattle.timers.specs.declared.Timer.{Timer}
@@ -12,6 +11,7 @@ use Rattle.client.specs.declared.records.State.{State}
 use Rattle.client.specs.declared.records.State.the-variants.{SendFrags, AckPending}
 use Rattle.client.specs.declared.records.Client.{Client}
 use Rattle.client.specs.records.Record.{fresh, timed, waiting, sending, ackPending, unarmed, cancelArmed, cancelDisarmed, withOutgoing, withWaits, withIncoming, withResends, withCancels}
+use Rattle.client.specs.step.Steps.{received}
 use Rattle.record_bytes.specs.Fits.{Uuid, FitsOutgoing, FitsIncoming, FitsTimer}
 use Rattle.record_bytes.proofs.Keeping.{no-message-fits, cleared-fits, next-ticket-fits, armed-fits, armed-if-off-fits, tickets-if-off-fits, blank-call-fits}
 use Rattle.client_bytes.specs.Fits.{FitsClient}

@@ -13,40 +13,29 @@ use Rattle.words.specs.Choice.{choose, either}
 use Rattle.words.specs.Number.{part, value, number}
 use Rattle.words.specs.Sizes.{headerSize}
 use Rattle.words.proofs.Tests.{both-true}
-use Rattle.answers.specs.declared.Answer.{Answer}
 use Rattle.answers.specs.declared.Answer.the-variants.{Done}
-use Rattle.answers.specs.Number.{numberOf}
+use Rattle.answers.proofs.NumberLaws.{zero-done}
 use Rattle.pdu.specs.declared.Header.{Header}
 use Rattle.pdu.specs.Header.{headerOf, bodyOf}
 use Rattle.reader.specs.declared.Reading.{Reading}
-use Rattle.reader.specs.Reading.{represents, orderIs, reading}
-use Rattle.writer.proofs.RoundTrip.{accepted-readable, accepted-reading}
-use Rattle.grounds.specs.Entry.{lentGround}
+use Rattle.reader.specs.Reading.{orderIs, reading}
+use Rattle.reader.proofs.Readable.{accepted-readable, accepted-reading}
 use Rattle.record_bytes.proofs.Keeping.{choice-keeps}
 use Rattle.client.proofs.Accepting.{arrive-accepted}
-use Rattle.client.proofs.Judging.{arrival-passes}
 use Rattle.history.specs.World.{SentPdu, World}
 use Rattle.history.specs.Events.{Lent, ClientArrive, OfClient}
 use Rattle.history.specs.Steps.{bytesLent, happens, answerTo}
 use Rattle.morphelai.specs.CodecDoor.{Codec, refusingCodec, codecRead}
-use Rattle.host_history.specs.Results.{answerAt}
 use Rattle.host_history.specs.HostReads.{typeByte, isLittle, activityCarried, callCarried, versionCarried, cancelCarried}
-use Rattle.host_history.proofs.Unpacking.{answer-back}
 
 -- What the client answers 0 was read,
 pub client-took : (w : World) (p : SentPdu) (lent : Lent) (out : List ℕ)
     → answerTo w (OfClient (ClientArrive p lent out)) ≡ Done → reading (p .bytes) .answer ≡ Done
 unfolding answerTo happens
 client-took w p lent out done =
-    let slots = bytesLent lent (w .client .slots) in
-    arrival-passes (w .client .machine) (lentGround (length slots) (length out)) (reading (p .bytes))
-    (bodyOf (p .bytes)) (arrive-accepted (w .client .machine) (p .bytes) slots out done) .0 .done
+    arrive-accepted (w .client .machine) (p .bytes) (bytesLent lent (w .client .slots)) out done .taken .read
 
 -- and so was what morphelai_read answers 0.
-zero-done : (a : Answer) → numberOf a ≡ 0 → a ≡ Done
-unfolding answerAt choose
-zero-done a e = sym (answer-back a) ∙ ap answerAt e
-
 pub read-took : (s header : List ℕ) → codecRead s header .result ≡ 0 → reading s .answer ≡ Done
 unfolding codecRead refusingCodec
 read-took s header =
@@ -54,15 +43,15 @@ read-took s header =
     (zero-done (reading s .answer)) (λ (never : 1 ≡ 0). absurd (omega (arith, never)))
 
 -- The order of a representation that is known is told by its first byte.
-order-there : (a b c : ℕ) → either (represents 16 a b c) (represents 0 a b c) ≡ true → represents 16 a b c ≡ eqb a 16
-unfolding represents
-order-there a b c known = by-order (represents 16 a b c) refl known
+order-there : (s : List ℕ) → either (orderIs 16 s) (orderIs 0 s) ≡ true → orderIs 16 s ≡ eqb (getD s 4 0) 16
+unfolding orderIs
+order-there s known = by-order (orderIs 16 s) refl known
   where
-    by-order : (little : Bool) → represents 16 a b c ≡ little → either little (represents 0 a b c) ≡ true
-        → little ≡ eqb a 16
-    by-order true e told = sym (both-true (eqb a 16) _ e .0)
+    by-order : (little : Bool) → orderIs 16 s ≡ little → either little (orderIs 0 s) ≡ true → little ≡ eqb (getD s 4 0) 16
+    by-order true e told = sym (both-true (eqb (getD s 4 0) 16) _ e .0)
     by-order false e told =
-        unfold either choose in sym (ap (λ (n : ℕ). eqb n 16) (eqb-true a 0 (both-true (eqb a 0) _ told .0)))
+        let zero : getD s 4 0 ≡ 0 = unfold either choose in eqb-true _ 0 (both-true (eqb (getD s 4 0) 0) _ told .0) in
+        sym (ap (λ (n : ℕ). eqb n 16) zero)
 
 -- A part of what is left of bytes.
 part-drop : (n k : ℕ) (s : List ℕ) (at : ℕ) → part n (drop k s) at ≡ part n s (k + at)
@@ -75,8 +64,7 @@ part-drop (suc n) k s at =
 module _ (s : List ℕ) (done : reading s .answer ≡ Done) where
   -- The sender's order is told by byte 4, and the header is read in it:
   order-same : orderIs 16 s ≡ isLittle s
-  unfolding orderIs
-  order-same = order-there (getD s 4 0) (getD s 5 0) (getD s 6 0) (accepted-readable s done .known-order)
+  order-same = order-there s (accepted-readable s done .known-order)
 
   little-there : reading s .little ≡ isLittle s
   little-there = ap (λ (r : Reading). r .little) (accepted-reading s done) ∙ order-same

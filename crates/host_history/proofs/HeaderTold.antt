@@ -22,7 +22,8 @@ use Rattle.reader.specs.declared.Reading.{Reading}
 use Rattle.reader.specs.Reading.{orderIs, reading}
 use Rattle.writer.specs.Writing.{writing}
 use Rattle.writer.proofs.Returns.{Sized, length-header}
-use Rattle.writer.proofs.RoundTrip.{Fits, read-written, accepted-readable, accepted-reading, body-short}
+use Rattle.reader.proofs.Readable.{accepted-readable, accepted-reading}
+use Rattle.writer.proofs.RoundTrip.{Fits, read-written, body-short}
 use Rattle.record_bytes.specs.Fits.{Octets}
 use Rattle.record_bytes.proofs.ByteLaws.{octet-at, number-below}
 use Rattle.record_bytes.proofs.HeldLaws.{placed-all}

@@ -7,16 +7,16 @@ use native.Mathlib.Omega.{arith}
 use lib.ListN.{length}
 use Rattle.words.specs.Number.{turned, part}
 use Rattle.words.specs.Sizes.{headerSize}
-use Rattle.answers.specs.declared.Ground.{Ground}
-use Rattle.answers.specs.declared.Ground.the-variants.{Pass, Refuse}
+use Rattle.answers.specs.declared.Answer.{Answer}
+use Rattle.answers.specs.declared.Answer.the-variants.{Done, Refused}
+use Rattle.answers.specs.Table.{answerOf}
 use Rattle.pdu.specs.declared.Header.{Header}
-use Rattle.bodies.specs.declared.CancelReading.{CancelReading}
-use Rattle.bodies.specs.Cancel.{cancelWhere, cancelReading}
+use Rattle.bodies.specs.Cancel.{cancelNumberIn}
 use Rattle.pdu.specs.Header.{uuidAt, headerOf, bodyOf, blank}
-use Rattle.reader.specs.Reading.{orderIs, groundBy, readBy, reading}
+use Rattle.reader.specs.Reading.{orderIs, readRefusals, readBy, reading}
 use Rattle.record_bytes.specs.Fits.{Octets, Uuid}
 use Rattle.record_bytes.proofs.ByteLaws.{octets-turned, octets-joined, octets-drop, octets-part, number-below}
-use Rattle.record_bytes.proofs.Keeping.{choice-keeps, blank-uuid}
+use Rattle.record_bytes.proofs.Keeping.{blank-uuid}
 
 -- What a header tells of its call fits a record.
 pub record FitsHeader (h : Header) : Type 0 where
@@ -69,21 +69,17 @@ blank-fits = record {
 }
 
 -- and so what reading gives of any bytes.
-read-fits : (g : Ground) (little : Bool) (h : Header) → FitsHeader h → FitsHeader (readBy g little h .header)
+read-fits : (a : Answer) (little : Bool) (h : Header) → FitsHeader h → FitsHeader (readBy a little h .header)
 unfolding readBy
-read-fits Pass little h fits = fits
-read-fits (Refuse a) little h fits = blank-fits
+read-fits Done little h fits = fits
+read-fits (Refused r) little h fits = blank-fits
 
 pub reading-fits : (s : List ℕ) → Octets s → FitsHeader (reading s .header)
 unfolding reading
 reading-fits s octets =
-    read-fits (groundBy s (orderIs 16 s) (orderIs 0 s)) (orderIs 16 s) (headerOf (orderIs 16 s) s)
-    (header-fits s octets (orderIs 16 s))
+    read-fits (answerOf (readRefusals s)) (orderIs 16 s) (headerOf (orderIs 16 s) s) (header-fits s octets (orderIs 16 s))
 
 -- The number of a cancel, whether it is well formed or not.
-pub cancel-number-fits : (s : List ℕ) (little : Bool) → Octets s
-    → cancelReading little (bodyOf s) .number < 4294967296
-unfolding cancelReading cancelWhere bodyOf
-cancel-number-fits s little octets =
-    choice-keeps (λ (r : CancelReading). r .number < 4294967296) _ _ _
-    (number-below 4 little (bodyOf s) 4 (octets-drop headerSize s octets)) (omega arith)
+pub cancel-number-fits : (s : List ℕ) (little : Bool) → Octets s → cancelNumberIn little (bodyOf s) < 4294967296
+unfolding bodyOf
+cancel-number-fits s little octets = number-below 4 little (bodyOf s) 4 (octets-drop headerSize s octets)

@@ -11,9 +11,12 @@ use Rattle.words.specs.Choice.{choose}
 use Rattle.words.specs.Place.{placed}
 use Rattle.words.specs.Sizes.{pduSize}
 use Rattle.words.proofs.Tests.{choose-false}
+use Rattle.answers.specs.declared.Refusal.{Refusal}
+use Rattle.answers.specs.declared.Refusal.the-variants.{WrongLength, BrokenRecord, NoRow}
 use Rattle.answers.specs.declared.Answer.{Answer}
-use Rattle.answers.specs.declared.Answer.the-variants.{Done, WrongLength, BrokenRecord, NoRow}
-use Rattle.answers.specs.Number.{numberOf}
+use Rattle.answers.specs.declared.Answer.the-variants.{Done, Refused as RefusedBy}
+use Rattle.answers.specs.Number.{refusalNumber, numberOf}
+use Rattle.answers.proofs.NumberLaws.{refused-not-done, zero-done}
 use Rattle.calls.specs.declared.Notice.{Notice}
 use Rattle.calls.specs.declared.Notice.the-variants.{Nothing as Untold}
 use Rattle.calls.specs.declared.Sent.{Sent}
@@ -22,9 +25,9 @@ use Rattle.history.specs.Steps.{isDone}
 use Rattle.record_bytes.proofs.Keeping.{choice-keeps}
 use Rattle.morphelai.specs.Result.{resultOf}
 use Rattle.morphelai.specs.Export.{Export, refusing, keptBytes, otherTimer, otherKind}
-use Rattle.host_history.specs.Results.{answerAt, answerIn, noticeIn, sentIn}
+use Rattle.host_history.specs.Results.{answerIn, noticeIn, sentIn}
 use Rattle.host_history.specs.Refusal.{Undone, Refused}
-use Rattle.host_history.proofs.Unpacking.{answer-back, result-answer, result-notice, result-sent, result-alone}
+use Rattle.host_history.proofs.Unpacking.{result-answer, result-notice, result-sent, result-alone}
 
 -- What is read of an answer's number alone.
 module _ (a : Answer) where
@@ -55,21 +58,20 @@ module _ (bytes slots out : List ℕ) where
   -- 1, of another length;
   pub refusing-refused : Refused (refusing bytes slots out) bytes slots out
   unfolding refusing
-  refusing-refused = left-refused WrongLength
+  refusing-refused = left-refused (RefusedBy WrongLength)
 
   -- and a timer of another kind: 1, 2 or 15.
   pub kind-refused : (sound : Bool) → Refused (otherKind sound bytes slots out) bytes slots out
   unfolding otherKind otherTimer
   kind-refused sound =
       choice-keeps (λ (n : ℕ). Refused (left n) bytes slots out) (not (eqb (length out) pduSize)) 1 _
-      (left-refused WrongLength)
-      (choice-keeps (λ (n : ℕ). Refused (left n) bytes slots out) (not sound) 2 15 (left-refused BrokenRecord)
-      (left-refused NoRow))
+      (left-refused (RefusedBy WrongLength))
+      (choice-keeps (λ (n : ℕ). Refused (left n) bytes slots out) (not sound) 2 15 (left-refused (RefusedBy BrokenRecord))
+      (left-refused (RefusedBy NoRow)))
 
 -- An answer that is not Done is not 0, and the bytes stay.
 pub not-zero : (a : Answer) → (a ≡ Done → ⊥) → isDone a ≡ false
-unfolding answerAt choose
-not-zero a other = ne-eqb (numberOf a) 0 (λ (e : numberOf a ≡ 0). other (sym (answer-back a) ∙ ap answerAt e))
+not-zero a other = ne-eqb (numberOf a) 0 (λ (e : numberOf a ≡ 0). other (zero-done a e))
 
 module _ (a : Answer) (n : Notice) (s : Sent) (next bytes slots out slots' out' : List ℕ) where
   abbrev pub given : Export
@@ -95,18 +97,16 @@ module _ (a : Answer) (n : Notice) (s : Sent) (next bytes slots out slots' out' 
 
 -- A refusal is not answered 0.
 module _ (bytes slots out : List ℕ) where
-  left-undone : (a : Answer) → (numberOf a ≡ 0 → ⊥) → Undone (left bytes slots out (numberOf a))
-  left-undone a other done = other (ap numberOf (sym (answer-alone a) ∙ done))
+  left-undone : (r : Refusal) → Undone (left bytes slots out (refusalNumber r))
+  left-undone r done = refused-not-done r (sym (answer-alone (RefusedBy r)) ∙ done)
 
   pub refusing-undone : Undone (refusing bytes slots out)
   unfolding refusing
-  refusing-undone = left-undone WrongLength (λ (e : 1 ≡ 0). omega arith)
+  refusing-undone = left-undone WrongLength
 
   pub kind-undone : (sound : Bool) → Undone (otherKind sound bytes slots out)
   unfolding otherKind otherTimer
   kind-undone sound =
-      choice-keeps (λ (n : ℕ). Undone (left bytes slots out n)) (not (eqb (length out) pduSize)) 1 _
-      (left-undone WrongLength (λ (e : 1 ≡ 0). omega arith))
-      (choice-keeps (λ (n : ℕ). Undone (left bytes slots out n)) (not sound) 2 15
-      (left-undone BrokenRecord (λ (e : 2 ≡ 0). omega arith))
-      (left-undone NoRow (λ (e : 15 ≡ 0). omega arith)))
+      choice-keeps (λ (n : ℕ). Undone (left bytes slots out n)) (not (eqb (length out) pduSize)) 1 _ (left-undone WrongLength)
+      (choice-keeps (λ (n : ℕ). Undone (left bytes slots out n)) (not sound) 2 15 (left-undone BrokenRecord)
+      (left-undone NoRow))

@@ -8,14 +8,15 @@ use lib.Dec.{eqb}
 use lib.ListN.{length}
 use borrow.Author.Tests.{eqb-true}
 use Rattle.words.specs.Sizes.{headerSize}
-use Rattle.answers.specs.declared.Ground.{Ground}
-use Rattle.answers.specs.declared.Ground.the-variants.{Pass, Refuse}
+use Rattle.answers.specs.declared.Answer.{Answer}
+use Rattle.answers.specs.declared.Answer.the-variants.{Done, Refused}
 use Rattle.answers.specs.Number.{numberOf}
+use Rattle.answers.specs.Table.{answerOf}
 use Rattle.pdu.specs.declared.Header.{Header}
 use Rattle.pdu.specs.Header.{headerOf}
 use Rattle.reader.specs.Reading.{reading}
 use Rattle.record_bytes.proofs.Keeping.{choice-by}
-use Rattle.writer.specs.Writing.{writeGround, writeBy, writing}
+use Rattle.writer.specs.Writing.{writeRefusals, writeBy, writing}
 use Rattle.morphelai.specs.Result.{packed}
 use Rattle.morphelai.specs.Export.{Export, refusing}
 use Rattle.morphelai.specs.ClientDoor.{clientFresh}
@@ -48,11 +49,11 @@ read-leaves datagram out =
     (λ wrong other. refl)
 
 -- The answer of a write stands in bits 0 to 7.
-written-leaves : (g : Ground) (h : Header) (body out : List ℕ)
-    → (codecWritten (writeBy g h body out) .result % 256 ≡ 0 → ⊥) → codecWritten (writeBy g h body out) .out ≡ out
+written-leaves : (a : Answer) (h : Header) (body out : List ℕ)
+    → (codecWritten (writeBy a h body out) .result % 256 ≡ 0 → ⊥) → codecWritten (writeBy a h body out) .out ≡ out
 unfolding codecWritten writtenResult writeBy packed
-written-leaves Pass h body out other = absurd (other (omega arith))
-written-leaves (Refuse a) h body out other = refl
+written-leaves Done h body out other = absurd (other (omega arith))
+written-leaves (Refused r) h body out other = refl
 
 pub write-leaves : (header body out : List ℕ) → (codecWrite header body out .result % 256 ≡ 0 → ⊥)
     → codecWrite header body out .out ≡ out
@@ -61,5 +62,5 @@ write-leaves header body out =
     choice-by (λ (c : Codec). (c .result % 256 ≡ 0 → ⊥) → c .out ≡ out) (eqb (length header) headerSize) _ (refusingCodec out)
     (λ whole.
     let h = headerOf true header in
-    written-leaves (writeGround (length out) (h .kind) (h .authentication) (length body)) h body out)
+    written-leaves (answerOf (writeRefusals (length out) (h .kind) (h .authentication) (length body))) h body out)
     (λ wrong other. refl)

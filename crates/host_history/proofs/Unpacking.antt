@@ -7,15 +7,17 @@ use borrow.Author.Tests.{ne-eqb}
 use Rattle.words.specs.Choice.{choose}
 use Rattle.words.specs.Sizes.{pduSize}
 use Rattle.words.proofs.Tests.{choose-false}
+use Rattle.answers.specs.declared.Refusal.the-variants.{WrongLength, BrokenRecord, ShortDatagram, WrongVersion, UnknownType, UnknownRepresentation, Authenticated, WrongBodyLength, OtherActivity, WrongSide, MaybeOrBroadcast, WrongFragment, OldCall, MalformedBody, NoRow, Repeated, Contradiction, LateTimer, NumbersUsedUp, TicketsUsedUp}
 use Rattle.answers.specs.declared.Answer.{Answer}
-use Rattle.answers.specs.declared.Answer.the-variants.{Done, WrongLength, BrokenRecord, ShortDatagram, WrongVersion, UnknownType, UnknownRepresentation, Authenticated, WrongBodyLength, OtherActivity, WrongSide, MaybeOrBroadcast, WrongFragment, OldCall, MalformedBody, NoRow, Repeated, Contradiction, LateTimer, NumbersUsedUp, TicketsUsedUp}
+use Rattle.answers.specs.declared.Answer.the-variants.{Done, Refused}
 use Rattle.answers.specs.Number.{numberOf}
+use Rattle.answers.proofs.NumberLaws.{refusal-numbered}
 use Rattle.calls.specs.declared.Notice.{Notice}
 use Rattle.calls.specs.declared.Notice.the-variants.{Nothing as Untold, Last, Count, Fault, Reject, Cause, Dispatch, Cancel}
 use Rattle.calls.specs.declared.Sent.{Sent}
 use Rattle.calls.specs.declared.Sent.the-variants.{Nothing, Pdu}
 use Rattle.morphelai.specs.Result.{noticeKind, noticeValue, sentLength, packed, resultOf}
-use Rattle.host_history.specs.Results.{answerAt, noticeAt, sentAt, answerIn, noticeIn, sentIn}
+use Rattle.host_history.specs.Results.{refusalAt, answerAt, noticeAt, sentAt, answerIn, noticeIn, sentIn}
 
 -- Each part of a result stands apart.
 module _ (a k l v : ℕ) (answer : a < 256) (kind : k < 256) (size : l < 65536) where
@@ -38,26 +40,7 @@ module _ (a k l v : ℕ) (answer : a < 256) (kind : k < 256) (size : l < 65536) 
 -- An answer's number, a notice's kind and a length fit their places.
 answer-small : (a : Answer) → numberOf a < 256
 answer-small Done = omega arith
-answer-small WrongLength = omega arith
-answer-small BrokenRecord = omega arith
-answer-small ShortDatagram = omega arith
-answer-small WrongVersion = omega arith
-answer-small UnknownType = omega arith
-answer-small UnknownRepresentation = omega arith
-answer-small Authenticated = omega arith
-answer-small WrongBodyLength = omega arith
-answer-small OtherActivity = omega arith
-answer-small WrongSide = omega arith
-answer-small MaybeOrBroadcast = omega arith
-answer-small WrongFragment = omega arith
-answer-small OldCall = omega arith
-answer-small MalformedBody = omega arith
-answer-small NoRow = omega arith
-answer-small Repeated = omega arith
-answer-small Contradiction = omega arith
-answer-small LateTimer = omega arith
-answer-small NumbersUsedUp = omega arith
-answer-small TicketsUsedUp = omega arith
+answer-small (Refused r) = omega (arith, refusal-numbered r)
 
 kind-small : (n : Notice) → noticeKind n < 256
 kind-small Untold = omega arith
@@ -74,35 +57,29 @@ length-small Nothing = omega arith
 length-small (Pdu n) = omega arith
 
 -- Each number is read as what it is the number of.
-refusal-back : (r : Refusal) → refusalAt (refusalNumber r) ≡ r
-unfolding refusalAt choose
-refusal-back WrongLength = refl
-refusal-back BrokenRecord = refl
-refusal-back ShortDatagram = refl
-refusal-back WrongVersion = refl
-refusal-back UnknownType = refl
-refusal-back UnknownRepresentation = refl
-refusal-back Authenticated = refl
-refusal-back WrongBodyLength = refl
-refusal-back OtherActivity = refl
-refusal-back WrongSide = refl
-refusal-back MaybeOrBroadcast = refl
-refusal-back WrongFragment = refl
-refusal-back OldCall = refl
-refusal-back MalformedBody = refl
-refusal-back NoRow = refl
-refusal-back Repeated = refl
-refusal-back Contradiction = refl
-refusal-back LateTimer = refl
-refusal-back NumbersUsedUp = refl
-refusal-back TicketsUsedUp = refl
-
 pub answer-back : (a : Answer) → answerAt (numberOf a) ≡ a
-unfolding answerAt choose
+unfolding answerAt refusalAt choose
 answer-back Done = refl
-answer-back (Refused r) =
-    choose-false (eqb (refusalNumber r) 0) Done _ (ne-eqb (refusalNumber r) 0 (omega (arith, refusal-numbered r)))
-    ∙ ap Refused (refusal-back r)
+answer-back (Refused WrongLength) = refl
+answer-back (Refused BrokenRecord) = refl
+answer-back (Refused ShortDatagram) = refl
+answer-back (Refused WrongVersion) = refl
+answer-back (Refused UnknownType) = refl
+answer-back (Refused UnknownRepresentation) = refl
+answer-back (Refused Authenticated) = refl
+answer-back (Refused WrongBodyLength) = refl
+answer-back (Refused OtherActivity) = refl
+answer-back (Refused WrongSide) = refl
+answer-back (Refused MaybeOrBroadcast) = refl
+answer-back (Refused WrongFragment) = refl
+answer-back (Refused OldCall) = refl
+answer-back (Refused MalformedBody) = refl
+answer-back (Refused NoRow) = refl
+answer-back (Refused Repeated) = refl
+answer-back (Refused Contradiction) = refl
+answer-back (Refused LateTimer) = refl
+answer-back (Refused NumbersUsedUp) = refl
+answer-back (Refused TicketsUsedUp) = refl
 
 notice-back : (n : Notice) → noticeAt (noticeKind n) (noticeValue n) ≡ n
 unfolding noticeAt choose
