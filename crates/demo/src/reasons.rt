@@ -3,6 +3,7 @@ use crate::console::ClientEvent;
 use crate::controller::ServerEvent;
 use crate::transcript::print;
 use answers::Answer;
+use answers::Refusal;
 use calls::Notice;
 use client::State as ClientState;
 use server::State as ServerState;
@@ -62,15 +63,15 @@ pub(crate) fn print_client(
             ClientEvent::Wait => print_waited(state),
             ClientEvent::Ack => print(b"say that the reply is there"),
         },
-        _ => print_client_refused(event, answer),
+        Answer::Refused(refusal) => print_client_refused(event, refusal),
     }
 }
 
-fn print_client_refused(event: ClientEvent, answer: Answer) {
+fn print_client_refused(event: ClientEvent, refusal: Refusal) {
     match event {
-        ClientEvent::Wait => print_timer_refused(answer),
-        ClientEvent::Ack => print_timer_refused(answer),
-        _ => print_refused(answer),
+        ClientEvent::Wait => print_timer_refused(refusal),
+        ClientEvent::Ack => print_timer_refused(refusal),
+        _ => print_refused(refusal),
     }
 }
 
@@ -135,33 +136,33 @@ pub(crate) fn print_server(
             ServerEvent::Transmit => print_server_transmitted(state),
             ServerEvent::Resend => print_resent(state),
         },
-        _ => print_server_refused(event, answer),
+        Answer::Refused(refusal) => print_server_refused(event, refusal),
     }
 }
 
-fn print_server_refused(event: ServerEvent, answer: Answer) {
+fn print_server_refused(event: ServerEvent, refusal: Refusal) {
     match event {
-        ServerEvent::Resend => print_timer_refused(answer),
-        _ => match answer {
-            Answer::OldCall => print(b"spent: never executed again"),
-            _ => print_refused(answer),
+        ServerEvent::Resend => print_timer_refused(refusal),
+        _ => match refusal {
+            Refusal::OldCall => print(b"spent: never executed again"),
+            _ => print_refused(refusal),
         },
     }
 }
 
 // A timer that was not stopped in time, at either side: another ticket is armed, or none can be.
-fn print_timer_refused(answer: Answer) {
-    match answer {
-        Answer::LateTimer => print(b"late timer: nothing happens"),
+fn print_timer_refused(refusal: Refusal) {
+    match refusal {
+        Refusal::LateTimer => print(b"late timer: nothing happens"),
         _ => print(b"not waiting: nothing to do"),
     }
 }
 
 // What else is refused, at either side.
-fn print_refused(answer: Answer) {
-    match answer {
-        Answer::Repeated => print(b"repeated: not written over"),
-        Answer::NoRow => print(b"not waited for: dropped"),
+fn print_refused(refusal: Refusal) {
+    match refusal {
+        Refusal::Repeated => print(b"repeated: not written over"),
+        Refusal::NoRow => print(b"not waited for: dropped"),
         _ => print(b"refused: nothing changes"),
     }
 }

@@ -11,7 +11,7 @@ use Rattle.incoming.specs.Slots.{sound, stored}
 use Rattle.fragments.specs.Slots.{filled}
 use Rattle.fragments.proofs.PutLaws.{CanPut}
 use Rattle.outgoing.specs.Message.{fragments, fragmentOf}
-use Rattle.grounds.specs.Fragment.{isLast}
+use Rattle.fragments.specs.Fragment.{isLast}
 use Rattle.history.proofs.Holding.{Holding, put-holding}
 
 module _ (message : List ℕ) (n f : ℕ) (size : length message ≡ n) where

@@ -1,50 +1,38 @@
 -- What a run computes with: what unfolds one of these unfolds all that its line names.
 use Rattle.words.specs.Choice
+use Rattle.answers.specs.Table
 use Rattle.flags.specs.Flags
 use Rattle.bodies.specs.Fack as FackBody
 use Rattle.bodies.specs.Cancel as CancelBody
 use Rattle.bodies.specs.Status as StatusBody
 use Rattle.incoming.specs.Slots
+use Rattle.outgoing.specs.Lent
 use Rattle.outgoing.specs.Message
 use Rattle.outgoing.specs.Sending
+use Rattle.fragments.specs.Fragment
 use Rattle.fragments.specs.Judgement
-use Rattle.fragments.specs.Slots as Buffer
+use Rattle.fragments.specs.Put
 use Rattle.timers.specs.Tickets
 use Rattle.facks.specs.Mask
-use Rattle.grounds.specs.Order
-use Rattle.grounds.specs.Entry
-use Rattle.grounds.specs.Fragment
-use Rattle.grounds.specs.Fack
-use Rattle.grounds.specs.Cancel
-use Rattle.grounds.specs.Timing
 use Rattle.calls.specs.Sent
 use Rattle.client.specs.records.States as ClientStates
 use Rattle.client.specs.records.Rules as ClientRules
 use Rattle.client.specs.records.Record as ClientRecord
 use Rattle.client.specs.records.Arming as ClientArming
-use Rattle.client.specs.judge.Events as ClientEvents
-use Rattle.client.specs.judge.Arrival as ClientArrival
-use Rattle.client.specs.judge.Local as ClientLocal
+use Rattle.client.specs.judge.Rows as ClientRows
+use Rattle.client.specs.judge.Refusals as ClientRefusals
 use Rattle.client.specs.step.Plan as ClientPlan
-use Rattle.client.specs.step.Rows as ClientRows
-use Rattle.client.specs.arrivals.Rows as ClientArrivalRows
-use Rattle.client.specs.arrivals.Table as ClientArrivalTable
+use Rattle.client.specs.step.Steps as ClientSteps
+use Rattle.client.specs.Sending as ClientSending
+use Rattle.client.specs.Machine as ClientMachine
 use Rattle.server.specs.records.States as ServerStates
 use Rattle.server.specs.records.Rules as ServerRules
 use Rattle.server.specs.records.Record as ServerRecord
 use Rattle.server.specs.records.Arming as ServerArming
-use Rattle.server.specs.rows.Events as ServerEvents
-use Rattle.server.specs.rows.Rows as ServerRowFor
-use Rattle.server.specs.judge.Events as ServerEventGrounds
-use Rattle.server.specs.rows.Table as ServerTable
-use Rattle.server.specs.judge.Arrival as ServerArrival
-use Rattle.server.specs.judge.Local as ServerLocal
+use Rattle.server.specs.judge.Rows as ServerRows
+use Rattle.server.specs.judge.Refusals as ServerRefusals
 use Rattle.server.specs.step.Plan as ServerPlan
-use Rattle.server.specs.step.Rows as ServerRows
-use Rattle.server.specs.arrivals.Rows as ServerArrivalRows
-use Rattle.server.specs.arrivals.Table as ServerArrivalTable
-use Rattle.client.specs.Sending as ClientSending
-use Rattle.client.specs.Machine as ClientMachine
+use Rattle.server.specs.step.Steps as ServerSteps
 use Rattle.server.specs.Sending as ServerSending
 use Rattle.server.specs.Machine as ServerMachine
 use Rattle.history.specs.Steps
@@ -52,26 +40,22 @@ use Rattle.history.specs.Steps
 -- What both sides judge by.
 unfoldable pub shared : Unit {0}
 unfolding Choice.choose Choice.both Choice.either Choice.markOf
+    Table.firstOf
     Flags.hasFlag Flags.withFlag
-    FackBody.fackGround FackBody.fackBy FackBody.fackReading
-    CancelBody.cancelFormed CancelBody.cancelWhere CancelBody.cancelReading
-    CancelBody.cancelAckFormed CancelBody.cancelAckWhere CancelBody.cancelAckReading
-    StatusBody.statusReading
+    FackBody.fackMalformed
+    CancelBody.cancelMalformed CancelBody.cancelReading CancelBody.cancelAckMalformed
+    StatusBody.statusMalformed
     Slots.slotSound Slots.sound Slots.contiguous Slots.complete Slots.cleared Slots.slotsWith Slots.lastWith Slots.stored
+    Lent.sameMessage Lent.transmitLent
     Message.fragments Message.flagsOf
     Sending.nextSerial Sending.oneMore Sending.afterSend Sending.sendsLast Sending.afterPing Sending.acknowledgedTo Sending.firstToSend
     Sending.rewound Sending.inField Sending.messageOf Sending.started Sending.replied Sending.noMessage Sending.bounded Sending.hasMessage
     Sending.hasNothing
+    Fragment.lentRight Fragment.isLast Fragment.wantsFack Fragment.wrongFragment
     Judgement.held Judgement.heldAbove Judgement.aboveLast Judgement.otherLast Judgement.lastBelowHeld Judgement.contradicts
-    Buffer.storing
+    Put.putOf Put.storing
     Tickets.usedUp Tickets.nextTicket Tickets.armedAfresh Tickets.armedIfOff Tickets.ticketsIfOff Tickets.armedWith Tickets.off Tickets.sound Tickets.timerSound
-    Mask.lastContiguous Mask.maskOf
-    Order.first Order.refuseIf Order.groundOf
-    Entry.lentGround Entry.sameMessage Entry.transmitLent Entry.entryGround
-    Fragment.isLast Fragment.wantsFack Fragment.fragmentGround Fragment.putGround
-    Fack.acknowledgedBy Fack.fackCountGround Fack.fackBodyGround Fack.statusBodyGround
-    Cancel.cancelBodyGround Cancel.cancelAckBodyGround
-    Timing.lateGround Timing.ticketGround
+    Mask.lastContiguous Mask.acknowledgedBy Mask.acknowledgesMore Mask.maskFrom
     Sent.sentHeader
 shared = tt
 
@@ -83,20 +67,16 @@ unfolding ClientStates.mayStart ClientStates.isQueued ClientStates.isSending Cli
     ClientRecord.fresh ClientRecord.waiting ClientRecord.sending ClientRecord.ackPending ClientRecord.unarmed ClientRecord.cancelArmed
     ClientRecord.cancelDisarmed ClientRecord.withOutgoing ClientRecord.withWaits ClientRecord.withIncoming ClientRecord.withResends
     ClientRecord.withCancels
-    ClientEvents.serverEvent ClientEvents.eventOf ClientEvents.byEvent ClientEvents.sideGround ClientEvents.hasRow ClientEvents.arms
-    ClientArrival.numberGround ClientArrival.isCurrent ClientArrival.pduGround ClientArrival.completes ClientArrival.rowGround ClientArrival.tableGround
-    ClientArrival.arrivalGround
-    ClientLocal.startGround ClientLocal.transmitGround ClientArming.namedTimer ClientArming.namedBy ClientArming.pings ClientLocal.timerGround
-    ClientLocal.mayCancel ClientLocal.cancelGround
-    ClientPlan.refused ClientPlan.accepted ClientPlan.failed
-    ClientRows.nextNumber ClientRows.started ClientRows.startPlan ClientRows.transmitted ClientRows.transmitPlan ClientRows.pinged
-    ClientRows.waitPlan ClientRows.ackPlan ClientRows.cancelTimerPlan ClientRows.timerRow ClientRows.timerPlan ClientRows.cancelled
-    ClientRows.cancelPlan
-    ClientArrivalRows.acknowledged ClientArrivalRows.fackPlan ClientArrivalRows.putRecord
-    ClientArrivalRows.putNotice ClientArrivalRows.fackFor ClientArrivalRows.putPlan
-    ClientArrivalRows.responsePlan ClientArrivalRows.workingPlan ClientArrivalRows.resent ClientArrivalRows.nocallPlan
-    ClientArrivalRows.cancelAckPlan
-    ClientArrivalTable.arrivalRow ClientArrivalTable.arrivalPlan
+    ClientArming.namedTimer ClientArming.namedBy
+    ClientRows.rowIn ClientRows.isRow ClientRows.nextNumber ClientRows.transmitRow ClientRows.waitRow ClientRows.timerRow ClientRows.cancelRow
+    ClientRows.nocallRow ClientRows.isCurrent ClientRows.isForClient ClientRows.arrivalRow ClientRows.arms ClientRows.armsTimer
+    ClientRefusals.startRefusals ClientRefusals.startVerdict ClientRefusals.transmitRefusals ClientRefusals.transmitVerdict
+    ClientRefusals.timerRefusals ClientRefusals.timerVerdict ClientRefusals.mayCancel ClientRefusals.cancelRefusals
+    ClientRefusals.cancelVerdict ClientRefusals.isResponse ClientRefusals.isOld ClientRefusals.isMalformed ClientRefusals.isContradiction
+    ClientRefusals.pduRefusals ClientRefusals.arrivalRefusals ClientRefusals.arrivalVerdict
+    ClientPlan.going ClientPlan.failed
+    ClientSteps.started ClientSteps.transmitted ClientSteps.pinged ClientSteps.cancelled ClientSteps.putRecord ClientSteps.putNotice
+    ClientSteps.fackFor ClientSteps.responsePlan ClientSteps.workingPlan ClientSteps.resent ClientSteps.acknowledged ClientSteps.stepOf
 clientTables = tt
 
 -- The server's tables.
@@ -105,31 +85,29 @@ unfolding ServerStates.neverCalled ServerStates.isFresh ServerStates.isRunning S
     ServerRules.idleRule ServerRules.heldRule ServerRules.messageRule ServerRules.outgoingSound ServerRules.sound
     ServerRecord.fresh ServerRecord.holding ServerRecord.unarmed
     ServerRecord.withOutgoing ServerRecord.withIncoming ServerRecord.withSeen
-    ServerEvents.clientEvent ServerEvents.eventOf ServerEventGrounds.byEvent ServerEventGrounds.sideGround
-    ServerTable.orderBy ServerTable.orderOf ServerTable.requestNewer ServerTable.requestAgain ServerTable.requestIdle ServerTable.requestEqual ServerTable.requestRow
-    ServerTable.pingEqual ServerTable.pingRow ServerTable.whereReplied ServerTable.acknowledgementRow ServerTable.finishRow ServerTable.fackRow ServerTable.ackRow
-    ServerTable.cancelEqual ServerTable.cancelRow ServerTable.rowOf
-    ServerArrival.requestGround ServerArrival.oldGround ServerArrival.rowGround ServerArrival.agree ServerArrival.sameCall
-    ServerArrival.callGround ServerArrival.contradictionGround ServerArrival.slotGround ServerArrival.pduGround ServerArrival.tableGround ServerRowFor.orderFor
-    ServerRowFor.rowFor ServerArrival.arrivalGround
-    ServerArming.runsAgain ServerArming.armsResend ServerLocal.transmitGround ServerLocal.timerGround ServerLocal.replyGround
-    ServerLocal.faultGround
-    ServerPlan.refused ServerPlan.accepted
-    ServerRows.answered ServerRows.replyPlan ServerRows.settled ServerRows.transmitted ServerRows.transmitPlan ServerRows.faultPlan ServerRows.rewinding
-    ServerRows.replayHeld ServerRows.replayPlan ServerRows.timerPlan
-    ServerArrivalRows.callOf ServerArrivalRows.begun ServerArrivalRows.putState ServerArrivalRows.putNotice
-    ServerArrivalRows.fackFor ServerArrivalRows.putPlan ServerArrivalRows.requestPlan ServerArrivalRows.beginPlan
-    ServerArrivalRows.workingPlan ServerArrivalRows.nocallPlan ServerArrivalRows.fackPlan ServerArrivalRows.ackPlan
-    ServerArrivalRows.declinePlan ServerArrivalRows.heardPlan ServerArrivalRows.acceptPlan
-    ServerArrivalTable.arrivalRow ServerArrivalTable.arrivalPlan
+    ServerArming.runsAgain
+    ServerRows.isRow ServerRows.says ServerRows.orderBy ServerRows.orderOf ServerRows.orderFor ServerRows.replayRow ServerRows.requestNewer
+    ServerRows.requestAgain ServerRows.requestIdle ServerRows.requestEqual ServerRows.requestRow ServerRows.pingEqual ServerRows.pingRow
+    ServerRows.whereReplied ServerRows.acknowledgementRow ServerRows.ackRow ServerRows.runningCancel ServerRows.cancelEqual
+    ServerRows.cancelRow ServerRows.requestPut ServerRows.isForServer ServerRows.arrivalRow ServerRows.transmitRow ServerRows.faultRow
+    ServerRows.resendHeld ServerRows.resendRow ServerRows.timerRow ServerRows.arms ServerRows.armsTimer
+    ServerRefusals.replyRefusals ServerRefusals.replyVerdict ServerRefusals.transmitRefusals ServerRefusals.transmitVerdict
+    ServerRefusals.faultRefusals ServerRefusals.faultVerdict ServerRefusals.timerRefusals ServerRefusals.timerVerdict
+    ServerRefusals.isRequest ServerRefusals.isMaybeOrBroadcast ServerRefusals.isMalformed ServerRefusals.puts ServerRefusals.slotsFor
+    ServerRefusals.isHeldAlready ServerRefusals.agree ServerRefusals.sameCall ServerRefusals.isOtherCall ServerRefusals.isContradiction
+    ServerRefusals.pduRefusals
+    ServerPlan.going
+    ServerSteps.answered ServerSteps.transmitted ServerSteps.repeatable ServerSteps.rewinding ServerSteps.callOf ServerSteps.begun
+    ServerSteps.putState ServerSteps.putNotice ServerSteps.fackFor ServerSteps.putPlan ServerSteps.acknowledged ServerSteps.heardPlan
+    ServerSteps.stepOf
 serverTables = tt
 
 -- The events, and all of these.
 unfoldable pub opened : Unit {0}
 unfolding shared clientTables serverTables
-    ClientSending.pduHeader ClientSending.sentOut
-    ClientMachine.outcomeOf ClientMachine.sending ClientMachine.starting ClientMachine.planOf ClientMachine.acted ClientMachine.arriving
+    ClientSending.pduHeader
+    ClientMachine.refused ClientMachine.done ClientMachine.startBy ClientMachine.starting ClientMachine.arrivalBy ClientMachine.arriving
     ServerSending.replyHeader ServerSending.echoed ServerSending.echoHeader
-    ServerMachine.outcomeOf ServerMachine.replying ServerMachine.planOf
+    ServerMachine.done ServerMachine.replyBy ServerMachine.replying
     Steps.bytesLent Steps.ownAfter Steps.sentAfter Steps.dispatchesAfter Steps.completionsAfter Steps.heardAfter Steps.happens Steps.step Steps.answerTo Steps.noticeOf
 opened = tt

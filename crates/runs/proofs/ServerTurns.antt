@@ -1,35 +1,91 @@
 -- The same of the server.
-use Prim.Native.Nat.{ℕ, _≤_}
-use mathlib.Core.List.{List, [], _++_}
-use mathlib.Core.Path.{_≡_, refl, _∙_}
+use Prim.Native.Nat.{ℕ}
+use mathlib.Core.Bool.{not}
+use mathlib.Core.List.{List, [], _∷_, _++_}
+use mathlib.Core.Path.{_≡_, refl, ap, _∙_}
 use native.Mathlib.Omega.{arith}
 use lib.ListN.{length}
-use Rattle.words.specs.Sizes.{bodySize, pduSize, slotsSize}
+use Rattle.words.specs.Choice.{choose, both}
+use Rattle.words.specs.Same.{same}
+use Rattle.words.specs.Sizes.{pduSize, slotsSize}
+use Rattle.answers.specs.declared.Refusal.the-variants.{WrongLength, BrokenRecord, OtherActivity}
 use Rattle.answers.specs.declared.Answer.{Answer}
+use Rattle.answers.specs.declared.Answer.the-variants.{Done, Refused}
 use Rattle.answers.specs.Number.{numberOf}
+use Rattle.answers.specs.Table.{_when_, firstOf}
 use Rattle.bodies.specs.Cancel.{cancelReading}
 use Rattle.pdu.specs.declared.Header.{Header}
-use Rattle.pdu.specs.Header.{datagram, blank}
+use Rattle.pdu.specs.Header.{datagram, bodyOf, blank}
 use Rattle.reader.specs.declared.Reading.{Reading}
-use Rattle.writer.proofs.RoundTrip.{accepted, read-written, body-written}
-use Rattle.grounds.specs.Entry.{lentGround}
-use Rattle.server.specs.declared.records.Server.{Server}
-use Rattle.server.specs.judge.Local.{transmitGround, timerGround, faultGround}
-use Rattle.server.specs.declared.step.Plan.{Plan}
-use Rattle.server.specs.step.Rows.{transmitPlan, faultPlan, timerPlan}
-use Rattle.server.specs.Sending.{echoed}
-use Rattle.server.specs.Machine.{outcomeOf, sending, transmitting, timing, faulting, planOf, acted, arriving}
+use Rattle.reader.specs.Reading.{readRefusals, reading}
+use Rattle.reader.proofs.Readable.{read-passed}
+use Rattle.writer.proofs.Returns.{Sized}
+use Rattle.writer.proofs.RoundTrip.{accepted}
 use Rattle.outgoing.specs.Message.{fragmentOf}
 use Rattle.outgoing.proofs.OutgoingLaws.{fragment-most}
-use Rattle.fragments.specs.Slots.{storing}
+use Rattle.fragments.specs.Fragment.{lentRight}
+use Rattle.fragments.specs.Put.{storing}
+use Rattle.server.specs.declared.records.Server.{Server}
+use Rattle.server.specs.records.Rules.{sound}
+use Rattle.server.specs.declared.judge.Verdict.{Verdict}
+use Rattle.server.specs.declared.judge.Verdict.the-variants.{Refuse, Go}
+use Rattle.server.specs.judge.Rows.{arrivalRow}
+use Rattle.server.specs.judge.Refusals.{transmitVerdict, timerVerdict, faultVerdict, pduRefusals, arrivalRefusals, arrivalVerdict}
+use Rattle.server.specs.declared.step.Send.the-variants.{Nothing}
+use Rattle.server.specs.declared.step.Plan.{Plan}
+use Rattle.server.specs.step.Plan.{going}
+use Rattle.server.specs.step.Steps.{stepOf}
+use Rattle.server.specs.Sending.{echoed, sentOut}
+use Rattle.server.specs.Machine.{refused, done, sending, stepBy, transmitting, timing, faulting, acted, arrivalBy, arriving}
 use Rattle.calls.specs.declared.Sent.the-variants.{Nothing as Unsent}
 use Rattle.history.specs.World.{World}
-use Rattle.history.specs.Events.{Own, ServerTransmit, ServerArrive, ServerTimer, Fault, OfServer}
-use Rattle.history.specs.Steps.{standingAfter, Subject, ofRecord, bytesLent, ownAfter, happens, step, answerTo, noticeOf}
+use Rattle.history.specs.Events.{Own, ServerEvent, ServerTransmit, ServerArrive, ServerTimer, Fault, OfServer}
+use Rattle.history.specs.Steps.{standingAfter, Subject, ofRecord, bytesLent, ownAfter, Turn, serverTurnOf, serverTurn, serverWorld, happens, step, answerTo, noticeOf}
+use Rattle.history.proofs.Holding.{Short}
 use Rattle.history.proofs.Network.{pduOf, Uuids}
 use Rattle.history.proofs.ServerSends.{serverPdus, server-sent}
-use Rattle.history.proofs.Invariant.{serverStep}
-use Rattle.runs.proofs.Stories.{Makes, Carried}
+use Rattle.runs.proofs.Stories.{Makes, Carried, carried-read, carried-body, read-on}
+
+-- What is answered by a verdict.
+abbrev pub answeredBy : Verdict → Answer
+answeredBy (Refuse r) = Refused r
+answeredBy (Go row) = Done
+
+-- The plan of a verdict, for the PDU answered: a refusal leaves all as it was.
+abbrev pub serverPlan : Verdict → Server → Header → Plan
+serverPlan (Refuse r) s h = going s Nothing
+serverPlan (Go row) s h = stepOf row s h
+
+-- The turn by a verdict's answer and its plan.
+abbrev planned : Verdict → Server → Header → List ℕ → List ℕ → List ℕ → Turn Server
+planned v s h lent out slots = record {
+  answer = answeredBy v;
+  notice = serverPlan v s h .notice;
+  sent = sentOut (serverPlan v s h .send) (serverPlan v s h .server) h lent out .sent;
+  out = sentOut (serverPlan v s h .send) (serverPlan v s h .server) h lent out .out;
+  machine = serverPlan v s h .server;
+  slots = slots;
+}
+
+-- What a verdict gives is such a one: of an event of the stub or the timer,
+abbrev turnBy : Verdict → Server → List ℕ → List ℕ → List ℕ → Turn Server
+turnBy v s lent out slots = serverTurnOf (stepBy v s lent out .outcome) (stepBy v s lent out .out) slots
+
+turn-planned : (v : Verdict) (s : Server) (lent out slots : List ℕ) → turnBy v s lent out slots ≡ planned v s blank lent out slots
+unfolding stepBy sending refused done going sentOut
+turn-planned (Refuse r) s lent out slots = refl
+turn-planned (Go row) s lent out slots = refl
+
+-- and of an arriving datagram.
+abbrev arrivedBy : Verdict → Server → Header → List ℕ → List ℕ → List ℕ → Turn Server
+arrivedBy v s h body out slots =
+    serverTurnOf (arrivalBy v s h body slots out .outcome) (arrivalBy v s h body slots out .out) (arrivalBy v s h body slots out .slots)
+
+arrived-planned : (v : Verdict) (s : Server) (h : Header) (body out slots : List ℕ)
+    → arrivedBy v s h body out slots ≡ planned v s h [] out (storing (serverPlan v s h .store) body slots)
+unfolding arrivalBy acted sending refused done going sentOut storing
+arrived-planned (Refuse r) s h body out slots = refl
+arrived-planned (Go row) s h body out slots = refl
 
 -- The world after a plan of the server.
 abbrev pub serverLeft : World → Plan → Header → List ℕ → List ℕ → Subject → World
@@ -41,39 +97,29 @@ serverLeft w plan h lent slots of = record {
         slots = slots;
         sent = w .server .sent ++ serverPdus (of .ordinal) (plan .send) (plan .server) h lent;
       };
-  books = serverStep w (outcomeOf plan Unsent) [] slots of .books;
+  books = serverWorld w (serverTurnOf (done plan Unsent) [] slots) of (w .books .replies) .books;
 }
 
-abbrev serverDone : World → Plan → Header → List ℕ → List ℕ → List ℕ → Subject → World
-serverDone w plan h lent out slots of = serverStep w (sending plan h lent out .outcome) (sending plan h lent out .out) slots of
+-- The verdict on a transmit of n bytes, on a timer event, on a fault, and on a PDU that was read.
+abbrev pub serverTransmit : Server → ℕ → Verdict
+serverTransmit s n = transmitVerdict s n pduSize
 
-server-left : (w : World) (plan : Plan) (h : Header) (lent out slots : List ℕ) (of : Subject) → Uuids (plan .server .activity) (plan .server .call)
-    → Uuids (plan .server .activity) (echoed h) → length lent ≤ bodySize → length out ≡ pduSize
-    → serverDone w plan h lent out slots of ≡ serverLeft w plan h lent slots of
-unfolding sending outcomeOf
-server-left w plan h lent out slots of z y short room = λ i. record {
-  client = w .client;
-  server =
-      record {
-        machine = plan .server;
-        slots = slots;
-        sent = server-sent (plan .send) (plan .server) h lent out (w .server .sent) (of .ordinal) (λ e. z, y) short room i;
-      };
-  books = serverStep w (outcomeOf plan Unsent) [] slots of .books;
-}
+abbrev pub serverTime : Server → ℕ → Verdict
+serverTime s ticket = timerVerdict s ticket pduSize
 
--- The plan of a transmit of n bytes, of a timer event, of a fault, and of an arriving PDU.
-abbrev pub serverTransmit : Server → ℕ → Plan
-serverTransmit s n = transmitPlan (transmitGround s n pduSize) s
+abbrev pub serverFault : Server → ℕ → Verdict
+serverFault s status = faultVerdict s status pduSize
 
-abbrev pub serverTime : Server → ℕ → Plan
-serverTime s ticket = timerPlan (timerGround s ticket pduSize) s
+abbrev arrivalAs : Server → Reading → List ℕ → Verdict
+arrivalAs s r body =
+    firstOf Refuse
+    (BrokenRecord when not (sound s)
+    ∷ OtherActivity when not (same (s .activity) (r .header .activity))
+    ∷ pduRefusals s (r .header) (r .little) body (arrivalRow s (r .header) (r .little) body))
+    (arrivalRow s (r .header) (r .little) body)
 
-abbrev pub serverFault : Server → ℕ → Plan
-serverFault s status = faultPlan (faultGround s pduSize) s status
-
-abbrev pub serverArrival : Server → Header → List ℕ → Plan
-serverArrival s h body = planOf s (lentGround slotsSize pduSize) (accepted h) body
+abbrev pub serverArrival : Server → Header → List ℕ → Verdict
+serverArrival s h body = arrivalAs s (accepted h) body
 
 -- What the arrival of a PDU is of, by what was read.
 abbrev ofReading : World → ℕ → Reading → List ℕ → Answer → Subject
@@ -84,71 +130,106 @@ ofReading w o r body answer = record {
   standing = standingAfter (w .books .standing) answer (r .header .kind) o;
 }
 
+-- A PDU as it was written is judged so, where what is lent is right.
+arrival-judged : (s : Server) (slots out : List ℕ) (h : Header) (body : List ℕ) → Carried h body → length slots ≡ slotsSize
+    → length out ≡ pduSize → arrivalVerdict s (length slots) (length out) (datagram h body) ≡ serverArrival s h body
+unfolding arrivalVerdict arrivalRefusals lentRight both choose
+arrival-judged s slots out h body k whole room =
+    let d = datagram h body in
+    let read = carried-read h body k in
+    let rest = carried-body h body k in
+    let row = arrivalRow s (reading d .header) (reading d .little) (bodyOf d) in
+    read-on Refuse (WrongLength when not (lentRight (length slots) (length out))) (BrokenRecord when not (sound s)) (readRefusals d)
+    (OtherActivity when not (same (s .activity) (reading d .header .activity))
+    ∷ pduRefusals s (reading d .header) (reading d .little) (bodyOf d) row) row
+    (λ i. not (lentRight (whole i) (room i))) (read-passed d (ap (λ (r : Reading). r .answer) read))
+    ∙ (λ i. arrivalAs s (read i) (rest i))
+
 module _ (w : World) (out : List ℕ) (room : length out ≡ pduSize) where
+  abbrev s : Server
+  s = w .server .machine
+
+  -- What an event makes that leaves the replies as they are, where a verdict gives its turn.
+  makes : (e : ServerEvent) (v : Verdict) (h : Header) (lent slots : List ℕ) (of : Answer → Subject)
+      → step w (OfServer e) ≡ serverWorld w (serverTurn (w .server) e) (of (serverTurn (w .server) e .answer)) (w .books .replies)
+      → serverTurn (w .server) e ≡ planned v s h lent out slots
+      → Uuids (serverPlan v s h .server .activity) (serverPlan v s h .server .call) → Sized h → Short lent
+      → Makes w (OfServer e) (numberOf (answeredBy v)) (serverPlan v s h .notice)
+      (serverLeft w (serverPlan v s h) h lent slots (of (answeredBy v)))
+  unfolding answerTo noticeOf happens done echoed
+  makes e v h lent slots of left turn z sized short =
+      let plan = serverPlan v s h in
+      record {
+        answered = ap (λ (t : Turn Server). numberOf (t .answer)) turn;
+        tells = ap (λ (t : Turn Server). t .notice) turn;
+        leaves =
+            left
+            ∙ ap (λ (t : Turn Server). serverWorld w t (of (t .answer)) (w .books .replies)) turn
+            ∙ (λ i. record {
+              client = w .client;
+              server =
+                  record {
+                    machine = plan .server;
+                    slots = slots;
+                    sent =
+                        server-sent (plan .send) (plan .server) h lent out (w .server .sent) (of (answeredBy v) .ordinal)
+                        (λ e. z, record { activity-16 = z .activity-16; object-16 = sized .object; interface-16 = sized .interface }) short room i;
+                  };
+              books = serverLeft w plan h lent slots (of (answeredBy v)) .books;
+            });
+      }
+
   -- A transmit, of a message of n bytes;
   pub server-transmits : (message : List ℕ) (n : ℕ) → length message ≡ n
-      → Uuids (serverTransmit (w .server .machine) n .server .activity) (serverTransmit (w .server .machine) n .server .call)
-      → Makes w (OfServer (ServerTransmit message out)) (numberOf (serverTransmit (w .server .machine) n .answer)) (serverTransmit (w .server .machine) n .notice)
-      (serverLeft w (serverTransmit (w .server .machine) n) blank (fragmentOf message (w .server .machine .outgoing .sent)) (w .server .slots) (ofRecord w))
-  unfolding step answerTo noticeOf happens transmitting sending outcomeOf blank echoed
-  server-transmits message n whole z = record {
-    answered = λ i. numberOf (transmitPlan (transmitGround (w .server .machine) (whole i) (room i)) (w .server .machine) .answer);
-    tells = λ i. transmitPlan (transmitGround (w .server .machine) (whole i) (room i)) (w .server .machine) .notice;
-    leaves =
-        (λ i. serverDone w (transmitPlan (transmitGround (w .server .machine) (whole i) (room i)) (w .server .machine)) blank (fragmentOf message (w .server .machine .outgoing .sent)) out (w .server .slots) (ofRecord w))
-        ∙ server-left w (serverTransmit (w .server .machine) n) blank (fragmentOf message (w .server .machine .outgoing .sent)) out (w .server .slots) (ofRecord w) z
-        (record { activity-16 = z .activity-16; object-16 = refl; interface-16 = refl }) (fragment-most message (w .server .machine .outgoing .sent)) room;
-  }
+      → Uuids (serverPlan (serverTransmit s n) s blank .server .activity) (serverPlan (serverTransmit s n) s blank .server .call)
+      → Makes w (OfServer (ServerTransmit message out)) (numberOf (answeredBy (serverTransmit s n))) (serverPlan (serverTransmit s n) s blank .notice)
+      (serverLeft w (serverPlan (serverTransmit s n) s blank) blank (fragmentOf message (s .outgoing .sent)) (w .server .slots) (ofRecord w))
+  unfolding step happens transmitting blank
+  server-transmits message n whole z =
+      makes (ServerTransmit message out) (serverTransmit s n) blank (fragmentOf message (s .outgoing .sent)) (w .server .slots) (λ a. ofRecord w) refl
+      ((λ i. turnBy (transmitVerdict s (whole i) (room i)) s (fragmentOf message (s .outgoing .sent)) out (w .server .slots))
+      ∙ turn-planned (serverTransmit s n) s (fragmentOf message (s .outgoing .sent)) out (w .server .slots)) z
+      (record { object = refl; interface = refl; activity = refl }) (fragment-most message (s .outgoing .sent))
 
   -- a timer event;
-  pub server-times : (ticket : ℕ) → Uuids (serverTime (w .server .machine) ticket .server .activity) (serverTime (w .server .machine) ticket .server .call)
-      → Makes w (OfServer (ServerTimer ticket out)) (numberOf (serverTime (w .server .machine) ticket .answer)) (serverTime (w .server .machine) ticket .notice)
-      (serverLeft w (serverTime (w .server .machine) ticket) blank [] (w .server .slots) (ofRecord w))
-  unfolding step answerTo noticeOf happens timing sending outcomeOf blank echoed
-  server-times ticket z = record {
-    answered = λ i. numberOf (timerPlan (timerGround (w .server .machine) ticket (room i)) (w .server .machine) .answer);
-    tells = λ i. timerPlan (timerGround (w .server .machine) ticket (room i)) (w .server .machine) .notice;
-    leaves =
-        (λ i. serverDone w (timerPlan (timerGround (w .server .machine) ticket (room i)) (w .server .machine)) blank [] out (w .server .slots) (ofRecord w))
-        ∙ server-left w (serverTime (w .server .machine) ticket) blank [] out (w .server .slots) (ofRecord w) z
-        (record { activity-16 = z .activity-16; object-16 = refl; interface-16 = refl }) (omega arith) room;
-  }
+  pub server-times : (ticket : ℕ)
+      → Uuids (serverPlan (serverTime s ticket) s blank .server .activity) (serverPlan (serverTime s ticket) s blank .server .call)
+      → Makes w (OfServer (ServerTimer ticket out)) (numberOf (answeredBy (serverTime s ticket))) (serverPlan (serverTime s ticket) s blank .notice)
+      (serverLeft w (serverPlan (serverTime s ticket) s blank) blank [] (w .server .slots) (ofRecord w))
+  unfolding step happens timing blank
+  server-times ticket z =
+      makes (ServerTimer ticket out) (serverTime s ticket) blank [] (w .server .slots) (λ a. ofRecord w) refl
+      ((λ i. turnBy (timerVerdict s ticket (room i)) s [] out (w .server .slots))
+      ∙ turn-planned (serverTime s ticket) s [] out (w .server .slots)) z
+      (record { object = refl; interface = refl; activity = refl }) (omega arith)
 
   -- a fault;
-  pub server-faults : (status : ℕ) → Uuids (serverFault (w .server .machine) status .server .activity) (serverFault (w .server .machine) status .server .call)
-      → Makes w (OfServer (Fault status out)) (numberOf (serverFault (w .server .machine) status .answer)) (serverFault (w .server .machine) status .notice)
-      (serverLeft w (serverFault (w .server .machine) status) blank [] (w .server .slots) (ofRecord w))
-  unfolding step answerTo noticeOf happens faulting sending outcomeOf blank echoed
-  server-faults status z = record {
-    answered = λ i. numberOf (faultPlan (faultGround (w .server .machine) (room i)) (w .server .machine) status .answer);
-    tells = λ i. faultPlan (faultGround (w .server .machine) (room i)) (w .server .machine) status .notice;
-    leaves =
-        (λ i. serverDone w (faultPlan (faultGround (w .server .machine) (room i)) (w .server .machine) status) blank [] out (w .server .slots) (ofRecord w))
-        ∙ server-left w (serverFault (w .server .machine) status) blank [] out (w .server .slots) (ofRecord w) z
-        (record { activity-16 = z .activity-16; object-16 = refl; interface-16 = refl }) (omega arith) room;
-  }
+  pub server-faults : (status : ℕ)
+      → Uuids (serverPlan (serverFault s status) s blank .server .activity) (serverPlan (serverFault s status) s blank .server .call)
+      → Makes w (OfServer (Fault status out)) (numberOf (answeredBy (serverFault s status))) (serverPlan (serverFault s status) s blank .notice)
+      (serverLeft w (serverPlan (serverFault s status) s blank) blank [] (w .server .slots) (ofRecord w))
+  unfolding step happens faulting blank
+  server-faults status z =
+      makes (Fault status out) (serverFault s status) blank [] (w .server .slots) (λ a. ofRecord w) refl
+      ((λ i. turnBy (faultVerdict s status (room i)) s [] out (w .server .slots))
+      ∙ turn-planned (serverFault s status) s [] out (w .server .slots)) z
+      (record { object = refl; interface = refl; activity = refl }) (omega arith)
 
   -- a PDU that arrives.
   pub server-arrives : {h : Header} {body : List ℕ} {o : ℕ} → Carried h body → length (w .server .slots) ≡ slotsSize
-      → Uuids (serverArrival (w .server .machine) h body .server .activity) (serverArrival (w .server .machine) h body .server .call)
-      → Makes w (OfServer (ServerArrive (pduOf o (datagram h body)) Own out)) (numberOf (serverArrival (w .server .machine) h body .answer))
-      (serverArrival (w .server .machine) h body .notice)
-      (serverLeft w (serverArrival (w .server .machine) h body) h [] (storing (serverArrival (w .server .machine) h body .put) (h .fragment) body (w .server .slots))
-      (ofReading w o (accepted h) body (serverArrival (w .server .machine) h body .answer)))
-  unfolding step answerTo noticeOf happens arriving acted sending outcomeOf bytesLent ownAfter echoed
-  server-arrives {h} {body} {o} c whole z =
-      let read = read-written h body (c .fits) (c .known) (c .plain) (c .short) in
-      let rest = body-written h body (c .fits .sized) in
-      let sized = c .fits .sized in
-      record {
-        answered = λ i. numberOf (planOf (w .server .machine) (lentGround (whole i) (room i)) (read i) (rest i) .answer);
-        tells = λ i. planOf (w .server .machine) (lentGround (whole i) (room i)) (read i) (rest i) .notice;
-        leaves =
-            (λ i. serverDone w (planOf (w .server .machine) (lentGround (whole i) (room i)) (read i) (rest i)) (read i .header) [] out
-            (storing (planOf (w .server .machine) (lentGround (whole i) (room i)) (read i) (rest i) .put) (read i .header .fragment) (rest i) (w .server .slots))
-            (ofReading w o (read i) (rest i) (planOf (w .server .machine) (lentGround (whole i) (room i)) (read i) (rest i) .answer)))
-            ∙ server-left w (serverArrival (w .server .machine) h body) h [] out
-            (storing (serverArrival (w .server .machine) h body .put) (h .fragment) body (w .server .slots))
-            (ofReading w o (accepted h) body (serverArrival (w .server .machine) h body .answer)) z
-            (record { activity-16 = z .activity-16; object-16 = sized .object; interface-16 = sized .interface }) (omega arith) room;
-      }
+      → Uuids (serverPlan (serverArrival s h body) s h .server .activity) (serverPlan (serverArrival s h body) s h .server .call)
+      → Makes w (OfServer (ServerArrive (pduOf o (datagram h body)) Own out)) (numberOf (answeredBy (serverArrival s h body)))
+      (serverPlan (serverArrival s h body) s h .notice)
+      (serverLeft w (serverPlan (serverArrival s h body) s h) h [] (storing (serverPlan (serverArrival s h body) s h .store) body (w .server .slots))
+      (ofReading w o (accepted h) body (answeredBy (serverArrival s h body))))
+  unfolding step happens arriving bytesLent ownAfter
+  server-arrives {h} {body} {o} k whole z =
+      let judged = arrival-judged s (w .server .slots) out h body k whole room in
+      let read = carried-read h body k in
+      let rest = carried-body h body k in
+      let event = ServerArrive (pduOf o (datagram h body)) Own out in
+      makes event (serverArrival s h body) h [] (storing (serverPlan (serverArrival s h body) s h .store) body (w .server .slots))
+      (ofReading w o (accepted h) body)
+      (λ i. serverWorld w (serverTurn (w .server) event) (ofReading w o (read i) (rest i) (serverTurn (w .server) event .answer)) (w .books .replies))
+      ((λ i. arrivedBy (judged i) s (read i .header) (rest i) out (w .server .slots))
+      ∙ arrived-planned (serverArrival s h body) s h body out (w .server .slots)) z (k .fits .sized) (omega arith)

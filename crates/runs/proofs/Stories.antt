@@ -8,12 +8,18 @@ use native.Mathlib.Omega.{arith}
 use lib.Dec.{ltb, eqb}
 use lib.ListN.{length, drop, getD}
 use borrow.Author.Tests.{ltb-true, eqb-false}
+use Rattle.words.specs.Choice.{choose}
 use Rattle.words.specs.Sizes.{bodySize}
+use Rattle.answers.specs.declared.Refusal.{Refusal}
 use Rattle.answers.specs.declared.Answer.the-variants.{Done}
 use Rattle.answers.specs.Number.{numberOf}
+use Rattle.answers.specs.Table.{Line, firstOf}
+use Rattle.answers.proofs.TableLaws.{passed-over, joined as tables-joined, AllPassed, all-behind}
 use Rattle.pdu.specs.declared.Header.{Header}
+use Rattle.pdu.specs.Header.{datagram, bodyOf}
+use Rattle.reader.specs.Reading.{reading}
 use Rattle.calls.specs.declared.Notice.{Notice}
-use Rattle.writer.proofs.RoundTrip.{Fits}
+use Rattle.writer.proofs.RoundTrip.{Fits, accepted, read-written, body-written}
 use Rattle.calls.specs.declared.Call.{Call}
 use Rattle.calls.specs.Sent.{sentHeader}
 use Rattle.history.specs.Lists.{In}
@@ -124,6 +130,22 @@ pub record Carried (h : Header) (body : List ℕ) : Type 0 where
   pub plain : h .authentication ≡ 0
   pub short : length body ≤ bodySize
 
+pub carried-read : (h : Header) (body : List ℕ) → Carried h body → reading (datagram h body) ≡ accepted h
+carried-read h body k = read-written h body (k .fits) (k .known) (k .plain) (k .short)
+
+pub carried-body : (h : Header) (body : List ℕ) → Carried h body → bodyOf (datagram h body) ≡ body
+carried-body h body k = body-written h body (k .fits .sized)
+
+-- A table goes on behind what is lent rightly and a datagram that is read: the record's rules decide, and then the rest.
+pub read-on : {A : Type 0} (refuse : Refusal → A) (lent kept : Line) (reads rest : List Line) (behind : A) → lent .test ≡ false
+    → AllPassed reads → firstOf refuse (lent ∷ kept ∷ reads ++ rest) behind ≡ firstOf refuse (kept ∷ rest) behind
+unfolding firstOf
+read-on refuse lent kept reads rest behind right passed =
+    passed-over refuse lent (kept ∷ reads ++ rest) behind right
+    ∙ ap (choose (kept .test) (refuse (kept .refusal)))
+    (tables-joined refuse reads rest behind ∙ all-behind refuse reads (firstOf refuse rest behind) passed)
+
+-- A PDU of the runs is such a one.
 pub carried : (kind flags1 serial : ℕ) (activity : List ℕ) (boot number : ℕ) (call : Call) (fragment : ℕ) (body : List ℕ) → Typed call
     → length activity ≡ 16 → (kind ≤ 10) × (serial < 65536) × (boot < 4294967296) × (number < 4294967296) × (fragment < 65536) → length body ≤ bodySize
     → Carried (sentHeader kind flags1 serial activity boot number call fragment) body
