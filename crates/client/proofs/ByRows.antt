@@ -21,7 +21,8 @@ use Rattle.client.specs.Machine.{refused, done, startBy, starting, sendi
 use Rattle.client.proofs.Judging.{CanStart, start-taken, TransmitTaken, transmit-taken, TimerTaken, timer-taken, CancelTaken, cancel-taken, ArrivalTaken, arrive-taken}
 
 module _ (c : Client) (P : Client → Type 0) (same : P c) where
-  start-by : (v : StartVerdict) (call : Call) (n : ℕ) → ((number : ℕ) → v ≡ GoStart number → P (started c number call n))
+  start-by : (v : StartVerdict) (call : Call) (n : ℕ)
+      → ((number : ℕ) → v ≡ GoStart number → P (started c number call n))
       → P (startBy v c call n .client)
   unfolding startBy refused
   start-by (RefuseStart r) call n leaves = same
@@ -37,7 +38,8 @@ module _ (c : Client) (P : Client → Type 0) (same : P c) where
   pub start-by-rows : (call : Call) (n : ℕ) → ((number : ℕ) → CanStart c n number → P (started c number call n))
       → P (starting c call n .client)
   unfolding starting
-  start-by-rows call n leaves = start-by (startVerdict c n) call n (λ number e. leaves number (start-taken c n number e))
+  start-by-rows call n leaves =
+      start-by (startVerdict c n) call n (λ number e. leaves number (start-taken c n number e))
 
   -- transmit,
   pub transmit-by-rows : (message out : List ℕ)
@@ -54,19 +56,22 @@ module _ (c : Client) (P : Client → Type 0) (same : P c) where
       → P (timing c kind ticket out .outcome .client)
   unfolding timing
   timer-by-rows kind ticket out leaves =
-      step-by (timerVerdict c kind ticket (length out)) [] out (λ row e. leaves row (timer-taken c kind ticket (length out) row e))
+      step-by (timerVerdict c kind ticket (length out)) [] out
+      (λ row e. leaves row (timer-taken c kind ticket (length out) row e))
 
   -- a local cancel,
   pub cancel-by-rows : (out : List ℕ) → ((row : Row) → CancelTaken c (length out) row → P (stepOf row c .client))
       → P (cancelling c out .outcome .client)
   unfolding cancelling
-  cancel-by-rows out leaves = step-by (cancelVerdict c (length out)) [] out (λ row e. leaves row (cancel-taken c (length out) row e))
+  cancel-by-rows out leaves =
+      step-by (cancelVerdict c (length out)) [] out (λ row e. leaves row (cancel-taken c (length out) row e))
 
 -- and an arriving datagram, which may change the slot buffer too.
 module _ (c : Client) (datagram slots out : List ℕ) (P : Client → List ℕ → Type 0) (same : P c slots) where
   arrival-by : (v : Verdict)
       → ((row : Row) → v ≡ Go row → P (stepOf row c .client) (storing (stepOf row c .store) (bodyOf datagram) slots))
-      → P (arrivalBy v c (bodyOf datagram) slots out .outcome .client) (arrivalBy v c (bodyOf datagram) slots out .slots)
+      → P (arrivalBy v c (bodyOf datagram) slots out .outcome .client)
+      (arrivalBy v c (bodyOf datagram) slots out .slots)
   unfolding arrivalBy acted sending refused done
   arrival-by (Refuse r) leaves = same
   arrival-by (Go row) leaves = leaves row refl

@@ -1,4 +1,5 @@
--- Which number an arriving cancel_ack is answered with, and what it leaves where it is taken. A cancel is not for the client.
+-- Which number an arriving cancel_ack is answered with, and what it leaves where it is taken; a cancel is not for this
+-- side.
 use Prim.Native.Nat.{ℕ, _≤_}
 use mathlib.Core.Bool.{Bool, true, false, not}
 use mathlib.Core.List.{List}
@@ -49,7 +50,8 @@ use Rattle.client.proofs.Accepting.{answeredBy, arrive-answers, arrive-
 use Rattle.client.proofs.Refusals.{ArrivalUntouched}
 
 -- The table of a PDU, for the types of cancels: a cancel, 8, is 10;
-cancel-judged : (c : Client) (h : Header) (little : Bool) (body : List ℕ) → h .kind ≡ 8 → pduVerdict c h little body ≡ Refuse WrongSide
+cancel-judged : (c : Client) (h : Header) (little : Bool) (body : List ℕ) → h .kind ≡ 8
+    → pduVerdict c h little body ≡ Refuse WrongSide
 unfolding pduVerdict pduRefusals firstOf isForClient either choose
 cancel-judged c h little body typed = rw typed
 
@@ -63,21 +65,26 @@ ackVerdict c h little body =
 -- Where the table has no row there is 15, and a cancel_ack's arms nothing.
 row-behind : (c : Client) (current : Bool)
     → choose (not (isRow (rowIn current CancelAck))) (Refuse NoRow)
-    (choose (both (armsTimer c (rowIn current CancelAck)) (usedUp (c .tickets))) (Refuse TicketsUsedUp) (rowIn current CancelAck))
+    (choose (both (armsTimer c (rowIn current CancelAck)) (usedUp (c .tickets))) (Refuse TicketsUsedUp)
+    (rowIn current CancelAck))
     ≡ rowIn current CancelAck
 unfolding rowIn isRow armsTimer arms both choose
 row-behind c true = refl
 row-behind c false = refl
 
-ack-judged : (c : Client) (h : Header) (little : Bool) (body : List ℕ) → h .kind ≡ 10 → pduVerdict c h little body ≡ ackVerdict c h little body
+ack-judged : (c : Client) (h : Header) (little : Bool) (body : List ℕ) → h .kind ≡ 10
+    → pduVerdict c h little body ≡ ackVerdict c h little body
 unfolding pduVerdict pduRefusals firstOf isForClient isResponse isMalformed isContradiction arrivalRow both either choose
 ack-judged c h little body typed =
     rw typed
-    (ap (λ (v : Verdict). choose (isOld (c .state) (c .number) (h .number)) (Refuse OldCall) (choose (cancelAckMalformed little body) (Refuse MalformedBody) v))
+    (ap
+    (λ (v : Verdict).
+    choose (isOld (c .state) (c .number) (h .number)) (Refuse OldCall)
+    (choose (cancelAckMalformed little body) (Refuse MalformedBody) v))
     (row-behind c (isCurrent (c .cancel) (c .cancels) (cancelNumberIn little body))))
 
--- A PDU of a type comes: the record keeps its rules, the buffers lent have their lengths, and the reader takes the datagram
--- as a PDU of the record's activity, of that type.
+-- A PDU of a type comes: the record keeps its rules, the buffers lent have their lengths, and the reader takes the
+-- datagram as a PDU of the record's activity, of that type.
 pub record Comes (kind : ℕ) (c : Client) (datagram slots out : List ℕ) : Type 0 where
   pub kept : sound c ≡ true
   pub slotted : length slots ≡ slotsSize
@@ -113,7 +120,8 @@ module _ (datagram : List ℕ) where
 
   -- so it is read so,
   pub formed-read : WellFormed datagram
-      → cancelAckReading little body ≡ record { answer = Done; number = cancelNumber datagram; accepts = eqb (number 4 little body 8) 1 }
+      → cancelAckReading little body
+      ≡ record { answer = Done; number = cancelNumber datagram; accepts = eqb (number 4 little body 8) 1 }
   unfolding cancelAckReading
   formed-read f = choose-false _ _ _ (formed-passes f)
 
@@ -175,11 +183,13 @@ module _ (c : Client) (datagram slots out : List ℕ) where
   entered : (kind : ℕ) → Comes kind c datagram slots out → verdict ≡ pduVerdict c h (little datagram) (body datagram)
   unfolding arrivalVerdict arrivalRefusals pduVerdict lentRight
   entered kind comes =
-      passed-over Refuse _ _ _ (not-of-true _ (both-hold _ _ (eq-eqb _ slotsSize (comes .slotted)) (eq-eqb _ pduSize (comes .room))))
+      passed-over Refuse _ _ _
+      (not-of-true _ (both-hold _ _ (eq-eqb _ slotsSize (comes .slotted)) (eq-eqb _ pduSize (comes .room))))
       ∙ passed-over Refuse _ _ _ (not-of-true _ (comes .kept))
       ∙ joined Refuse (readRefusals datagram) _ _
       ∙ all-behind Refuse (readRefusals datagram) _ (read-passed datagram (comes .read))
-      ∙ passed-over Refuse _ _ _ (not-of-true _ (ap (same (c .activity)) (sym (comes .activity)) ∙ same-self (c .activity)))
+      ∙ passed-over Refuse _ _ _
+      (not-of-true _ (ap (same (c .activity)) (sym (comes .activity)) ∙ same-self (c .activity)))
 
   -- A cancel, type 8, that comes is 10.
   pub foreign-cancel : Comes 8 c datagram slots out → told ≡ Refused WrongSide
@@ -215,15 +225,18 @@ module _ (c : Client) (datagram slots out : List ℕ) where
       unfolding isOld either
       owned =
           judged
-          ∙ choose-false _ _ _ (choose-false _ true _ (unqueued (c .state) started) ∙ not-of-true _ (eq-eqb (c .number) (h .number) own))
+          ∙ choose-false _ _ _
+          (choose-false _ true _ (unqueued (c .state) started) ∙ not-of-true _ (eq-eqb (c .number) (h .number) own))
 
       -- it is 14 where it is malformed,
       pub malformed-ack : (WellFormed datagram → ⊥) → told ≡ Refused MalformedBody
       malformed-ack other = told-by (Refuse MalformedBody) (owned ∙ choose-true _ _ _ (malformed datagram other))
 
       module _ (f : WellFormed datagram) where
-        tabled : (current : Bool) → isCurrent (c .cancel) (c .cancels) (cancelNumber datagram) ≡ current → verdict ≡ rowIn current CancelAck
-        tabled current e = owned ∙ choose-false _ _ _ (formed-passes datagram f) ∙ ap (λ (t : Bool). rowIn t CancelAck) e
+        tabled : (current : Bool) → isCurrent (c .cancel) (c .cancels) (cancelNumber datagram) ≡ current
+            → verdict ≡ rowIn current CancelAck
+        tabled current e =
+            owned ∙ choose-false _ _ _ (formed-passes datagram f) ∙ ap (λ (t : Bool). rowIn t CancelAck) e
 
         stray : isCurrent (c .cancel) (c .cancels) (cancelNumber datagram) ≡ false → told ≡ Refused NoRow
         unfolding rowIn choose
@@ -232,7 +245,8 @@ module _ (c : Client) (datagram slots out : List ℕ) where
         -- else 15 where CANCEL is not armed
         pub unasked-ack : c .cancel ≡ Off → told ≡ Refused NoRow
         unfolding isCurrent both off choose
-        unasked-ack unarmed = stray (ap (λ (t : Timer). both (not (off t)) (eqb (c .cancels) (cancelNumber datagram))) unarmed)
+        unasked-ack unarmed =
+            stray (ap (λ (t : Timer). both (not (off t)) (eqb (c .cancels) (cancelNumber datagram))) unarmed)
 
         -- or it has another cancel number,
         pub other-number-ack : (c .cancels ≡ cancelNumber datagram → ⊥) → told ≡ Refused NoRow
@@ -258,7 +272,8 @@ module _ (c : Client) (datagram slots out : List ℕ) where
           does = arrive-does c datagram slots out CancelAck taken
 
           -- nothing is sent, nothing is told, slots and PDU buffer are as they were,
-          pub own-ack-silent : ArrivalUntouched (arriving c datagram slots out .outcome .client) slots out (arriving c datagram slots out)
+          pub own-ack-silent :
+              ArrivalUntouched (arriving c datagram slots out .outcome .client) slots out (arriving c datagram slots out)
           unfolding acted sending done stepOf going sentOut storing
           own-ack-silent =
               subst (λ (a : Arrival Outcome). ArrivalUntouched (a .outcome .client) slots out a) (sym does)

@@ -60,7 +60,9 @@ module _ (c : Client) (out : List ℕ) where
 
   takes : AllPassed (cancelRefusals c (length out)) → answer ≡ Done
   unfolding cancelVerdict
-  takes passed = cancel-answers c out ∙ ap answeredBy (all-behind Refuse (cancelRefusals c (length out)) (Go (cancelRow c)) passed)
+  takes passed =
+      cancel-answers c out
+      ∙ ap answeredBy (all-behind Refuse (cancelRefusals c (length out)) (Go (cancelRow c)) passed)
 
   -- It is 1 where the PDU buffer has another length,
   pub unsized-cancel : (length out ≡ pduSize → ⊥) → answer ≡ Refused WrongLength
@@ -101,13 +103,16 @@ module _ (c : Client) (out : List ℕ) where
         taken-with : both (off (c .cancel)) (usedUp (c .tickets)) ≡ false → answer ≡ Done
         unfolding cancelRefusals arms cancelRow
         taken-with spare =
-            takes (not-of-true _ (eq-eqb (length out) pduSize sized), (not-of-true _ kept, (not-of-true _ may, (spare, tt))))
+            let size = not-of-true _ (eq-eqb (length out) pduSize sized) in
+            takes (size, (not-of-true _ kept, (not-of-true _ may, (spare, tt))))
 
         -- it is taken with a ticket left
         pub first-cancel : c .cancel ≡ Off → (c .tickets ≡ 18446744073709551615 → ⊥) → answer ≡ Done
         unfolding usedUp off both choose
         first-cancel unarmed left =
-            taken-with (ap (λ (t : Timer). both (off t) (usedUp (c .tickets))) unarmed ∙ ne-eqb (c .tickets) 18446744073709551615 left)
+            taken-with
+            (ap (λ (t : Timer). both (off t) (usedUp (c .tickets))) unarmed
+            ∙ ne-eqb (c .tickets) 18446744073709551615 left)
 
         -- or with CANCEL armed already, whatever the counter.
         pub further-cancel : (ticket : ℕ) → c .cancel ≡ Armed ticket → answer ≡ Done

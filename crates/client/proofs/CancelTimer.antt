@@ -64,7 +64,8 @@ unfolding choose
 unspent-behind true r rest other behind = record { spends = other-answer (Refused r) other }
 unspent-behind false r rest other behind = behind
 
-unspent-unarmed : (t : Bool) (v : Verdict) → t ≡ false → answeredBy v ≡ Done → Unspent (choose t (Refuse TicketsUsedUp) v)
+unspent-unarmed : (t : Bool) (v : Verdict) → t ≡ false → answeredBy v ≡ Done
+    → Unspent (choose t (Refuse TicketsUsedUp) v)
 unfolding choose
 unspent-unarmed true v none taken = absurd (true≢false none)
 unspent-unarmed false v none taken = record { spends = λ e. other-answer Done refl (sym taken ∙ e) }
@@ -122,9 +123,11 @@ module _ (c : Client) (ticket : ℕ) (out : List ℕ) where
       takes : verdict ≡ Go (GiveUp 3)
       unfolding timerVerdict timerRefusals namedBy namedTimer timerRow
       takes =
+          let size = not-of-true _ (eq-eqb (length out) pduSize sized) in
+          let row = not-of-true _ (active (c .state) three) in
+          let own = not-of-true _ (armed-with (c .cancel) ticket armed) in
           all-behind Refuse (timerRefusals c Cancel ticket (length out)) (Go (GiveUp 3))
-          (not-of-true _ (eq-eqb (length out) pduSize sized),
-          (not-of-true _ kept, (not-of-true _ (active (c .state) three), (not-of-true _ (armed-with (c .cancel) ticket armed), (unarms, tt)))))
+          (size, (not-of-true _ kept, (row, (own, (unarms, tt)))))
 
       pub own-timer : timed ≡ Done
       own-timer = timer-answers c Cancel ticket out ∙ ap answeredBy takes
@@ -138,7 +141,8 @@ module _ (c : Client) (ticket : ℕ) (out : List ℕ) where
       own-timer-told = ap (λ (s : Step Outcome). s .outcome .notice) acts
 
       -- nothing is sent, and the PDU buffer is as it was,
-      pub own-timer-unsent : (timing c Cancel ticket out .outcome .sent ≡ Unsent) × (timing c Cancel ticket out .out ≡ out)
+      pub own-timer-unsent :
+          (timing c Cancel ticket out .outcome .sent ≡ Unsent) × (timing c Cancel ticket out .out ≡ out)
       unfolding sending done stepOf failed going sentOut
       own-timer-unsent = (ap (λ (s : Step Outcome). s .outcome .sent) acts, ap (λ (s : Step Outcome). s .out) acts)
 

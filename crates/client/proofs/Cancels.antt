@@ -1,5 +1,5 @@
--- What the client makes of cancels: what a local cancel sends and leaves, and that CANCEL stays armed until the cancel is
--- answered or the call ends.
+-- What the client makes of cancels: what a local cancel sends and leaves, and that CANCEL stays armed until the
+-- cancel is answered or the call ends.
 use Prim.Native.Nat.{ℕ, _+_, _<_}
 use mathlib.Core.Bool.{Bool, true, false, false≢true}
 use mathlib.Core.List.{List, []}
@@ -79,7 +79,8 @@ start-idle FaultState e = refl
 unfoldable pub Stays : Client → ℕ → Type 0
 Stays d ticket = (d .cancel ≡ Armed ticket) ⊎ (isActive (d .state) ≡ false)
 
--- A datagram that is a cancel_ack, type 10, with the record's call number, well formed and with the record's cancel number.
+-- A datagram that is a cancel_ack, type 10, with the record's call number, well formed and with the record's cancel
+-- number.
 pub record AnswersLast (c : Client) (datagram : List ℕ) : Type 0 where
   pub kind : reading datagram .header .kind ≡ 10
   pub call : reading datagram .header .number ≡ c .number
@@ -87,7 +88,8 @@ pub record AnswersLast (c : Client) (datagram : List ℕ) : Type 0 where
   pub number : cancelAckReading (reading datagram .little) (bodyOf datagram) .number ≡ c .cancels
 
 -- A cancel_ack that is taken is such a one.
-answers-last : (c : Client) (slots out : ℕ) (datagram : List ℕ) → ArrivalTaken c slots out datagram CancelAck → AnswersLast c datagram
+pub answers-last : (c : Client) (slots out : ℕ) (datagram : List ℕ) → ArrivalTaken c slots out datagram CancelAck
+    → AnswersLast c datagram
 unfolding isMalformed both either choose
 answers-last c slots out datagram taken =
     let little = reading datagram .little in
@@ -113,7 +115,8 @@ module _ (c : Client) (ticket : ℕ) (armed : c .cancel ≡ Armed ticket) where
   pub start-stays : (call : Call) (n : ℕ) → Stays (starting c call n .client) ticket
   start-stays call n =
       start-by-rows c (λ d. Stays d ticket) unchanged call n
-      (λ number can. absurd (false≢true (sym (start-idle (c .state) (can .row)) ∙ armed-active c ticket (can .kept) armed)))
+      (λ number can.
+      absurd (false≢true (sym (start-idle (c .state) (can .row)) ∙ armed-active c ticket (can .kept) armed)))
 
   -- a transmit,
   transmitted-stays : (last : Bool) → StaysAfter (Transmit last)
@@ -134,7 +137,8 @@ module _ (c : Client) (ticket : ℕ) (armed : c .cancel ≡ Armed ticket) where
 
   pub timer-stays : (kind : TimerKind) (t : ℕ) (out : List ℕ) → Stays (timing c kind t out .outcome .client) ticket
   timer-stays kind t out =
-      timer-by-rows c (λ d. Stays d ticket) unchanged kind t out (λ row taken. subst StaysAfter (sym (taken .is)) (acting-stays kind))
+      timer-by-rows c (λ d. Stays d ticket) unchanged kind t out
+      (λ row taken. subst StaysAfter (sym (taken .is)) (acting-stays kind))
 
   -- and a further local cancel, which does not arm it afresh.
   pub cancel-stays : (out : List ℕ) → cancelling c out .outcome .client .cancel ≡ Armed ticket
@@ -155,11 +159,14 @@ module _ (c : Client) (ticket : ℕ) (armed : c .cancel ≡ Armed ticket) where
   unfolding stepOf responsePlan
   response-stays p = put-stays (p .complete) (c .call .idempotent) _
 
-  row-stays : (slots out : ℕ) (datagram : List ℕ) (row : Row) → ArrivalTaken c slots out datagram row → (row ≡ CancelAck) ⊎ StaysAfter row
+  row-stays : (slots out : ℕ) (datagram : List ℕ) (row : Row) → ArrivalTaken c slots out datagram row
+      → (row ≡ CancelAck) ⊎ StaysAfter row
   unfolding Stays stepOf going failed workingPlan resent acknowledged withWaits withOutgoing withResends waiting sendsAgain unarmed isActive
   row-stays slots out datagram row taken =
-      arrival-rows c (reading datagram .header) (reading datagram .little) (bodyOf datagram) (λ r. (r ≡ CancelAck) ⊎ StaysAfter r)
-      (λ p. inr (response-stays p)) (λ status. inr (inr refl)) (λ status. inr (inr refl)) (inr (inl armed)) (λ resends. inr (inl armed))
+      arrival-rows c (reading datagram .header) (reading datagram .little) (bodyOf datagram)
+      (λ r. (r ≡ CancelAck) ⊎ StaysAfter r)
+      (λ p a. inr (response-stays p)) (λ status. inr (inr refl)) (λ status. inr (inr refl)) (inr (inl armed))
+      (λ resends. inr (inl armed))
       (λ cause. inr (inr refl)) (λ count. inr (inl armed)) (inl refl) row (taken .arrives)
 
   -- A datagram was taken and answers the last cancel, and CANCEL is off.
@@ -167,7 +174,8 @@ module _ (c : Client) (ticket : ℕ) (armed : c .cancel ≡ Armed ticket) where
   Answered answer d datagram = (answer ≡ Done) × (d .cancel ≡ Off) × AnswersLast c datagram
 
   abbrev StaysUnless : List ℕ → Arrival Outcome → Type 0
-  StaysUnless datagram a = Answered (a .outcome .answer) (a .outcome .client) datagram ⊎ Stays (a .outcome .client) ticket
+  StaysUnless datagram a =
+      Answered (a .outcome .answer) (a .outcome .client) datagram ⊎ Stays (a .outcome .client) ticket
 
   ack-answered : (datagram slots out : List ℕ) → ArrivalTaken c (length slots) (length out) datagram CancelAck
       → StaysUnless datagram (acted (stepOf CancelAck c) (bodyOf datagram) slots out)
@@ -179,7 +187,8 @@ module _ (c : Client) (ticket : ℕ) (armed : c .cancel ≡ Armed ticket) where
   unfolding arriving arrivalBy acted sending refused done
   arrive-stays datagram slots out = by-verdict (arrivalVerdict c (length slots) (length out) datagram) refl
     where
-      by-row : (row : Row) → ArrivalTaken c (length slots) (length out) datagram row → (row ≡ CancelAck) ⊎ StaysAfter row
+      by-row : (row : Row) → ArrivalTaken c (length slots) (length out) datagram row
+          → (row ≡ CancelAck) ⊎ StaysAfter row
           → StaysUnless datagram (acted (stepOf row c) (bodyOf datagram) slots out)
       by-row row taken (inl is) =
           subst (λ (r : Row). StaysUnless datagram (acted (stepOf r c) (bodyOf datagram) slots out)) (sym is)
@@ -194,7 +203,8 @@ module _ (c : Client) (ticket : ℕ) (armed : c .cancel ≡ Armed ticket) where
           by-row row taken (row-stays (length slots) (length out) datagram row taken)
 
 -- The cancel number: a start sets it to 0,
-pub start-uncancelled : (c : Client) (call : Call) (n : ℕ) → starting c call n .answer ≡ Done → starting c call n .client .cancels ≡ 0
+pub start-uncancelled : (c : Client) (call : Call) (n : ℕ) → starting c call n .answer ≡ Done
+    → starting c call n .client .cancels ≡ 0
 unfolding started
 start-uncancelled c call n told = ap (λ (o : Outcome). o .client .cancels) (start-accepted c call n told .does)
 
@@ -219,7 +229,8 @@ module _ (c : Client) where
   unfolding stepOf going failed pinged withWaits withOutgoing waiting unarmed
   acting-leaves kind = timer-rows Leaves (λ waits. refl) refl (λ cause. refl) kind c
 
-  pub timer-cancels : (kind : TimerKind) (ticket : ℕ) (out : List ℕ) → timing c kind ticket out .outcome .client .cancels ≡ c .cancels
+  pub timer-cancels : (kind : TimerKind) (ticket : ℕ) (out : List ℕ)
+      → timing c kind ticket out .outcome .client .cancels ≡ c .cancels
   timer-cancels kind ticket out =
       timer-by-rows c (λ d. d .cancels ≡ c .cancels) refl kind ticket out
       (λ row taken. subst Leaves (sym (taken .is)) (acting-leaves kind))
@@ -235,15 +246,19 @@ module _ (c : Client) where
   unfolding stepOf responsePlan
   response-leaves p = put-leaves (p .complete) (c .call .idempotent) _
 
-  arrived-leaves : (slots out : ℕ) (datagram : List ℕ) (row : Row) → ArrivalTaken c slots out datagram row → Leaves row
+  arrived-leaves : (slots out : ℕ) (datagram : List ℕ) (row : Row) → ArrivalTaken c slots out datagram row
+      → Leaves row
   unfolding stepOf going failed workingPlan resent acknowledged cancelDisarmed withWaits withOutgoing withResends waiting sendsAgain unarmed
   arrived-leaves slots out datagram row taken =
-      arrival-rows c (reading datagram .header) (reading datagram .little) (bodyOf datagram) Leaves response-leaves
+      arrival-rows c (reading datagram .header) (reading datagram .little) (bodyOf datagram) Leaves
+      (λ p a. response-leaves p)
       (λ status. refl) (λ status. refl) refl (λ resends. refl) (λ cause. refl) (λ count. refl) refl row (taken .arrives)
 
-  pub arrive-cancels : (datagram slots out : List ℕ) → arriving c datagram slots out .outcome .client .cancels ≡ c .cancels
+  pub arrive-cancels : (datagram slots out : List ℕ)
+      → arriving c datagram slots out .outcome .client .cancels ≡ c .cancels
   arrive-cancels datagram slots out =
-      arrive-by-rows c datagram slots out (λ d later. d .cancels ≡ c .cancels) refl (arrived-leaves (length slots) (length out) datagram)
+      arrive-by-rows c datagram slots out (λ d later. d .cancels ≡ c .cancels) refl
+      (arrived-leaves (length slots) (length out) datagram)
 
 -- As a cancel a PDU tells its reader the call and the cancel number.
 pub record AsksCancel (c : Client) (n : ℕ) (pdu : List ℕ) : Type 0 where
@@ -332,14 +347,18 @@ module _ (c : Client) (out : List ℕ) (told : cancelling c out .outcome .answer
       subst (AsksCancel c (c .cancels + 1))
       (sym (ap (λ (s : Step Outcome). sentBytes (s .outcome .sent) (s .out)) does
       ∙ ap (λ (q : Posting). sentBytes (q .sent) (q .out)) posted
-      ∙ whole-bytes (pduHeader 8 0 0 c) (cancelBytes (c .cancels + 1)) out room (fits .sized) (unfold cancelBytes in omega arith)))
+      ∙ whole-bytes (pduHeader 8 0 0 c) (cancelBytes (c .cancels + 1)) out room (fits .sized)
+      (unfold cancelBytes in omega arith)))
       (cancel-tells c (c .cancels + 1) (omega (arith, numbered)) fits)
 
   -- it arms CANCEL if that is off;
   pub cancel-arms : CancelAfter (c .cancel) (c .tickets) (after .cancel) (after .tickets)
   unfolding sending done cancelRow stepOf going cancelled withCancels cancelArmed
   cancel-arms =
-      subst (λ (s : Step Outcome). CancelAfter (c .cancel) (c .tickets) (s .outcome .client .cancel) (s .outcome .client .tickets)) (sym does)
+      subst
+      (λ (s : Step Outcome).
+      CancelAfter (c .cancel) (c .tickets) (s .outcome .client .cancel) (s .outcome .client .tickets))
+      (sym does)
       (by-timer (c .cancel) (judged .can .free))
     where
       by-timer : (t : Timer) → (off t ≡ true → usedUp (c .tickets) ≡ false)
@@ -384,8 +403,8 @@ module _ (c : Client) (out : List ℕ) (told : cancelling c out .outcome .answer
   unfolding sending done cancelRow stepOf going
   cancel-untold = ap (λ (s : Step Outcome). s .outcome .notice) does
 
--- A cancel_ack, type 10, that is taken has the record's cancel number; CANCEL was armed and is off then, and nothing else of
--- the record changes.
+-- A cancel_ack, type 10, that is taken has the record's cancel number; CANCEL was armed and is off then, and nothing
+-- else of the record changes.
 module _ (c : Client) (datagram slots out : List ℕ) (told : arriving c datagram slots out .outcome .answer ≡ Done)
     (typed : reading datagram .header .kind ≡ 10) where
   pub cancel-ack-answers : AnswersLast c datagram × (off (c .cancel) ≡ false)

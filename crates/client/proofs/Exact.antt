@@ -49,7 +49,8 @@ use Rattle.client.proofs.Accepting.{start-accepted, transmit-accepted, 
 
 -- A start gives the next number of a record whose number is a u32,
 module _ (c : Client) (call : Call) (n : ℕ) (told : starting c call n .answer ≡ Done) where
-  pub start-number : c .number < 4294967296 → starting c call n .client .number ≡ choose (isQueued (c .state)) 0 (c .number + 1)
+  pub start-number : c .number < 4294967296
+      → starting c call n .client .number ≡ choose (isQueued (c .state)) 0 (c .number + 1)
   unfolding started
   start-number small =
       let a = start-accepted c call n told in
@@ -108,12 +109,14 @@ module _ (c : Client) (datagram slots out : List ℕ) (told : arriving c datagra
 
   -- After a response, type 2, its slot has the length of its body,
   pub response-length : h .kind ≡ 2
-      → arriving c datagram slots out .outcome .client .incoming ≡ stored (c .incoming) (h .fragment) (length body) (isLast (h .flags1))
+      → arriving c datagram slots out .outcome .client .incoming
+      ≡ stored (c .incoming) (h .fragment) (length body) (isLast (h .flags1))
   unfolding acted sending done stepOf responsePlan putOf withIncoming withWaits
   response-length typed =
       let a = response-accepted c datagram slots out told typed in
       ap (λ (x : Arrival Outcome). x .outcome .client .incoming) (a .does)
-      ∙ ap (λ (k : ℕ). stored (c .incoming) (h .fragment) k (isLast (h .flags1))) (body-length body (body-short datagram (a .taken .read)))
+      ∙ ap (λ (k : ℕ). stored (c .incoming) (h .fragment) k (isLast (h .flags1)))
+      (body-length body (body-short datagram (a .taken .read)))
 
   -- and is held,
   pub response-held : h .kind ≡ 2
@@ -122,7 +125,8 @@ module _ (c : Client) (datagram slots out : List ℕ) (told : arriving c datagra
   response-held typed =
       let a = response-accepted c datagram slots out told typed in
       ap (λ (m : Incoming). held m (h .fragment)) (response-length typed)
-      ∙ stored-held (c .incoming) (h .fragment) (length body) (isLast (h .flags1)) (rules-told c (a .taken .judged .kept) .incoming)
+      ∙ stored-held (c .incoming) (h .fragment) (length body) (isLast (h .flags1))
+      (rules-told c (a .taken .judged .kept) .incoming)
       (a .taken .judged .can .can)
 
   -- and its body lies in its place of the slot buffer.

@@ -30,7 +30,7 @@ use Rattle.reader.specs.Reading.{reading}
 use Rattle.writer.proofs.RoundTrip.{Fits}
 use Rattle.client.specs.declared.records.Client.{Client}
 use Rattle.client.specs.declared.judge.Row.{Row}
-use Rattle.client.specs.declared.judge.Row.the-variants.{Transmit, Ping, SendAck, Cancel, Response, Fault, Reject, Working, Resend, GiveUp, Fack, CancelAck}
+use Rattle.client.specs.declared.judge.Row.the-variants.{Response}
 use Rattle.client.specs.declared.step.Plan.{Plan}
 use Rattle.client.specs.declared.step.Send.{Send}
 use Rattle.client.specs.declared.step.Send.the-variants.{Nothing, Fack as SendFack}
@@ -41,31 +41,23 @@ use Rattle.client.specs.step.Steps.{putRecord, received, fackFor, respon
 use Rattle.client.specs.Sending.{pduHeader, sentOut}
 use Rattle.client.specs.Machine.{done, sending, acted, arriving}
 use Rattle.client.proofs.RuleLaws.{rules-told}
-use Rattle.client.proofs.RowLaws.{Arrives}
+use Rattle.client.proofs.RowLaws.{Arrives, arrival-rows}
 use Rattle.client.proofs.Accepting.{ArrivedAs, arrive-accepted, arrive-room, responsePut, response-accepted}
 use Rattle.client.proofs.Putting.{response-holds}
 use Rattle.client.proofs.Keeping.{arrive-keeps}
 use Rattle.client.proofs.Sends.{fack-whole}
 
 -- A row of what arrives, other than a response's, sends nothing.
-others-send : (row : Row) (c : Client) (h : Header) (little : Bool) (body : List ℕ) → Arrives row c h little body → (h .kind ≡ 2 → ⊥)
-    → stepOf row c .send ≡ Nothing
+others-send : (c : Client) (h : Header) (little : Bool) (body : List ℕ) → (h .kind ≡ 2 → ⊥)
+    → (row : Row) → Arrives row c h little body → stepOf row c .send ≡ Nothing
 unfolding stepOf going failed workingPlan
-others-send (Transmit last) c h little body a other = absurd a
-others-send (Ping waits) c h little body a other = absurd a
-others-send SendAck c h little body a other = absurd a
-others-send (Cancel number) c h little body a other = absurd a
-others-send (Response p) c h little body a other = absurd (other (a .typed))
-others-send (Fault status) c h little body a other = refl
-others-send (Reject status) c h little body a other = refl
-others-send Working c h little body a other = refl
-others-send (Resend resends) c h little body a other = refl
-others-send (GiveUp cause) c h little body a other = refl
-others-send (Fack count) c h little body a other = refl
-others-send CancelAck c h little body a other = refl
+others-send c h little body other =
+    arrival-rows c h little body (λ r. stepOf r c .send ≡ Nothing) (λ p a. absurd (other (a .typed)))
+    (λ status. refl) (λ status. refl) refl (λ resends. refl) (λ cause. refl) (λ count. refl) refl
 
 -- What goes out where a plan is acted on is what it sends, of its record.
-posts : (plan : Plan) (body slots out : List ℕ) (a : Arrival Outcome) (send : Send) → a ≡ acted plan body slots out → plan .send ≡ send
+posts : (plan : Plan) (body slots out : List ℕ) (a : Arrival Outcome) (send : Send) → a ≡ acted plan body slots out
+    → plan .send ≡ send
     → record { sent = a .outcome .sent; out = a .out } ≡ sentOut send (a .outcome .client) [] out
 unfolding acted sending done
 posts plan body slots out a send does e =
@@ -105,7 +97,8 @@ module _ (c : Client) (datagram slots out : List ℕ) (told : arriving c datagra
 
   -- A response that is put is answered by what its flags ask for,
   response-posts : h .kind ≡ 2 → (wanted : Bool) → wantsFack (h .flags1) ≡ wanted
-      → record { sent = sent; out = arriving c datagram slots out .out } ≡ sentOut (fackFor wanted (h .serial) (put .count)) after [] out
+      → record { sent = sent; out = arriving c datagram slots out .out }
+      ≡ sentOut (fackFor wanted (h .serial) (put .count)) after [] out
   unfolding stepOf responsePlan putOf
   response-posts typed wanted e =
       posts (stepOf (Response put) c) (bodyOf datagram) slots out _ _ (response typed .does)
@@ -117,7 +110,8 @@ module _ (c : Client) (datagram slots out : List ℕ) (told : arriving c datagra
   count-is typed =
       let a = response typed in
       a .taken .judged .can .count
-      ∙ ap contiguous (sym (ap (λ (x : Arrival Outcome). x .outcome .client .incoming) (a .does) ∙ response-holds put c))
+      ∙ ap contiguous
+      (sym (ap (λ (x : Arrival Outcome). x .outcome .client .incoming) (a .does) ∙ response-holds put c))
 
   header-kept : h .kind ≡ 2 → (f : ℕ) → pduHeader 9 0 f after ≡ pduHeader 9 0 f c
   unfolding acted sending done stepOf responsePlan
@@ -163,4 +157,4 @@ module _ (c : Client) (datagram slots out : List ℕ) (told : arriving c datagra
       let a = arrive-accepted c datagram slots out told in
       ap (λ (p : Posting). p .sent)
       (posts (stepOf (a .row) c) (bodyOf datagram) slots out _ Nothing (a .does)
-      (others-send (a .row) c h (reading datagram .little) (bodyOf datagram) (a .taken .arrives) other))
+      (others-send c h (reading datagram .little) (bodyOf datagram) other (a .row) (a .taken .arrives)))

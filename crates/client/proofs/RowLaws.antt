@@ -115,13 +115,15 @@ module _ (c : Client) (h : Header) (little : Bool) (body : List ℕ) where
   unfolding nocallRow choose
   nocall-arrives typed row = by-count (ltb (c .resends) retryLimit) refl
     where
-      by-count : (t : Bool) → ltb (c .resends) retryLimit ≡ t → ArrivesAs (choose t (Resend (c .resends + 1)) (GiveUp 2))
+      by-count : (t : Bool) → ltb (c .resends) retryLimit ≡ t
+          → ArrivesAs (choose t (Resend (c .resends + 1)) (GiveUp 2))
       by-count true e =
           record { typed = typed; row = row; count = refl; below = ltb-true (c .resends) retryLimit e }
       by-count false e =
           record { typed = typed; row = row; cause = refl; limit = ltb-false (c .resends) retryLimit e }
 
-  current-arrives : h .kind ≡ 10 → isCurrent (c .cancel) (c .cancels) (cancelNumberIn little body) ≡ true → ArrivesAs CancelAck
+  current-arrives : h .kind ≡ 10 → isCurrent (c .cancel) (c .cancels) (cancelNumberIn little body) ≡ true
+      → ArrivesAs CancelAck
   unfolding isCurrent
   current-arrives typed current =
       let told = both-true (not (off (c .cancel))) (eqb (c .cancels) (cancelNumberIn little body)) current in
@@ -135,7 +137,8 @@ module _ (c : Client) (h : Header) (little : Bool) (body : List ℕ) where
   of-type : (kind : ℕ) (has : Bool) (own taken : Row) (rest : Verdict)
       → (h .kind ≡ kind → has ≡ true → ArrivesAs own) → (rest ≡ Go taken → ArrivesAs taken)
       → choose (eqb (h .kind) kind) (rowIn has own) rest ≡ Go taken → ArrivesAs taken
-  of-type kind has own taken rest here behind e = by-choice (chosen (eqb (h .kind) kind) (rowIn has own) rest (Go taken) e)
+  of-type kind has own taken rest here behind e =
+      by-choice (chosen (eqb (h .kind) kind) (rowIn has own) rest (Go taken) e)
     where
       by-choice : ((eqb (h .kind) kind ≡ true) × (rowIn has own ≡ Go taken)) ⊎ (rest ≡ Go taken) → ArrivesAs taken
       by-choice (inl f) =
@@ -155,13 +158,18 @@ module _ (c : Client) (h : Header) (little : Bool) (body : List ℕ) where
       (of-type 10 _ _ row _ current-arrives
       (λ e. absurd (unrowed row WrongSide e))))))))
 
-  -- A response, a fack and a cancel_ack have their row by their type.
+  -- A response, working, a fack and a cancel_ack have their row by their type.
   pub response-typed : h .kind ≡ 2 → (row : Row) → arrivalRow c h little body ≡ Go row
       → row ≡ Response (putOf (c .incoming) (h .flags1) (h .serial) (h .fragment) (bodyLength body))
   unfolding arrivalRow choose
   response-typed typed row e = sym (row-in (isActive (c .state)) _ row (rw typed at e) .1)
 
-  pub fack-typed : h .kind ≡ 9 → (row : Row) → arrivalRow c h little body ≡ Go row → row ≡ Fack (acknowledgedBy (h .fragment))
+  pub working-typed : h .kind ≡ 4 → (row : Row) → arrivalRow c h little body ≡ Go row → row ≡ Working
+  unfolding arrivalRow choose
+  working-typed typed row e = sym (row-in (isDispatched (c .state)) Working row (rw typed at e) .1)
+
+  pub fack-typed : h .kind ≡ 9 → (row : Row) → arrivalRow c h little body ≡ Go row
+      → row ≡ Fack (acknowledgedBy (h .fragment))
   unfolding arrivalRow choose
   fack-typed typed row e = sym (row-in (isActive (c .state)) _ row (rw typed at e) .1)
 
@@ -171,14 +179,15 @@ module _ (c : Client) (h : Header) (little : Bool) (body : List ℕ) where
       sym (row-in (isCurrent (c .cancel) (c .cancels) (cancelNumberIn little body)) CancelAck row (rw typed at e) .1)
 
   -- What holds of each row of an arrival holds of the row that one has,
-  pub arrival-rows : (P : Row → Type 0) → ((p : Fragment) → P (Response p)) → ((status : ℕ) → P (Fault status))
-      → ((status : ℕ) → P (Reject status)) → P Working → ((resends : ℕ) → P (Resend resends)) → ((cause : ℕ) → P (GiveUp cause))
-      → ((count : ℕ) → P (Fack count)) → P CancelAck → (row : Row) → ArrivesAs row → P row
+  pub arrival-rows : (P : Row → Type 0) → ((p : Fragment) → ArrivesResponse c h body p → P (Response p))
+      → ((status : ℕ) → P (Fault status)) → ((status : ℕ) → P (Reject status)) → P Working
+      → ((resends : ℕ) → P (Resend resends)) → ((cause : ℕ) → P (GiveUp cause)) → ((count : ℕ) → P (Fack count))
+      → P CancelAck → (row : Row) → ArrivesAs row → P row
   arrival-rows P response fault reject working resend over fack ack (Transmit last) a = absurd a
   arrival-rows P response fault reject working resend over fack ack (Ping waits) a = absurd a
   arrival-rows P response fault reject working resend over fack ack SendAck a = absurd a
   arrival-rows P response fault reject working resend over fack ack (Cancel number) a = absurd a
-  arrival-rows P response fault reject working resend over fack ack (Response p) a = response p
+  arrival-rows P response fault reject working resend over fack ack (Response p) a = response p a
   arrival-rows P response fault reject working resend over fack ack (Fault status) a = fault status
   arrival-rows P response fault reject working resend over fack ack (Reject status) a = reject status
   arrival-rows P response fault reject working resend over fack ack Working a = working

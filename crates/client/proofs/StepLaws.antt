@@ -29,7 +29,8 @@ use Rattle.client.proofs.StateLaws.{sending-state, dispatched-state, ac
 use Rattle.client.proofs.RuleLaws.{rules-told, rules-hold, counts-told, counts-hold, unsent-told, unsent-holds, timers-kept}
 use Rattle.client.proofs.RecordLaws.{Untimed, untimed-told, unarmed-timers, waiting-sound, ack-pending-sound, unarmed-sound, sending-sound, cancel-armed-sound}
 
--- The number of a call that starts is one more than a u32 that is not used up, with no modulus; that of a fresh client is 0.
+-- The number of a call that starts is one more than a u32 that is not used up, with no modulus; that of a fresh
+-- client is 0.
 pub next-number : (queued : Bool) (number : ℕ) → number < 4294967296 → (queued ≡ false → number ≡ 4294967295 → ⊥)
     → nextNumber queued number ≡ choose queued 0 (number + 1)
 unfolding nextNumber choose
@@ -41,7 +42,8 @@ pub next-cancel : (cancels : ℕ) → cancels < 4294967296 → (cancels ≡ 4294
 next-cancel cancels small left = omega (arith, left)
 
 -- Start: the new call's record keeps the rules.
-pub started-sound : (c : Client) (number : ℕ) (call : Call) (n : ℕ) → n ≤ messageSize → sound (started c number call n) ≡ true
+pub started-sound : (c : Client) (number : ℕ) (call : Call) (n : ℕ) → n ≤ messageSize
+    → sound (started c number call n) ≡ true
 unfolding started incomingSound cleared slotSound both choose
 started-sound c number call n short =
     rules-hold (started c number call n)
@@ -55,20 +57,24 @@ started-sound c number call n short =
 module _ (c : Client) (kept : sound c ≡ true) where
   -- In an active state CANCEL may be armed.
   pub active-cancel : isActive (c .state) ≡ true → timerSound true (c .cancel) (c .tickets) ≡ true
-  active-cancel active = subst (λ (named : Bool). timerSound named (c .cancel) (c .tickets) ≡ true) active (timers-kept c kept .cancel)
+  active-cancel active =
+      subst (λ (named : Bool). timerSound named (c .cancel) (c .tickets) ≡ true) active (timers-kept c kept .cancel)
 
   -- In SEND_FRAGS a fragment is left to send, of at most 32,
-  fragment-left : isSending (c .state) ≡ true → (c .outgoing .sent < c .outgoing .count) × (c .outgoing .count ≤ lastNumber + 1)
+  fragment-left : isSending (c .state) ≡ true
+      → (c .outgoing .sent < c .outgoing .count) × (c .outgoing .count ≤ lastNumber + 1)
   unfolding isQueued
   fragment-left sends =
       let state = sending-state (c .state) sends in
       let parts = untimed-told c kept (ap isQueued state) in (
-        unsent-told (c .outgoing) (subst (λ (s : State). outgoingSound s (c .outgoing) ≡ true) state (rules-told c kept .outgoing)),
+        unsent-told (c .outgoing)
+            (subst (λ (s : State). outgoingSound s (c .outgoing) ≡ true) state (rules-told c kept .outgoing)),
         message-count-range (c .outgoing) (parts .message) .1,
       )
 
   -- so a transmit counts one more as sent, be it the last or not;
-  pub transmitted-one-more : isSending (c .state) ≡ true → (last : Bool) → transmitted last c .outgoing .sent ≡ c .outgoing .sent + 1
+  pub transmitted-one-more : isSending (c .state) ≡ true → (last : Bool)
+      → transmitted last c .outgoing .sent ≡ c .outgoing .sent + 1
   unfolding transmitted withOutgoing waiting choose
   transmitted-one-more sends true = sent-more (c .outgoing) (fragment-left sends .0) (fragment-left sends .1)
   transmitted-one-more sends false = sent-more (c .outgoing) (fragment-left sends .0) (fragment-left sends .1)
@@ -106,7 +112,8 @@ module _ (c : Client) (kept : sound c ≡ true) where
 
       by-last : (t : Bool) → sendsLast (c .outgoing) ≡ t → sound (transmitted t c) ≡ true
       by-last true e =
-          waiting-sound (withOutgoing c (afterSend (c .outgoing))) (record { counts = parts .counts; bound = bound; message = message; held = parts .held })
+          waiting-sound (withOutgoing c (afterSend (c .outgoing)))
+          (record { counts = parts .counts; bound = bound; message = message; held = parts .held })
           Dispatched refl (free e) (active-cancel (ap isActive state))
       by-last false e =
           rules-hold (withOutgoing c (afterSend (c .outgoing)))
@@ -137,7 +144,8 @@ module _ (c : Client) (kept : sound c ≡ true) where
   -- ACK, to COMPLETE.
   pub ack-sound : isAckPending (c .state) ≡ true → sound (unarmed c Complete) ≡ true
   unfolding isQueued isSending
-  ack-sound confirms = unarmed-sound c (untimed-told c kept (ap isQueued (ack-pending-state (c .state) confirms))) Complete refl refl
+  ack-sound confirms =
+      unarmed-sound c (untimed-told c kept (ap isQueued (ack-pending-state (c .state) confirms))) Complete refl refl
 
   -- To FAULT from any state but QUEUED.
   pub failed-sound : (notice : Notice) → isQueued (c .state) ≡ false → sound (failed c notice .client) ≡ true
@@ -145,15 +153,18 @@ module _ (c : Client) (kept : sound c ≡ true) where
   failed-sound notice e = unarmed-sound c (untimed-told c kept e) Fault refl refl
 
   -- A local cancel in an active state, with a ticket left where CANCEL is off.
-  pub cancelled-sound : (number : ℕ) → isActive (c .state) ≡ true → (off (c .cancel) ≡ true → usedUp (c .tickets) ≡ false)
+  pub cancelled-sound : (number : ℕ) → isActive (c .state) ≡ true
+      → (off (c .cancel) ≡ true → usedUp (c .tickets) ≡ false)
       → sound (cancelled c number) ≡ true
   unfolding cancelled withCancels
   cancelled-sound number active free =
       let r = rules-told (cancelArmed c) (cancel-armed-sound c kept active free) in
-      rules-hold (cancelled c number) (record { counts = r .counts; outgoing = r .outgoing; incoming = r .incoming; timers = r .timers })
+      rules-hold (cancelled c number)
+      (record { counts = r .counts; outgoing = r .outgoing; incoming = r .incoming; timers = r .timers })
 
   -- Fack: where no more is acknowledged than the message has.
-  pub acknowledged-sound : (count : ℕ) → isActive (c .state) ≡ true → count ≤ c .outgoing .count → sound (acknowledged c count) ≡ true
+  pub acknowledged-sound : (count : ℕ) → isActive (c .state) ≡ true → count ≤ c .outgoing .count
+      → sound (acknowledged c count) ≡ true
   unfolding acknowledged withOutgoing outgoingSound hasNothing hasMessage acknowledgedTo
   acknowledged-sound count active fits =
       let r = rules-told c kept in
@@ -169,9 +180,11 @@ module _ (c : Client) (kept : sound c ≡ true) where
         timers = r .timers;
       })
 
-  -- Response: where what is held after the put keeps its rules, and a ticket is left unless an idempotent call is complete.
+  -- Response: where what is held after the put keeps its rules, and a ticket is left unless an idempotent call is
+  -- complete.
   pub response-sound : (p : Fragment) → isActive (c .state) ≡ true → incomingSound (putInto (c .incoming) p) ≡ true
-      → (both (p .complete) (c .call .idempotent) ≡ false → usedUp (c .tickets) ≡ false) → sound (responsePlan c p .client) ≡ true
+      → (both (p .complete) (c .call .idempotent) ≡ false → usedUp (c .tickets) ≡ false)
+      → sound (responsePlan c p .client) ≡ true
   unfolding responsePlan putRecord withIncoming withWaits waiting ackPending unarmed both choose isQueued isSending isWaiting
   response-sound p active right free = by-tests (p .complete) (c .call .idempotent) free
     where
@@ -182,13 +195,19 @@ module _ (c : Client) (kept : sound c ≡ true) where
       parts =
           let old = untimed-told c kept (active-state (c .state) active) in
           let counts = counts-told (c .waits) (c .resends) (old .counts) in
-          record { counts = counts-hold 0 (c .resends) (omega arith) (counts .1); bound = old .bound; message = old .message; held = right }
+          record {
+            counts = counts-hold 0 (c .resends) (omega arith) (counts .1);
+            bound = old .bound;
+            message = old .message;
+            held = right;
+          }
 
       by-tests : (all idempotent : Bool) → (both all idempotent ≡ false → usedUp (c .tickets) ≡ false)
           → sound (received (putRecord all idempotent c) m) ≡ true
       by-tests true true left = unarmed-sound (received c m) parts Complete refl refl
       by-tests true false left = ack-pending-sound (received c m) parts (left refl)
-      by-tests false idempotent left = waiting-sound (received c m) parts ReceiveFrags refl (left refl) (active-cancel active)
+      by-tests false idempotent left =
+          waiting-sound (received c m) parts ReceiveFrags refl (left refl) (active-cancel active)
 
   -- DISPATCHED is active.
   dispatched-active : isDispatched (c .state) ≡ true → isActive (c .state) ≡ true
@@ -196,17 +215,24 @@ module _ (c : Client) (kept : sound c ≡ true) where
   dispatched-active dispatched = ap isActive (dispatched-state (c .state) dispatched)
 
   -- Working: where a ticket is left.
-  pub working-sound : isDispatched (c .state) ≡ true → usedUp (c .tickets) ≡ false → sound (workingPlan c .client) ≡ true
+  pub working-sound : isDispatched (c .state) ≡ true → usedUp (c .tickets) ≡ false
+      → sound (workingPlan c .client) ≡ true
   unfolding workingPlan going withWaits isQueued isWaiting
   working-sound dispatched free =
       let old = untimed-told c kept (ap isQueued (dispatched-state (c .state) dispatched)) in
       let counts = counts-told (c .waits) (c .resends) (old .counts) in
       waiting-sound (withWaits c 0)
-      (record { counts = counts-hold 0 (c .resends) (omega arith) (counts .1); bound = old .bound; message = old .message; held = old .held })
+      (record {
+        counts = counts-hold 0 (c .resends) (omega arith) (counts .1);
+        bound = old .bound;
+        message = old .message;
+        held = old .held;
+      })
       Dispatched refl free (active-cancel (dispatched-active dispatched))
 
   -- Nocall with a count within the limit: the message goes out again.
-  pub resent-sound : (resends : ℕ) → isDispatched (c .state) ≡ true → resends ≤ retryLimit → sound (resent c resends) ≡ true
+  pub resent-sound : (resends : ℕ) → isDispatched (c .state) ≡ true → resends ≤ retryLimit
+      → sound (resent c resends) ≡ true
   unfolding resent withResends withOutgoing sending isQueued
   resent-sound resends dispatched few =
       let old = untimed-told c kept (ap isQueued (dispatched-state (c .state) dispatched)) in

@@ -1,5 +1,5 @@
--- The numbers of each table of refusals rise, so the lowest position decides: where the test of a line holds, the event is
--- refused with a number at most that line's.
+-- The numbers of each table of refusals rise, so the lowest position decides: where the test of a line holds, the
+-- event is refused with a number at most that line's.
 use Prim.Native.Nat.{ℕ, _≤_}
 use mathlib.Core.Bool.{true, true≢false}
 use mathlib.Core.List.{List}
@@ -30,7 +30,8 @@ pub record RefusedAtMost (a : Answer) (most : Refusal) : Type 0 where
 
 -- What a table gives where the test of one of its lines holds.
 lowest : {A : Type 0} (refuse : Refusal → A) (answer : A → Answer) → ((r : Refusal) → answer (refuse r) ≡ Refused r)
-    → (table : List Line) (behind : A) → risesFrom 0 table ≡ true → (line : Line) → Stands line table → line .test ≡ true
+    → (table : List Line) (behind : A) → risesFrom 0 table ≡ true → (line : Line) → Stands line table
+    → line .test ≡ true
     → RefusedAtMost (answer (firstOf refuse table behind)) (line .refusal)
 unfolding behindAnswer
 lowest {A} refuse answer told table behind rises line stands holds = by-case (answerOf table) refl
@@ -43,7 +44,9 @@ lowest {A} refuse answer told table behind rises line stands holds = by-case (an
     by-case (Refused r) e = record {
       refusal = r;
       is = ap answer (by-answer refuse table behind ∙ ap (behindAnswer refuse behind) e) ∙ told r;
-      low = subst (λ (n : ℕ). n ≤ refusalNumber (line .refusal)) (by-answer refusalNumber table 0 ∙ ap (behindAnswer refusalNumber 0) e) least;
+      low =
+          subst (λ (n : ℕ). n ≤ refusalNumber (line .refusal))
+          (by-answer refusalNumber table 0 ∙ ap (behindAnswer refusalNumber 0) e) least;
     }
 
 module _ (c : Client) where
@@ -64,7 +67,8 @@ module _ (c : Client) where
   unfolding transmitRefusals both choose
   transmit-rise message out = refl
 
-  pub transmit-lowest : (message out : List ℕ) (line : Line) → Stands line (transmitRefusals c (length message) (length out))
+  pub transmit-lowest : (message out : List ℕ) (line : Line)
+      → Stands line (transmitRefusals c (length message) (length out))
       → line .test ≡ true → RefusedAtMost (transmitting c message out .outcome .answer) (line .refusal)
   unfolding transmitVerdict
   transmit-lowest message out line stands holds =
@@ -96,7 +100,8 @@ module _ (c : Client) where
   unfolding cancelVerdict
   cancel-lowest out line stands holds =
       rw (cancel-answers c out)
-      (lowest Refuse answeredBy (λ r. refl) (cancelRefusals c (length out)) _ (cancel-rise (length out)) line stands holds)
+      (lowest Refuse answeredBy (λ r. refl) (cancelRefusals c (length out)) _
+      (cancel-rise (length out)) line stands holds)
 
   -- and an arriving datagram.
   pub arrive-rise : (slots out : ℕ) (datagram : List ℕ) → risesFrom 0 (arrivalRefusals c slots out datagram) ≡ true

@@ -57,7 +57,8 @@ module _ (c : Client) (lent out : List ℕ) (short : length lent ≤ bodySize) (
       (empty-whole c out room 7 (omega arith)))
   unfacked (SendFack serial count) e z = absurd (false≢true (sym e))
   unfacked (SendCancel n) e z =
-      inr (sent-other _ (cancelBytes n) out (sized-as 8 0 0 z) (omega arith) refl (unfold cancelBytes in omega arith) (eqb-false 8 9 refl) room _
+      inr (sent-other _ (cancelBytes n) out (sized-as 8 0 0 z) (omega arith) refl (unfold cancelBytes in omega arith)
+      (eqb-false 8 9 refl) room _
       (cancel-whole c out room n))
 
 -- A start sends nothing.
@@ -86,20 +87,25 @@ pub transmit-unfacked : (c : Client) (message out : List ℕ) → transmitting c
     → Unfacked (transmitting c message out .outcome .sent) (transmitting c message out .out)
 transmit-unfacked c message out told =
     let a = transmit-accepted c message out told in
-    step-unfacked c (a .row) (fragmentOf message (c .outgoing .sent)) out _ (a .does) (ap puts (a .taken .is) ∙ transmit-puts-none c)
+    step-unfacked c (a .row) (fragmentOf message (c .outgoing .sent)) out _ (a .does)
+    (ap puts (a .taken .is) ∙ transmit-puts-none c)
     (fragment-most message (c .outgoing .sent)) (a .taken .buffer)
 
 -- at a local cancel,
 pub cancel-unfacked : (c : Client) (out : List ℕ) → cancelling c out .outcome .answer ≡ Done
-    → Sized (pduHeader 0 0 0 (cancelling c out .outcome .client)) → Unfacked (cancelling c out .outcome .sent) (cancelling c out .out)
+    → Sized (pduHeader 0 0 0 (cancelling c out .outcome .client))
+    → Unfacked (cancelling c out .outcome .sent) (cancelling c out .out)
 cancel-unfacked c out told =
     let a = cancel-accepted c out told in
-    step-unfacked c (a .row) [] out _ (a .does) (ap puts (a .taken .is) ∙ cancel-puts-none c) (omega arith) (a .taken .buffer)
+    step-unfacked c (a .row) [] out _ (a .does) (ap puts (a .taken .is) ∙ cancel-puts-none c) (omega arith)
+    (a .taken .buffer)
 
 -- and at a timer.
 pub timer-unfacked : (c : Client) (kind : TimerKind) (ticket : ℕ) (out : List ℕ)
-    → timing c kind ticket out .outcome .answer ≡ Done → Sized (pduHeader 0 0 0 (timing c kind ticket out .outcome .client))
+    → timing c kind ticket out .outcome .answer ≡ Done
+    → Sized (pduHeader 0 0 0 (timing c kind ticket out .outcome .client))
     → Unfacked (timing c kind ticket out .outcome .sent) (timing c kind ticket out .out)
 timer-unfacked c kind ticket out told =
     let a = timer-accepted c kind ticket out told in
-    step-unfacked c (a .row) [] out _ (a .does) (ap puts (a .taken .is) ∙ timer-puts-none kind c) (omega arith) (a .taken .buffer)
+    step-unfacked c (a .row) [] out _ (a .does) (ap puts (a .taken .is) ∙ timer-puts-none kind c) (omega arith)
+    (a .taken .buffer)

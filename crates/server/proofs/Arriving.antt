@@ -122,7 +122,7 @@ module _ (s : Server) (h : Header) (little : Bool) (body : List ℕ)
           slot-free k cleared (ap (λ (o : Order). puts o (s .state)) (newer .0))
           (ap (λ (o : Order). slotsFor o (s .state) (s .incoming)) (newer .0));
       count = refl;
-      all = refl;
+      complete = refl;
       short = omega arith;
     }
     begin-can k (inr again) = record {
@@ -130,7 +130,7 @@ module _ (s : Server) (h : Header) (little : Bool) (body : List ℕ)
       idle = ap isRunning (again .1);
       can = slot-free k cleared (λ i. puts (again .0 i) (again .1 i)) (λ i. slotsFor (again .0 i) (again .1 i) (s .incoming));
       count = refl;
-      all = refl;
+      complete = refl;
       short = omega arith;
     }
 
@@ -143,7 +143,7 @@ module _ (s : Server) (h : Header) (little : Bool) (body : List ℕ)
       same = request-passed k .called equal;
       can = slot-free k (s .incoming) (λ i. puts (equal i) (state i)) (λ i. slotsFor (equal i) (state i) (s .incoming));
       count = refl;
-      all = refl;
+      complete = refl;
       short = omega arith;
     }
 

@@ -46,7 +46,7 @@ use Rattle.server.specs.declared.Outcome.{Outcome}
 use Rattle.server.specs.Machine.{done, replying, sending, transmitting, acted, arriving}
 use Rattle.server.proofs.RuleLaws.{rules-told, count-most}
 use Rattle.server.proofs.TableLaws.{fack-row}
-use Rattle.server.proofs.StepLaws.{transmitted-one-more, row-held}
+use Rattle.server.proofs.StepLaws.{transmitted-one-more, begin-held, put-held}
 use Rattle.server.proofs.Judging.{CanTake, transmit-rows, reply-taken, transmit-taken}
 use Rattle.server.proofs.Arriving.{ArriveTaken, arrive-taken}
 use Rattle.server.proofs.Accepting.{reply-accepted, transmit-accepted, arrive-accepted, reply-is, transmit-is, arrive-is}
@@ -143,7 +143,7 @@ module _ (s : Server) (datagram slots out : List ℕ) where
         → after .incoming ≡ stored (s .incoming) (h .fragment) (length (bodyOf datagram)) (isLast (h .flags1))
     put-length taken =
         let j = known (Put p) taken in
-        held-then (Put p) taken ∙ row-held s h (Put p) ∙ put-whole (s .incoming) p (j .told .3) (j .short)
+        held-then (Put p) taken ∙ put-held s h p ∙ put-whole (s .incoming) p (j .told .3) (j .short)
 
     -- it is held,
     pub put-is-held : Taken (Put p) → held (after .incoming) (h .fragment) ≡ true
@@ -167,7 +167,7 @@ module _ (s : Server) (datagram slots out : List ℕ) where
         → after .incoming ≡ stored cleared (h .fragment) (length (bodyOf datagram)) (isLast (h .flags1))
     begin-length taken =
         let j = known (Begin p) taken in
-        held-then (Begin p) taken ∙ row-held s h (Begin p) ∙ put-whole cleared p (j .told .2) (j .short)
+        held-then (Begin p) taken ∙ begin-held s h p ∙ put-whole cleared p (j .told .2) (j .short)
 
     pub begin-is-held : Taken (Begin p) → held (after .incoming) (h .fragment) ≡ true
     begin-is-held taken =

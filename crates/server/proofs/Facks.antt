@@ -35,24 +35,23 @@ use Rattle.server.specs.declared.records.Server.{Server}
 use Rattle.server.specs.records.Record.{unarmed, withIncoming}
 use Rattle.server.specs.records.Rules.{sound}
 use Rattle.server.specs.declared.judge.Row.{Row}
-use Rattle.server.specs.declared.judge.Row.the-variants.{Reply as ReplyRow, TransmitMore, TransmitRepeatable, TransmitHeld, FaultRepeatable, FaultHeld, ResendData, ResendFault, Spend, Begin, Put, Working, Nocall, Rewind, RepeatFault, Acknowledge, HearCancel, AcceptCancel, DeclineCancel}
+use Rattle.server.specs.declared.judge.Row.the-variants.{Begin, Put}
 use Rattle.server.specs.declared.judge.Verdict.the-variants.{Go}
 use Rattle.server.specs.judge.Rows.{requestPut}
 use Rattle.server.specs.judge.Refusals.{arrivalVerdict}
 use Rattle.server.specs.declared.step.Plan.{Plan}
 use Rattle.server.specs.declared.step.Send.{Send}
 use Rattle.server.specs.declared.step.Send.the-variants.{Fack}
-use Rattle.server.specs.step.Plan.{going}
 use Rattle.server.specs.step.Steps.{begun, fackFor, putPlan, heardPlan, stepOf}
 use Rattle.server.specs.Sending.{echoed, echoHeader, sentOut}
 use Rattle.server.specs.declared.Outcome.{Outcome}
 use Rattle.server.specs.Machine.{done, sending, acted, arriving}
 use Rattle.server.proofs.RuleLaws.{rules-told}
 use Rattle.server.proofs.TableLaws.{RowTells}
-use Rattle.server.proofs.StepLaws.{row-sound}
+use Rattle.server.proofs.StepLaws.{row-sound, putsFragment, plain-rows}
 use Rattle.server.proofs.Arriving.{ArriveTaken, arrive-taken}
 use Rattle.server.proofs.Accepting.{arrive-is}
-use Rattle.server.proofs.Unfacked.{SizedHeaders, putsFragment, step-unfacked}
+use Rattle.server.proofs.Unfacked.{SizedHeaders, step-unfacked}
 use Rattle.server.proofs.Sends.{fack-whole}
 
 -- Something is stored.
@@ -62,59 +61,25 @@ isStored (At f) = true
 
 -- The rows that put a fragment store it, and no other stores anything.
 pub puts-stored : (s : Server) (h : Header) (row : Row) → isStored (stepOf row s h .store) ≡ putsFragment row
-unfolding stepOf going putPlan heardPlan
-puts-stored s h (ReplyRow n) = refl
-puts-stored s h TransmitMore = refl
-puts-stored s h TransmitRepeatable = refl
-puts-stored s h TransmitHeld = refl
-puts-stored s h (FaultRepeatable status) = refl
-puts-stored s h (FaultHeld status) = refl
-puts-stored s h (ResendData resends) = refl
-puts-stored s h (ResendFault status resends) = refl
-puts-stored s h Spend = refl
-puts-stored s h (Begin p) = refl
-puts-stored s h (Put p) = refl
-puts-stored s h Working = refl
-puts-stored s h Nocall = refl
-puts-stored s h Rewind = refl
-puts-stored s h (RepeatFault status) = refl
-puts-stored s h (Acknowledge count) = refl
-puts-stored s h (HearCancel n) = refl
-puts-stored s h (AcceptCancel n) = refl
-puts-stored s h (DeclineCancel n) = refl
+unfolding stepOf putPlan heardPlan
+puts-stored s h =
+    plain-rows s h (λ (row : Row). isStored (stepOf row s h .store) ≡ putsFragment row)
+    (λ row plain. ap isStored (plain .unstored) ∙ sym (plain .unput)) (λ p. refl) (λ p. refl) (λ n. refl)
 
 -- A request that is put is answered by what its flags ask for: a fack of what is held then.
 put-sends : (s : Server) (h : Header) (little : Bool) (body : List ℕ) (row : Row) → putsFragment row ≡ true
     → RowTells row s h little body
     → stepOf row s h .send ≡ fackFor (wantsFack (h .flags1)) (h .serial) (contiguous (stepOf row s h .server .incoming))
 unfolding stepOf putPlan begun withIncoming requestPut putOf
-put-sends s h little body (ReplyRow n) e told = absurd told
-put-sends s h little body TransmitMore e told = absurd told
-put-sends s h little body TransmitRepeatable e told = absurd told
-put-sends s h little body TransmitHeld e told = absurd told
-put-sends s h little body (FaultRepeatable status) e told = absurd told
-put-sends s h little body (FaultHeld status) e told = absurd told
-put-sends s h little body (ResendData resends) e told = absurd told
-put-sends s h little body (ResendFault status resends) e told = absurd told
-put-sends s h little body Spend e told = absurd (false≢true e)
-put-sends s h little body (Begin p) e told =
-    subst
-    (λ (q : Fragment).
-    stepOf (Begin q) s h .send ≡ fackFor (wantsFack (h .flags1)) (h .serial) (contiguous (stepOf (Begin q) s h .server .incoming)))
-    (sym (told .2)) refl
-put-sends s h little body (Put p) e told =
-    subst
-    (λ (q : Fragment).
-    stepOf (Put q) s h .send ≡ fackFor (wantsFack (h .flags1)) (h .serial) (contiguous (stepOf (Put q) s h .server .incoming)))
-    (sym (told .3)) refl
-put-sends s h little body Working e told = absurd (false≢true e)
-put-sends s h little body Nocall e told = absurd (false≢true e)
-put-sends s h little body Rewind e told = absurd (false≢true e)
-put-sends s h little body (RepeatFault status) e told = absurd (false≢true e)
-put-sends s h little body (Acknowledge count) e told = absurd (false≢true e)
-put-sends s h little body (HearCancel n) e told = absurd (false≢true e)
-put-sends s h little body (AcceptCancel n) e told = absurd (false≢true e)
-put-sends s h little body (DeclineCancel n) e told = absurd (false≢true e)
+put-sends s h little body =
+    plain-rows s h (λ (row : Row). putsFragment row ≡ true → RowTells row s h little body → Asked row)
+    (λ row plain e told. absurd (false≢true (sym (plain .unput) ∙ e)))
+    (λ p e told. subst (λ (q : Fragment). Asked (Begin q)) (sym (told .2)) refl)
+    (λ p e told. subst (λ (q : Fragment). Asked (Put q)) (sym (told .3)) refl) (λ n e told. absurd (false≢true e))
+  where
+    Asked : Row → Type 0
+    Asked row =
+        stepOf row s h .send ≡ fackFor (wantsFack (h .flags1)) (h .serial) (contiguous (stepOf row s h .server .incoming))
 
 -- The fack that a plan sends, of what its record holds, tells it.
 plan-tells : (plan : Plan) (h : Header) (out : List ℕ) → sound (plan .server) ≡ true → length out ≡ pduSize

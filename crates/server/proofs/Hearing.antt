@@ -23,16 +23,17 @@ use Rattle.server.specs.declared.records.Server.{Server}
 use Rattle.server.specs.records.States.{neverCalled, isFresh, isRunning}
 use Rattle.server.specs.records.Record.{holding, unarmed, withOutgoing, withIncoming, withResends, withSeen}
 use Rattle.server.specs.declared.judge.Row.{Row}
-use Rattle.server.specs.declared.judge.Row.the-variants.{Reply as ReplyRow, TransmitMore, TransmitRepeatable, TransmitHeld, FaultRepeatable, FaultHeld, ResendData, ResendFault, Spend, Begin, Put, Working, Nocall, Rewind, RepeatFault, Acknowledge, HearCancel, AcceptCancel, DeclineCancel}
+use Rattle.server.specs.declared.judge.Row.the-variants.{Begin, HearCancel}
 use Rattle.server.specs.declared.judge.Verdict.{Verdict}
 use Rattle.server.specs.declared.judge.Verdict.the-variants.{Go}
 use Rattle.server.specs.judge.Rows.{orderFor, requestPut, arrivalRow}
 use Rattle.server.specs.judge.Refusals.{arrivalVerdict}
 use Rattle.server.specs.step.Plan.{going}
-use Rattle.server.specs.step.Steps.{answered, transmitted, repeatable, rewinding, begun, putNotice, putPlan, acknowledged, heardPlan, stepOf}
+use Rattle.server.specs.step.Steps.{answered, transmitted, repeatable, rewinding, begun, putNotice, putPlan, heardPlan, stepOf}
 use Rattle.server.specs.declared.Outcome.{Outcome}
 use Rattle.server.specs.Machine.{refused, done, replying, sending, transmitting, timing, faulting, acted, arriving}
 use Rattle.server.proofs.TableLaws.{equal-told, newer-ordered, equal-ordered, newer-begins, again-begins}
+use Rattle.server.proofs.StepLaws.{plain-rows}
 use Rattle.server.proofs.Judging.{CanTake, transmit-rows, fault-rows, resend-rows, reply-taken, transmit-taken, fault-taken, timer-taken}
 use Rattle.server.proofs.Arriving.{arrive-taken}
 use Rattle.server.proofs.Accepting.{reply-cases, transmit-cases, timer-cases, fault-cases, arrive-cases, arrive-is, arrive-row}
@@ -43,33 +44,8 @@ pub record Deaf (s : Server) (notice : Notice) (t : Server) : Type 0 where
   pub untold : notice ≡ Untold
   pub seen : t .seen ≡ s .seen
 
-abbrev pub DeafRow : Server → Header → Row → Type 0
+abbrev DeafRow : Server → Header → Row → Type 0
 DeafRow s h row = Deaf s (stepOf row s h .notice) (stepOf row s h .server)
-
--- Every row is so but a begin, a put and a cancel that is heard.
-pub row-deaf : (s : Server) (h : Header) (P : Row → Type 0) → ((row : Row) → DeafRow s h row → P row)
-    → ((p : Fragment) → P (Begin p))
-    → ((p : Fragment) → P (Put p)) → ((n : ℕ) → P (HearCancel n)) → (row : Row) → P row
-unfolding stepOf going answered transmitted repeatable rewinding acknowledged holding unarmed withOutgoing withResends
-row-deaf s h P deaf begin put hear (ReplyRow n) = deaf _ (record { untold = refl; seen = refl })
-row-deaf s h P deaf begin put hear TransmitMore = deaf _ (record { untold = refl; seen = refl })
-row-deaf s h P deaf begin put hear TransmitRepeatable = deaf _ (record { untold = refl; seen = refl })
-row-deaf s h P deaf begin put hear TransmitHeld = deaf _ (record { untold = refl; seen = refl })
-row-deaf s h P deaf begin put hear (FaultRepeatable status) = deaf _ (record { untold = refl; seen = refl })
-row-deaf s h P deaf begin put hear (FaultHeld status) = deaf _ (record { untold = refl; seen = refl })
-row-deaf s h P deaf begin put hear (ResendData resends) = deaf _ (record { untold = refl; seen = refl })
-row-deaf s h P deaf begin put hear (ResendFault status resends) = deaf _ (record { untold = refl; seen = refl })
-row-deaf s h P deaf begin put hear Spend = deaf _ (record { untold = refl; seen = refl })
-row-deaf s h P deaf begin put hear (Begin p) = begin p
-row-deaf s h P deaf begin put hear (Put p) = put p
-row-deaf s h P deaf begin put hear Working = deaf _ (record { untold = refl; seen = refl })
-row-deaf s h P deaf begin put hear Nocall = deaf _ (record { untold = refl; seen = refl })
-row-deaf s h P deaf begin put hear Rewind = deaf _ (record { untold = refl; seen = refl })
-row-deaf s h P deaf begin put hear (RepeatFault status) = deaf _ (record { untold = refl; seen = refl })
-row-deaf s h P deaf begin put hear (Acknowledge count) = deaf _ (record { untold = refl; seen = refl })
-row-deaf s h P deaf begin put hear (HearCancel n) = hear n
-row-deaf s h P deaf begin put hear (AcceptCancel n) = deaf _ (record { untold = refl; seen = refl })
-row-deaf s h P deaf begin put hear (DeclineCancel n) = deaf _ (record { untold = refl; seen = refl })
 
 -- At a reply nothing is told,
 pub reply-deaf : (s : Server) (n : ℕ) → Deaf s (replying s n .notice) (replying s n .server)
@@ -137,8 +113,8 @@ pub record Hears (row : Row) : Type 0 where
 heard-row : (s : Server) (h : Header) (row : Row) → isCancel (stepOf row s h .notice) ≡ true → Hears row
 unfolding stepOf putPlan
 heard-row s h =
-    row-deaf s h (λ (row : Row). isCancel (stepOf row s h .notice) ≡ true → Hears row)
-    (λ row deaf told. absurd (false≢true (sym (ap isCancel (deaf .untold)) ∙ told)))
+    plain-rows s h (λ (row : Row). isCancel (stepOf row s h .notice) ≡ true → Hears row)
+    (λ row plain told. absurd (false≢true (sym (ap isCancel (plain .untold)) ∙ told)))
     (λ p told. absurd (false≢true (sym (put-unheard (p .complete)) ∙ told)))
     (λ p told. absurd (false≢true (sym (put-unheard (p .complete)) ∙ told))) (λ n told. record { number = n; is = refl })
 
@@ -147,8 +123,8 @@ row-raises : (s : Server) (h : Header) (row : Row) → CanTake row s h → ((p :
     → s .seen ≤ stepOf row s h .server .seen
 unfolding stepOf putPlan heardPlan withIncoming withSeen unarmed
 row-raises s h =
-    row-deaf s h (λ (row : Row). CanTake row s h → ((p : Fragment) → row ≡ Begin p → ⊥) → s .seen ≤ stepOf row s h .server .seen)
-    (λ row deaf can other. omega (arith, deaf .seen)) (λ p can other. absurd (other p refl)) (λ p can other. omega arith)
+    plain-rows s h (λ (row : Row). CanTake row s h → ((p : Fragment) → row ≡ Begin p → ⊥) → s .seen ≤ stepOf row s h .server .seen)
+    (λ row plain can other. omega (arith, plain .seen)) (λ p can other. absurd (other p refl)) (λ p can other. omega arith)
     (λ n can other. omega (arith, can .above))
 
 module _ (s : Server) (datagram slots out : List ℕ) where

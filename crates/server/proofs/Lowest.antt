@@ -1,26 +1,30 @@
 -- The numbers of each table of refusals rise, so the lowest position decides: where the test of a line holds, the event is
--- refused with a number at most that line's.
+-- refused with a number at most that line's; where none does, it takes a row.
 use Prim.Native.Nat.{ℕ, _≤_}
-use mathlib.Core.Bool.{true, true≢false}
+use mathlib.Core.Bool.{true, true≢false, false≢true}
 use mathlib.Core.List.{List, []}
 use mathlib.Core.Path.{_≡_, refl, sym, ap, subst, _∙_}
 use lib.ListN.{length}
+use borrow.Author.Tests.{not-false}
 use Rattle.words.specs.Choice.{choose, both}
 use Rattle.answers.specs.declared.Refusal.{Refusal}
 use Rattle.answers.specs.declared.Answer.{Answer}
 use Rattle.answers.specs.declared.Answer.the-variants.{Done, Refused}
 use Rattle.answers.specs.Number.{refusalNumber}
 use Rattle.answers.specs.Table.{Line, firstOf, answerOf, behindAnswer, risesFrom}
-use Rattle.answers.proofs.TableLaws.{by-answer, answer-done, Stands, passed-line, lowest-decides}
+use Rattle.answers.proofs.TableLaws.{by-answer, AllPassed, all-behind, answer-done, passed-parts, Stands, passed-line, lowest-decides}
 use Rattle.outgoing.specs.Message.{fragmentOf}
 use Rattle.pdu.specs.Header.{bodyOf}
 use Rattle.reader.specs.Reading.{readerRefusals, readRefusals, reading}
 use Rattle.server.specs.declared.records.Server.{Server}
+use Rattle.server.specs.declared.judge.Row.the-variants.{Reply as ReplyRow}
 use Rattle.server.specs.declared.judge.Verdict.{Verdict}
-use Rattle.server.specs.declared.judge.Verdict.the-variants.{Refuse}
-use Rattle.server.specs.judge.Rows.{arrivalRow, timerRow}
+use Rattle.server.specs.declared.judge.Verdict.the-variants.{Refuse, Go}
+use Rattle.server.specs.judge.Rows.{isRow, arrivalRow, transmitRow, faultRow, timerRow}
 use Rattle.server.specs.judge.Refusals.{replyRefusals, replyVerdict, transmitRefusals, transmitVerdict, faultRefusals, faultVerdict, timerRefusals, timerVerdict, pduRefusals, arrivalRefusals, arrivalVerdict}
 use Rattle.server.specs.Machine.{refused, replyBy, replying, stepBy, transmitting, timing, faulting, arrivalBy, arriving}
+use Rattle.server.proofs.Judging.{Takes}
+use Rattle.server.proofs.Arriving.{row-stands}
 
 -- Refused with a number at most that of a line.
 pub record RefusedAtMost (a : Answer) (most : Refusal) : Type 0 where
@@ -113,3 +117,44 @@ module _ (s : Server) where
       lowest (λ v. arrivalBy v s (reading datagram .header) (bodyOf datagram) slots out .outcome .answer) (λ r. refl)
       (arrivalRefusals s (length slots) (length out) datagram)
       (arrivalRow s (reading datagram .header) (reading datagram .little) (bodyOf datagram)) (arrival-rise (length slots) (length out) datagram)
+
+-- Where no test of its table holds, a reply takes a row,
+module _ (s : Server) where
+  pub reply-goes : (n : ℕ) → AllPassed (replyRefusals s n) → Takes (replyVerdict s n)
+  unfolding replyVerdict
+  reply-goes n passed = record { row = ReplyRow n; is = all-behind Refuse (replyRefusals s n) (Go (ReplyRow n)) passed }
+
+  -- a transmit,
+  pub transmit-goes : (message out : ℕ) → AllPassed (transmitRefusals s message out) → Takes (transmitVerdict s message out)
+  unfolding transmitVerdict
+  transmit-goes message out passed =
+      record { row = transmitRow s; is = all-behind Refuse (transmitRefusals s message out) (Go (transmitRow s)) passed }
+
+  -- a fault,
+  pub fault-goes : (status out : ℕ) → AllPassed (faultRefusals s status out) → Takes (faultVerdict s status out)
+  unfolding faultVerdict
+  fault-goes status out passed =
+      record { row = faultRow s status; is = all-behind Refuse (faultRefusals s status out) (Go (faultRow s status)) passed }
+
+  -- the timer,
+  row-of : (v : Verdict) → isRow v ≡ true → Takes v
+  unfolding isRow
+  row-of (Refuse r) e = absurd (false≢true e)
+  row-of (Go row) e = record { row = row; is = refl }
+
+  pub timer-goes : (ticket out : ℕ) → AllPassed (timerRefusals s ticket out (timerRow (s .state) (s .resends)))
+      → Takes (timerVerdict s ticket out)
+  unfolding timerVerdict timerRefusals
+  timer-goes ticket out passed =
+      let v = timerRow (s .state) (s .resends) in
+      let has = row-of v (not-false (isRow v) (passed .1 .1 .0)) in
+      record { row = has .row; is = all-behind Refuse (timerRefusals s ticket out v) v passed ∙ has .is }
+
+  -- and an arriving datagram: behind the table of a PDU a row stands wherever it passes.
+  pub arrival-goes : (slots out : ℕ) (d : List ℕ) → AllPassed (arrivalRefusals s slots out d) → Takes (arrivalVerdict s slots out d)
+  unfolding arrivalVerdict arrivalRefusals
+  arrival-goes slots out d passed =
+      let h = reading d .header in
+      let v = arrivalRow s h (reading d .little) (bodyOf d) in
+      let has = row-stands s h (reading d .little) (bodyOf d) (passed-parts (readRefusals d) _ (passed .1 .1) .1 .1) in
+      record { row = has .row; is = all-behind Refuse (arrivalRefusals s slots out d) v passed ∙ has .is }

@@ -1,4 +1,5 @@
--- Every row that is taken leaves a record that keeps the record rules; what it leaves of the fragments held.
+-- Every row that is taken leaves a record that keeps the record rules; which rows put a fragment or hear a cancel, and that no
+-- other tells, stores or holds anything.
 use Prim.Native.Nat.{ℕ, _+_, _≤_, _<_}
 use mathlib.Core.Bool.{Bool, true, false}
 use mathlib.Core.Path.{_≡_, refl, sym, subst, _∙_}
@@ -7,10 +8,11 @@ use lib.Dec.{leb}
 use borrow.Author.Tests.{le-leb, eqb-false}
 use Rattle.words.specs.Choice.{choose, both}
 use Rattle.words.specs.Sizes.{lastNumber, messageSize, retryLimit}
+use Rattle.calls.specs.declared.Notice.the-variants.{Nothing as Untold}
 use Rattle.fragments.specs.declared.Fragment.{Fragment}
+use Rattle.fragments.specs.declared.Stored.the-variants.{Nothing as Unstored}
 use Rattle.fragments.specs.Put.{putInto}
 use Rattle.fragments.proofs.PutLaws.{stored-sound}
-use Rattle.incoming.specs.declared.Incoming.{Incoming}
 use Rattle.incoming.specs.Slots.{cleared, sound as incomingSound}
 use Rattle.incoming.proofs.SlotLaws.{cleared-sound}
 use Rattle.outgoing.specs.Sending.{noMessage, bounded, hasNothing, hasMessage, replied, afterSend, sendsLast, acknowledgedTo, rewound}
@@ -27,6 +29,8 @@ use Rattle.server.specs.records.Rules.{heldRule, messageRule, outgoingSo
 use Rattle.server.specs.records.Record.{holding, unarmed, withOutgoing, withIncoming, withResends, withSeen}
 use Rattle.server.specs.declared.judge.Row.{Row}
 use Rattle.server.specs.declared.judge.Row.the-variants.{Reply as ReplyRow, TransmitMore, TransmitRepeatable, TransmitHeld, FaultRepeatable, FaultHeld, ResendData, ResendFault, Spend, Begin, Put, Working, Nocall, Rewind, RepeatFault, Acknowledge, HearCancel, AcceptCancel, DeclineCancel}
+use Rattle.server.specs.declared.step.Send.{Send}
+use Rattle.server.specs.declared.step.Send.the-variants.{Nothing, Response, Fault as SendFault, Working as SendWorking, Nocall as SendNocall, Fack, CancelAck}
 use Rattle.server.specs.step.Plan.{going}
 use Rattle.server.specs.step.Steps.{answered, transmitted, repeatable, rewinding, begun, putState, putPlan, acknowledged, heardPlan, stepOf}
 use Rattle.server.proofs.StateLaws.{running-state, replying-state}
@@ -219,46 +223,87 @@ row-sound s h (HearCancel n) j = unfold heardPlan withSeen sound in j .kept
 row-sound s h (AcceptCancel n) j = j .kept
 row-sound s h (DeclineCancel n) j = j .kept
 
--- What is held after a row: after a begin and a put what they make, else what was held.
-abbrev pub heldAfter : Row → Incoming → Incoming
-heldAfter (ReplyRow n) m = m
-heldAfter TransmitMore m = m
-heldAfter TransmitRepeatable m = m
-heldAfter TransmitHeld m = m
-heldAfter (FaultRepeatable status) m = m
-heldAfter (FaultHeld status) m = m
-heldAfter (ResendData resends) m = m
-heldAfter (ResendFault status resends) m = m
-heldAfter Spend m = m
-heldAfter (Begin p) m = putInto cleared p
-heldAfter (Put p) m = putInto m p
-heldAfter Working m = m
-heldAfter Nocall m = m
-heldAfter Rewind m = m
-heldAfter (RepeatFault status) m = m
-heldAfter (Acknowledge count) m = m
-heldAfter (HearCancel n) m = m
-heldAfter (AcceptCancel n) m = m
-heldAfter (DeclineCancel n) m = m
+-- A fragment is put where a request begins a call, and in COLLECT.
+abbrev pub putsFragment : Row → Bool
+putsFragment (ReplyRow n) = false
+putsFragment TransmitMore = false
+putsFragment TransmitRepeatable = false
+putsFragment TransmitHeld = false
+putsFragment (FaultRepeatable status) = false
+putsFragment (FaultHeld status) = false
+putsFragment (ResendData resends) = false
+putsFragment (ResendFault status resends) = false
+putsFragment Spend = false
+putsFragment (Begin p) = true
+putsFragment (Put p) = true
+putsFragment Working = false
+putsFragment Nocall = false
+putsFragment Rewind = false
+putsFragment (RepeatFault status) = false
+putsFragment (Acknowledge count) = false
+putsFragment (HearCancel n) = false
+putsFragment (AcceptCancel n) = false
+putsFragment (DeclineCancel n) = false
 
-pub row-held : (s : Server) (h : Header) (row : Row) → stepOf row s h .server .incoming ≡ heldAfter row (s .incoming)
-unfolding stepOf going answered transmitted repeatable rewinding acknowledged heardPlan begun putPlan holding unarmed withOutgoing withIncoming withResends withSeen
-row-held s h (ReplyRow n) = refl
-row-held s h TransmitMore = refl
-row-held s h TransmitRepeatable = refl
-row-held s h TransmitHeld = refl
-row-held s h (FaultRepeatable status) = refl
-row-held s h (FaultHeld status) = refl
-row-held s h (ResendData resends) = refl
-row-held s h (ResendFault status resends) = refl
-row-held s h Spend = refl
-row-held s h (Begin p) = refl
-row-held s h (Put p) = refl
-row-held s h Working = refl
-row-held s h Nocall = refl
-row-held s h Rewind = refl
-row-held s h (RepeatFault status) = refl
-row-held s h (Acknowledge count) = refl
-row-held s h (HearCancel n) = refl
-row-held s h (AcceptCancel n) = refl
-row-held s h (DeclineCancel n) = refl
+-- Whether what is sent is a fack.
+abbrev pub isFack : Send → Bool
+isFack Nothing = false
+isFack (Response f) = false
+isFack (SendFault status) = false
+isFack SendWorking = false
+isFack SendNocall = false
+isFack (Fack serial fragments) = true
+isFack (CancelAck n accepts) = false
+
+-- A row that puts no fragment and hears no cancel: nothing is told, facked or stored, and what is held and the number last
+-- seen stay.
+pub record Plain (s : Server) (h : Header) (row : Row) : Type 0 where
+  pub unput : putsFragment row ≡ false
+  pub untold : stepOf row s h .notice ≡ Untold
+  pub unfacked : isFack (stepOf row s h .send) ≡ false
+  pub unstored : stepOf row s h .store ≡ Unstored
+  pub held : stepOf row s h .server .incoming ≡ s .incoming
+  pub seen : stepOf row s h .server .seen ≡ s .seen
+
+-- Every row but a begin, a put and a cancel that is heard is so: what is known of these and of those is known of all.
+pub plain-rows : (s : Server) (h : Header) (P : Row → Type 0) → ((row : Row) → Plain s h row → P row)
+    → ((p : Fragment) → P (Begin p)) → ((p : Fragment) → P (Put p)) → ((n : ℕ) → P (HearCancel n)) → (row : Row) → P row
+unfolding stepOf going answered transmitted repeatable rewinding acknowledged holding unarmed withOutgoing withResends
+plain-rows s h P plain begin put hear = by-row
+  where
+    left : (row : Row) → putsFragment row ≡ false → stepOf row s h .notice ≡ Untold → isFack (stepOf row s h .send) ≡ false
+        → stepOf row s h .store ≡ Unstored → stepOf row s h .server .incoming ≡ s .incoming
+        → stepOf row s h .server .seen ≡ s .seen → P row
+    left row unput untold unfacked unstored held seen =
+        plain row
+        (record { unput = unput; untold = untold; unfacked = unfacked; unstored = unstored; held = held; seen = seen })
+
+    by-row : (row : Row) → P row
+    by-row (ReplyRow n) = left (ReplyRow n) refl refl refl refl refl refl
+    by-row TransmitMore = left TransmitMore refl refl refl refl refl refl
+    by-row TransmitRepeatable = left TransmitRepeatable refl refl refl refl refl refl
+    by-row TransmitHeld = left TransmitHeld refl refl refl refl refl refl
+    by-row (FaultRepeatable status) = left (FaultRepeatable status) refl refl refl refl refl refl
+    by-row (FaultHeld status) = left (FaultHeld status) refl refl refl refl refl refl
+    by-row (ResendData resends) = left (ResendData resends) refl refl refl refl refl refl
+    by-row (ResendFault status resends) = left (ResendFault status resends) refl refl refl refl refl refl
+    by-row Spend = left Spend refl refl refl refl refl refl
+    by-row (Begin p) = begin p
+    by-row (Put p) = put p
+    by-row Working = left Working refl refl refl refl refl refl
+    by-row Nocall = left Nocall refl refl refl refl refl refl
+    by-row Rewind = left Rewind refl refl refl refl refl refl
+    by-row (RepeatFault status) = left (RepeatFault status) refl refl refl refl refl refl
+    by-row (Acknowledge count) = left (Acknowledge count) refl refl refl refl refl refl
+    by-row (HearCancel n) = hear n
+    by-row (AcceptCancel n) = left (AcceptCancel n) refl refl refl refl refl refl
+    by-row (DeclineCancel n) = left (DeclineCancel n) refl refl refl refl refl refl
+
+-- A begin and a put hold what they make.
+pub begin-held : (s : Server) (h : Header) (p : Fragment) → stepOf (Begin p) s h .server .incoming ≡ putInto cleared p
+unfolding stepOf putPlan begun withIncoming
+begin-held s h p = refl
+
+pub put-held : (s : Server) (h : Header) (p : Fragment) → stepOf (Put p) s h .server .incoming ≡ putInto (s .incoming) p
+unfolding stepOf putPlan withIncoming
+put-held s h p = refl

@@ -1,6 +1,6 @@
 -- The server sends no fack at a reply, at a transmit, at a fault or at its timer: only for a request that is put.
 use Prim.Native.Nat.{ℕ, _≤_}
-use mathlib.Core.Bool.{Bool, true, false, false≢true}
+use mathlib.Core.Bool.{false, false≢true}
 use mathlib.Core.List.{List, []}
 use mathlib.Core.Logic.{inl, inr}
 use mathlib.Core.Path.{_≡_, refl, sym, ap, subst, _∙_}
@@ -24,27 +24,16 @@ use Rattle.pdu.specs.Header.{blank}
 use Rattle.writer.proofs.Returns.{Sized}
 use Rattle.server.specs.declared.records.Server.{Server}
 use Rattle.server.specs.declared.judge.Row.{Row}
-use Rattle.server.specs.declared.judge.Row.the-variants.{Reply as ReplyRow, TransmitMore, TransmitRepeatable, TransmitHeld, FaultRepeatable, FaultHeld, ResendData, ResendFault, Spend, Begin, Put, Working, Nocall, Rewind, RepeatFault, Acknowledge, HearCancel, AcceptCancel, DeclineCancel}
 use Rattle.server.specs.declared.step.Send.{Send}
 use Rattle.server.specs.declared.step.Send.the-variants.{Nothing, Response, Fault, Working as SendWorking, Nocall as SendNocall, Fack, CancelAck}
-use Rattle.server.specs.step.Plan.{going}
 use Rattle.server.specs.step.Steps.{heardPlan, stepOf}
 use Rattle.server.specs.Sending.{echoed, echoHeader, replyHeader, responseSent, emptySent, sentOut}
 use Rattle.server.specs.declared.Outcome.{Outcome}
 use Rattle.server.specs.Machine.{refused, done, replying, sending, transmitting, timing, faulting}
+use Rattle.server.proofs.StepLaws.{putsFragment, isFack, plain-rows}
 use Rattle.server.proofs.Judging.{transmit-rows, fault-rows, resend-rows, transmit-taken, fault-taken, timer-taken}
 use Rattle.server.proofs.Accepting.{reply-cases, transmit-accepted, fault-accepted, timer-accepted, transmit-is, fault-is, timer-is}
 use Rattle.server.proofs.Sends.{fault-whole, empty-whole, cancel-ack-short, cancel-ack-whole}
-
--- Whether it is a fack.
-abbrev pub isFack : Send → Bool
-isFack Nothing = false
-isFack (Response f) = false
-isFack (Fault status) = false
-isFack SendWorking = false
-isFack SendNocall = false
-isFack (Fack serial count) = true
-isFack (CancelAck n accepts) = false
 
 -- The headers of what the server sends have UUIDs of sixteen bytes.
 pub record SizedHeaders (s : Server) (h : Header) : Type 0 where
@@ -89,51 +78,12 @@ module _ (s : Server) (h : Header) (lent out : List ℕ) (short : length lent �
       inr (sent-other _ (cancelAckBytes n accepts) out (echo-sized 10) (omega arith) refl (cancel-ack-short n accepts)
       (eqb-false 10 9 refl) room _ (cancel-ack-whole s out room n accepts h))
 
--- A request is put where it begins a call, and in COLLECT.
-abbrev pub putsFragment : Row → Bool
-putsFragment (ReplyRow n) = false
-putsFragment TransmitMore = false
-putsFragment TransmitRepeatable = false
-putsFragment TransmitHeld = false
-putsFragment (FaultRepeatable status) = false
-putsFragment (FaultHeld status) = false
-putsFragment (ResendData resends) = false
-putsFragment (ResendFault status resends) = false
-putsFragment Spend = false
-putsFragment (Begin p) = true
-putsFragment (Put p) = true
-putsFragment Working = false
-putsFragment Nocall = false
-putsFragment Rewind = false
-putsFragment (RepeatFault status) = false
-putsFragment (Acknowledge count) = false
-putsFragment (HearCancel n) = false
-putsFragment (AcceptCancel n) = false
-putsFragment (DeclineCancel n) = false
-
--- Every other row sends no fack,
-pub others-send : (s : Server) (h : Header) (row : Row) → putsFragment row ≡ false
-    → isFack (stepOf row s h .send) ≡ false
-unfolding stepOf going heardPlan
-others-send s h (ReplyRow n) e = refl
-others-send s h TransmitMore e = refl
-others-send s h TransmitRepeatable e = refl
-others-send s h TransmitHeld e = refl
-others-send s h (FaultRepeatable status) e = refl
-others-send s h (FaultHeld status) e = refl
-others-send s h (ResendData resends) e = refl
-others-send s h (ResendFault status resends) e = refl
-others-send s h Spend e = refl
-others-send s h (Begin p) e = absurd (false≢true (sym e))
-others-send s h (Put p) e = absurd (false≢true (sym e))
-others-send s h Working e = refl
-others-send s h Nocall e = refl
-others-send s h Rewind e = refl
-others-send s h (RepeatFault status) e = refl
-others-send s h (Acknowledge count) e = refl
-others-send s h (HearCancel n) e = refl
-others-send s h (AcceptCancel n) e = refl
-others-send s h (DeclineCancel n) e = refl
+-- A row that puts no fragment sends no fack,
+pub others-send : (s : Server) (h : Header) (row : Row) → putsFragment row ≡ false → isFack (stepOf row s h .send) ≡ false
+unfolding stepOf heardPlan
+others-send s h =
+    plain-rows s h (λ (row : Row). putsFragment row ≡ false → isFack (stepOf row s h .send) ≡ false) (λ row plain e. plain .unfacked)
+    (λ p e. absurd (false≢true (sym e))) (λ p e. absurd (false≢true (sym e))) (λ n e. refl)
 
 -- so none goes out with it.
 pub step-unfacked : (s : Server) (h : Header) (row : Row) (lent out : List ℕ) → putsFragment row ≡ false
