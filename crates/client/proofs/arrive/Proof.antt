@@ -14,9 +14,11 @@ returns c =
 returns-2 : tie.Need-returns-2
 unfolding arriving
 returns-2 c =
-    let d = c .before .before .before .before .before .before .before in
-    arrival-taken _ _ _ _ _ _ _ _ _ _ _ _ (d .before .before .before .before .before .arrival .ensures)
-    (d .before .before .before .row .given .1) (d .before .step .ensures) (d .body .ensures)
+    arrival-taken _ _ _ _ _ _ _ _ _ _ _ _
+    (c .before .before .before .before .before .before .before .before .before .before .before .before .arrival .ensures)
+    (c .before .before .before .before .before .before .before .before .before .before .row .given .1)
+    (c .before .before .before .before .before .before .before .before .step .ensures)
+    (c .before .before .before .before .before .before .before .body .ensures)
     (c .before .before .before .before .store-and-send .ensures)
 
 pub arrive-spec : {M : Type 1} → statement M
