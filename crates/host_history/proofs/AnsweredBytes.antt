@@ -11,9 +11,11 @@ use borrow.Author.Tests.{eq-eqb, eqb-true}
 use Rattle.words.specs.Choice.{choose}
 use Rattle.words.specs.Place.{placed}
 use Rattle.words.proofs.Tests.{choose-true, both-true}
+use Rattle.answers.specs.declared.Refusal.the-variants.{WrongLength, BrokenRecord}
 use Rattle.answers.specs.declared.Answer.{Answer}
-use Rattle.answers.specs.declared.Answer.the-variants.{Done, WrongLength, BrokenRecord}
+use Rattle.answers.specs.declared.Answer.the-variants.{Done, Refused}
 use Rattle.answers.specs.Number.{numberOf}
+use Rattle.answers.proofs.NumberLaws.{refused-not-done}
 use Rattle.calls.specs.declared.Notice.{Notice}
 use Rattle.calls.specs.declared.Sent.{Sent}
 use Rattle.record_bytes.specs.Fits.{Octets, Uuid, FitsCall}
@@ -172,11 +174,9 @@ module _ (side : Side (List ℕ)) (size : length (side .machine) ≡ 272) (octet
       given-leaves ServerCanonical _ _ _ _ (side .machine) (server-next (Fault status out) small))
 
 -- Neither 1 nor 2 is 0, so what is answered 0 was readable.
-not-both : (a : Answer) → a ≡ Done → (a ≡ WrongLength) ⊎ (a ≡ BrokenRecord) → ⊥
-not-both a done (inl one) =
-    let e : numberOf Done ≡ numberOf WrongLength = ap numberOf (sym done ∙ one) in omega (arith, e)
-not-both a done (inr two) =
-    let e : numberOf Done ≡ numberOf BrokenRecord = ap numberOf (sym done ∙ two) in omega (arith, e)
+not-both : (a : Answer) → a ≡ Done → (a ≡ Refused WrongLength) ⊎ (a ≡ Refused BrokenRecord) → ⊥
+not-both a done (inl one) = refused-not-done WrongLength (sym one ∙ done)
+not-both a done (inr two) = refused-not-done BrokenRecord (sym two ∙ done)
 
 pub answered-readable : (h : HostWorld) (call : HostCall) → answerIn (exported h call .result) ≡ Done
     → readableAt h call ≡ true

@@ -17,10 +17,11 @@ pub mod SameRun
 pub mod FreshHosts
 pub mod HostTheorem
 pub mod Handing
+pub mod TransmitBytes
+pub mod FirstRefusals
+pub mod ClientFirst
+pub mod ServerFirst
 pub mod Unreadable
-pub mod WrongGrounds
-pub mod WrongOfClient
-pub mod WrongOfServer
 pub mod WrongLengths
 pub mod AnsweredBytes
 pub mod HeaderTold

@@ -3,36 +3,35 @@
 use Prim.Native.Nat.{ℕ}
 use mathlib.Core.Bool.{Bool, true, false}
 use mathlib.Core.Path.{_≡_, refl, sym, subst}
+use lib.ListN.{length}
 use Rattle.words.specs.Choice.{choose}
 use Rattle.answers.specs.declared.Answer.{Answer}
-use Rattle.answers.specs.declared.Ground.{Ground}
-use Rattle.answers.specs.declared.Ground.the-variants.{Pass, Refuse}
 use Rattle.calls.specs.declared.Notice.{Notice}
 use Rattle.calls.specs.declared.Notice.the-variants.{Nothing as Untold, Last, Count, Fault as FaultNotice, Reject as RejectNotice, Cause, Dispatch, Cancel as CancelNotice}
-use Rattle.flags.specs.Flags.{idempotent, hasFlag}
+use Rattle.calls.specs.Events.{Arrival}
 use Rattle.pdu.specs.declared.Header.{Header}
-use Rattle.record_bytes.proofs.Keeping.{choice-keeps}
-use Rattle.server.specs.declared.records.Reply.{Reply as HeldReply}
-use Rattle.server.specs.declared.records.Reply.the-variants.{Data, Fault as FaultReply}
+use Rattle.reader.specs.Reading.{reading}
 use Rattle.server.specs.declared.records.State.{State}
-use Rattle.server.specs.declared.records.State.the-variants.{Idle as IdleState, Collect, Running, Replying, Held}
 use Rattle.server.specs.declared.records.Server.{Server}
 use Rattle.server.specs.records.Record.{unarmed, withIncoming}
 use Rattle.server.specs.records.States.{isFresh}
-use Rattle.server.specs.declared.rows.Row.{Row}
-use Rattle.server.specs.declared.rows.Row.the-variants.{Old, Missing, Repeat, Begin, Put, Working, Nocall, Replay, Acknowledge, Finish, AcceptCancel, DeclineCancel}
-use Rattle.server.specs.rows.Events.{eventOf}
-use Rattle.server.specs.rows.Rows.{orderFor, rowFor}
-use Rattle.server.proofs.TableLaws.{equal-told, put-told}
+use Rattle.server.specs.declared.judge.Order.the-variants.{Equal}
+use Rattle.server.specs.declared.judge.Row.{Row}
+use Rattle.server.specs.declared.judge.Row.the-variants.{Reply as ReplyRow, TransmitMore, TransmitRepeatable, TransmitHeld, FaultRepeatable, FaultHeld, ResendData, ResendFault, Spend, Begin, Put, Working, Nocall, Rewind, RepeatFault, Acknowledge, HearCancel, AcceptCancel, DeclineCancel}
+use Rattle.server.specs.judge.Rows.{orderFor}
 use Rattle.server.specs.declared.step.Plan.{Plan}
-use Rattle.server.specs.step.Plan.{refused, accepted}
-use Rattle.server.specs.step.Rows.{replyPlan, transmitPlan, faultPlan, replayHeld, replayPlan, resendHeld, resendRow, timerRow, timerPlan}
-use Rattle.server.specs.arrivals.Rows.{begun, putState, putNotice, putPlan, requestPlan, beginPlan, workingPlan, nocallPlan, fackPlan, ackPlan, declinePlan, heardPlan, acceptPlan}
-use Rattle.server.specs.arrivals.Table.{arrivalRow, arrivalPlan}
-use Rattle.server.specs.Machine.{outcomeOf, replying, sending, transmitting, timing, faulting, planOf, acted, arriving}
+use Rattle.server.specs.step.Plan.{going}
+use Rattle.server.specs.step.Steps.{begun, putState, putNotice, putPlan, heardPlan, stepOf}
+use Rattle.server.specs.declared.Outcome.{Outcome}
+use Rattle.server.specs.Machine.{refused, done, sending, acted}
+use Rattle.server.proofs.TableLaws.{equal-told}
+use Rattle.server.proofs.Judging.{CanTake}
+use Rattle.server.proofs.Arriving.{arrive-taken}
+use Rattle.server.proofs.Accepting.{arrive-cases}
+use Rattle.server.proofs.Hearing.{reply-deaf, transmit-deaf, fault-deaf, timer-deaf}
 use Rattle.history.specs.World.{World}
 use Rattle.history.specs.Events.{ServerEvent, ServerArrive, ServerTransmit, ServerTimer, Reply, Fault}
-use Rattle.history.specs.Steps.{serverTurn, subjectOf}
+use Rattle.history.specs.Steps.{bytesLent, serverTurn, subjectOf}
 use Rattle.history.specs.Dispatches.{runs}
 
 -- The server tells nothing, "cancel" or, with a record of that number and in RUNNING, "dispatch".
@@ -50,96 +49,61 @@ ServerTells asked kept state (Cause cause) = ⊥
 ServerTells asked kept state Dispatch = Dispatches asked kept state
 ServerTells asked kept state CancelNotice = Unit {0}
 
-abbrev PlanTells : ℕ → Plan → Type 0
-PlanTells asked plan = ServerTells asked (plan .server .number) (plan .server .state) (plan .notice)
+-- What tells nothing is such.
+untold-tells : (asked kept : ℕ) (state : State) (notice : Notice) → notice ≡ Untold → ServerTells asked kept state notice
+untold-tells asked kept state notice e = subst (ServerTells asked kept state) (sym e) tt
 
-module _ (asked : ℕ) (s : Server) where
-  reply-tells : (g : Ground) (n : ℕ) → PlanTells asked (replyPlan g s n)
-  unfolding replyPlan refused accepted
-  reply-tells Pass n = tt
-  reply-tells (Refuse a) n = tt
-
-  sends-tells : (g : Ground) → PlanTells asked (transmitPlan g s)
-  unfolding transmitPlan refused accepted
-  sends-tells Pass = tt
-  sends-tells (Refuse a) = tt
-
-  fault-tells : (g : Ground) (status : ℕ) → PlanTells asked (faultPlan g s status)
-  unfolding faultPlan refused accepted
-  fault-tells Pass status = tt
-  fault-tells (Refuse a) status = tt
-
-  resend-tells : (reply : HeldReply) → PlanTells asked (resendRow s reply)
-  unfolding resendRow resendHeld accepted
-  resend-tells Data = choice-keeps (PlanTells asked) _ _ _ tt tt
-  resend-tells (FaultReply status) = choice-keeps (PlanTells asked) _ _ _ tt tt
-
-  resends-tells : (g : Ground) (state : State) → s .state ≡ state → PlanTells asked (timerPlan g s)
-  unfolding timerPlan timerRow refused
-  resends-tells (Refuse a) state e = tt
-  resends-tells Pass state e = subst (λ (x : State). PlanTells asked (timerRow x s)) (sym e) (by-state state)
-    where
-      by-state : (x : State) → PlanTells asked (timerRow x s)
-      by-state (IdleState idle) = unfold timerRow refused in tt
-      by-state Collect = unfold timerRow refused in tt
-      by-state Running = unfold timerRow refused in tt
-      by-state Replying = unfold timerRow refused in tt
-      by-state (Held reply) = unfold timerRow in resend-tells reply
-
-  replay-tells : (state : State) → PlanTells asked (replayPlan state s)
-  unfolding replayPlan replayHeld refused accepted
-  replay-tells (IdleState idle) = tt
-  replay-tells Collect = tt
-  replay-tells Running = tt
-  replay-tells Replying = tt
-  replay-tells (Held Data) = tt
-  replay-tells (Held (FaultReply status)) = tt
-
-  accept-tells : (cancel : ℕ) → PlanTells asked (acceptPlan s cancel)
-  unfolding acceptPlan heardPlan accepted
-  accept-tells cancel = choice-keeps (PlanTells asked) _ _ _ tt tt
-
-module _ (s : Server) (h : Header) (n cancel : ℕ) where
-  put-number : rowFor s h ≡ Put → s .number ≡ h .number
-  unfolding rowFor orderFor
-  put-number e =
-      let told =
-      put-told (eventOf (h .kind)) (orderFor s h) (s .state) (hasFlag idempotent (h .flags1)) (s .call .idempotent) e in
-      equal-told (isFresh (s .state)) (s .number) (h .number) (told .1) .1
-
-  state-told : (all : Bool) (kept : ℕ) → kept ≡ h .number
-      → ServerTells (h .number) kept (putState all) (putNotice all)
+module _ (s : Server) (h : Header) where
+  put-tells : (all : Bool) (kept : ℕ) → kept ≡ h .number → ServerTells (h .number) kept (putState all) (putNotice all)
   unfolding putState putNotice choose
-  state-told true kept same = record { number = same; running = refl }
-  state-told false kept same = tt
+  put-tells true kept same = record { number = same; running = refl }
+  put-tells false kept same = tt
 
-  by-row : (row : Row) → rowFor s h ≡ row → PlanTells (h .number) (arrivalRow row s h n cancel)
-  unfolding arrivalRow beginPlan requestPlan putPlan withIncoming unarmed begun workingPlan nocallPlan
-      fackPlan ackPlan declinePlan refused accepted
-  by-row Old e = tt
-  by-row Missing e = tt
-  by-row Repeat e = tt
-  by-row Begin e = state-told _ (h .number) refl
-  by-row Put e = state-told _ (s .number) (put-number e)
-  by-row Working e = tt
-  by-row Nocall e = tt
-  by-row Replay e = replay-tells (h .number) s (s .state)
-  by-row Acknowledge e = tt
-  by-row Finish e = tt
-  by-row AcceptCancel e = accept-tells (h .number) s cancel
-  by-row DeclineCancel e = tt
+  -- A request that is put to those held has the record's number.
+  own-number : orderFor s h ≡ Equal → s .number ≡ h .number
+  unfolding orderFor
+  own-number equal = equal-told (isFresh (s .state)) (s .number) (h .number) equal .1
 
-  arrives-tells : (g : Ground) → PlanTells (h .number) (arrivalPlan g s h n cancel)
-  unfolding arrivalPlan refused
-  arrives-tells (Refuse a) = tt
-  arrives-tells Pass = by-row (rowFor s h) refl
+  -- Each row,
+  abbrev PlanTells : Plan → Type 0
+  PlanTells plan = ServerTells (h .number) (plan .server .number) (plan .server .state) (plan .notice)
 
+  row-tells : (row : Row) → CanTake row s h → PlanTells (stepOf row s h)
+  unfolding stepOf going putPlan withIncoming unarmed begun heardPlan
+  row-tells (ReplyRow n) can = tt
+  row-tells TransmitMore can = tt
+  row-tells TransmitRepeatable can = tt
+  row-tells TransmitHeld can = tt
+  row-tells (FaultRepeatable status) can = tt
+  row-tells (FaultHeld status) can = tt
+  row-tells (ResendData resends) can = tt
+  row-tells (ResendFault status resends) can = tt
+  row-tells Spend can = tt
+  row-tells (Begin p) can = put-tells (p .complete) (h .number) refl
+  row-tells (Put p) can = put-tells (p .complete) (s .number) (own-number (can .equal))
+  row-tells Working can = tt
+  row-tells Nocall can = tt
+  row-tells Rewind can = tt
+  row-tells (RepeatFault status) can = tt
+  row-tells (Acknowledge count) can = tt
+  row-tells (HearCancel n) can = tt
+  row-tells (AcceptCancel n) can = tt
+  row-tells (DeclineCancel n) can = tt
+
+-- so every arrival; the other events tell nothing.
 pub server-tells : (w : World) (e : ServerEvent) (a : Answer)
     → ServerTells (subjectOf w e a .number) (serverTurn (w .server) e .machine .number)
     (serverTurn (w .server) e .machine .state) (serverTurn (w .server) e .notice)
-unfolding replying transmitting timing faulting arriving acted planOf sending outcomeOf
-server-tells w (ServerArrive p lent out) a = arrives-tells (w .server .machine) _ _ _ _
-server-tells w (ServerTransmit message out) a = sends-tells _ (w .server .machine) _
-server-tells w (ServerTimer ticket out) a = resends-tells _ (w .server .machine) _ (w .server .machine .state) refl
-server-tells w (Reply n message) a = reply-tells _ (w .server .machine) _ n
-server-tells w (Fault status out) a = fault-tells _ (w .server .machine) _ status
+unfolding refused acted sending done
+server-tells w (ServerArrive p lent out) a =
+    let s = w .server .machine in
+    let slots = bytesLent lent (w .server .slots) in
+    let h = reading (p .bytes) .header in
+    arrive-cases s (p .bytes) slots out
+    (λ (x : Arrival Outcome). ServerTells (h .number) (x .outcome .server .number) (x .outcome .server .state) (x .outcome .notice))
+    (λ r e. tt)
+    (λ row e. row-tells s h row (arrive-taken s (length slots) (length out) (p .bytes) row e .judged .can))
+server-tells w (ServerTransmit message out) a = untold-tells _ _ _ _ (transmit-deaf (w .server .machine) message out .untold)
+server-tells w (ServerTimer ticket out) a = untold-tells _ _ _ _ (timer-deaf (w .server .machine) ticket out .untold)
+server-tells w (Reply n message) a = untold-tells _ _ _ _ (reply-deaf (w .server .machine) n .untold)
+server-tells w (Fault status out) a = untold-tells _ _ _ _ (fault-deaf (w .server .machine) status out .untold)
