@@ -1,0 +1,14 @@
+-- `server::step::begun` meets its contract.
+use Rattle.server.specs.step.Steps.{begun}
+use borrow.Author.Needs.{needs}
+use Rattle.server.proofs.step.begun.Statement.{statement}
+use Rattle.server.proofs.step.begun.Tie as tie
+
+pub begun-spec : {M : Type 1} → statement M
+unfolding begun
+begun-spec =
+    tie.close
+    (tie.spec
+    (λ c κs. search needs)
+    (λ c κs. search needs)
+    (λ c. rw (c .with-call .ensures, c .before .call-of .ensures)))

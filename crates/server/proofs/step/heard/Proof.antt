@@ -1,0 +1,9 @@
+-- `server::step::heard` meets its contract.
+use Rattle.server.specs.step.Steps.{heardPlan}
+use borrow.Author.Needs.{needs}
+use Rattle.server.proofs.step.heard.Statement.{statement}
+use Rattle.server.proofs.step.heard.Tie as tie
+
+pub heard-spec : {M : Type 1} → statement M
+unfolding heardPlan
+heard-spec = tie.close (tie.spec (λ c κs. search needs) (λ c. rw (c .with-seen .ensures)))
