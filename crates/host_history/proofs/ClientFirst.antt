@@ -1,15 +1,14 @@
 -- Every exported event of the client judges lengths first, and then its record: 1 and 2 stand first in its tables.
 use Prim.Native.Nat.{ℕ}
-use mathlib.Core.Bool.{Bool, true, false, not, false≢true}
+use mathlib.Core.Bool.{Bool, true, false, false≢true}
 use mathlib.Core.List.{List, []}
-use mathlib.Core.Path.{_≡_, refl, sym, ap, subst}
+use mathlib.Core.Path.{_≡_, refl, sym, subst}
 use lib.Dec.{eqb, leb}
 use lib.ListN.{length}
 use borrow.Author.Tests.{not-false}
 use Rattle.words.specs.Choice.{choose, both}
-use Rattle.words.specs.Sizes.{pduSize, slotsSize, messageSize}
-use Rattle.answers.specs.declared.Answer.{Answer}
-use Rattle.answers.proofs.TableLaws.{AllPassed, passed-parts}
+use Rattle.words.specs.Sizes.{pduSize, messageSize}
+use Rattle.answers.proofs.TableLaws.{passed-parts}
 use Rattle.calls.specs.declared.Call.{Call}
 use Rattle.fragments.specs.Fragment.{lentRight}
 use Rattle.outgoing.specs.Lent.{transmitLent}
@@ -50,7 +49,8 @@ module _ (c : Client) where
   unfolding startVerdict startRefusals both choose
   start-so call n =
       subst (First (leb n messageSize) (sound c)) (sym (start-answers c call n))
-      (table-first RefuseStart startAnsweredBy (λ r. refl) _ _ (start-rise c n) (λ passed. refl) _ (sound c) _ (above n))
+      (table-first RefuseStart startAnsweredBy (λ r. refl) _ _ (start-rise c n) (λ passed. refl) _ (sound c) _
+      (above n))
 
   transmit-so : (message out : List ℕ)
       → First (transmitLent (isSending (c .state)) (length message) (c .outgoing .length) (length out)) (sound c)
@@ -66,8 +66,8 @@ module _ (c : Client) where
   unfolding timerVerdict timerRefusals both choose
   timer-so kind ticket out =
       subst (First _ (sound c)) (sym (timer-answers c kind ticket out))
-      (table-first Refuse answeredBy (λ r. refl) _ _ (timer-rise c kind ticket (length out)) (λ passed. refl) _ (sound c) _
-      refl)
+      (table-first Refuse answeredBy (λ r. refl) _ _ (timer-rise c kind ticket (length out)) (λ passed. refl) _
+      (sound c) _ refl)
 
   cancel-so : (out : List ℕ) → First (eqb (length out) pduSize) (sound c) (cancelling c out .outcome .answer)
   unfolding cancelVerdict cancelRefusals both choose
@@ -93,7 +93,8 @@ both-joined false b c = refl
 
 -- Every call of the client.
 pub client-so : (side : Side (List ℕ)) (call : ClientCall)
-    → ReadsFirst (both (sized (side .machine)) (clientSized side call)) (sound (clientIn (side .machine))) (clientExport side call)
+    → ReadsFirst (both (sized (side .machine)) (clientSized side call)) (sound (clientIn (side .machine)))
+    (clientExport side call)
 unfolding clientStart startSized startable clientTransmit clientArrive clientTimer clientTiming clientCancel
     clientResult lentRight
 client-so side (ClientStart idempotent object interface version operation n message) =

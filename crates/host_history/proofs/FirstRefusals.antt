@@ -1,5 +1,5 @@
--- 1 and 2 stand first in every table of refusals: 1 is answered exactly where a length is wrong, and 2 where none is and the
--- record breaks its rules.
+-- 1 and 2 stand first in every table of refusals: 1 is answered exactly where a length is wrong, and 2 where none is
+-- and the record breaks its rules.
 use Prim.Native.Nat.{ℕ, _<_}
 use mathlib.Core.Bool.{Bool, true, false, not, true≢false}
 use mathlib.Core.List.{List, [], _∷_}
@@ -99,7 +99,8 @@ module _ {A : Type 0} (refuse : Refusal → A) (answer : A → Answer)
       by-tests : (right sound : Bool)
           → First right sound
           (answer (firstOf refuse (WrongLength when not right ∷ BrokenRecord when not sound ∷ more) behind))
-      by-tests false sound = unfold firstOf choose in subst (First false sound) (sym (told WrongLength)) (wrong-first sound)
+      by-tests false sound =
+          unfold firstOf choose in subst (First false sound) (sym (told WrongLength)) (wrong-first sound)
       by-tests true false = unfold firstOf choose in subst (First true false) (sym (told BrokenRecord)) broken-first
       by-tests true true = unfold firstOf choose in other-first _ rest-other
 

@@ -26,7 +26,7 @@ pub mod WrongLengths
 pub mod AnsweredBytes
 pub mod HeaderTold
 pub mod OthersRefused
-pub mod Notices
+pub mod ServerNotices
 pub mod BooksGiven
 pub mod BooksRead
 pub mod TimersRead

@@ -2,7 +2,7 @@
 use Prim.Native.Nat.{ℕ}
 use mathlib.Core.Bool.{true, false}
 use mathlib.Core.List.{List, []}
-use mathlib.Core.Path.{_≡_, refl, sym, ap, subst}
+use mathlib.Core.Path.{_≡_, refl, ap, subst}
 use lib.Dec.{eqb, leb}
 use lib.ListN.{length}
 use Rattle.words.specs.Choice.{choose, both}
@@ -63,7 +63,8 @@ module _ (s : Server) where
       (λ r e. ap answeredBy e) (λ row e. ap answeredBy e))
       (table-first Refuse answeredBy (λ r. refl) _ _ refl (λ passed. refl) _ (sound s) _ refl)
 
-  timer-so : (ticket : ℕ) (out : List ℕ) → First (eqb (length out) pduSize) (sound s) (timing s ticket out .outcome .answer)
+  timer-so : (ticket : ℕ) (out : List ℕ)
+      → First (eqb (length out) pduSize) (sound s) (timing s ticket out .outcome .answer)
   unfolding timerVerdict timerRefusals refused done sending both choose
   timer-so ticket out =
       subst (First _ (sound s))
@@ -76,7 +77,8 @@ module _ (s : Server) where
       (λ status held below. refl) (λ held limit. refl))
       _ (sound s) _ refl)
 
-  fault-so : (status : ℕ) (out : List ℕ) → First (eqb (length out) pduSize) (sound s) (faulting s status out .outcome .answer)
+  fault-so : (status : ℕ) (out : List ℕ)
+      → First (eqb (length out) pduSize) (sound s) (faulting s status out .outcome .answer)
   unfolding faultVerdict faultRefusals refused done sending both choose
   fault-so status out =
       subst (First _ (sound s))
@@ -85,7 +87,8 @@ module _ (s : Server) where
       (λ r e. ap answeredBy e) (λ row e. ap answeredBy e))
       (table-first Refuse answeredBy (λ r. refl) _ _ refl (λ passed. refl) _ (sound s) _ refl)
 
-  arrive-rise : (slots out : ℕ) (datagram : List ℕ) → risesFrom 2 (behindTwo (arrivalRefusals s slots out datagram)) ≡ true
+  arrive-rise : (slots out : ℕ) (datagram : List ℕ)
+      → risesFrom 2 (behindTwo (arrivalRefusals s slots out datagram)) ≡ true
   unfolding arrivalRefusals readRefusals readerRefusals pduRefusals both choose
   arrive-rise slots out datagram = refl
 
@@ -108,7 +111,8 @@ module _ (s : Server) where
 
 -- Every call of the server.
 pub server-so : (side : Side (List ℕ)) (call : ServerCall)
-    → ReadsFirst (both (sized (side .machine)) (serverSized side call)) (sound (serverIn (side .machine))) (serverExport side call)
+    → ReadsFirst (both (sized (side .machine)) (serverSized side call)) (sound (serverIn (side .machine)))
+    (serverExport side call)
 unfolding serverArrive serverTransmit serverTimer serverTiming serverReply serverFault serverResult lentRight
 server-so side (ServerArrive p lent out) =
     or-first _ _ _ _ (side .machine) _ out (read-first _ _ _ _ _ (arrive-so _ (p .bytes) _ out))

@@ -2,7 +2,7 @@
 use Prim.Native.Nat.{ℕ, _<_, _≤_}
 use mathlib.Core.Bool.{Bool}
 use mathlib.Core.List.{List}
-use mathlib.Core.Path.{_≡_, sym, subst}
+use mathlib.Core.Path.{sym, subst}
 use native.Mathlib.Omega.{arith}
 use lib.ListN.{length}
 use Rattle.words.specs.Sizes.{bodySize, lastNumber}
@@ -14,7 +14,6 @@ use Rattle.pdu.specs.Header.{bodyOf, blank}
 use Rattle.reader.specs.Reading.{reading}
 use Rattle.server.specs.declared.records.Idle.the-variants.{Spent, Repeatable}
 use Rattle.server.specs.declared.records.Reply.the-variants.{Data, Fault as FaultReply}
-use Rattle.server.specs.declared.records.State.{State}
 use Rattle.server.specs.declared.records.State.the-variants.{Idle as IdleState, Collect, Running, Replying}
 use Rattle.server.specs.declared.records.Server.{Server}
 use Rattle.server.specs.declared.judge.Row.{Row}
@@ -89,7 +88,7 @@ module _ (s : Server) (fits : FitsServer s) where
     state = tt;
   }
 
--- What a row carries into the record fits it: the header of a request that begins, the status of a fault, a cancel's number.
+-- What a row carries into the record fits it: the header of a request that begins, a fault's status, a cancel's number.
 abbrev Carries : Row → Header → Type 0
 Carries (Reply n) h = Unit {0}
 Carries TransmitMore h = Unit {0}

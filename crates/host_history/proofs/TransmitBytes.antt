@@ -24,8 +24,8 @@ use Rattle.host_history.specs.Refusal.{messageSized}
 other-byte : (n m k : ℕ) → eqb n m ≡ true → (m ≡ k → ⊥) → false ≡ eqb n k
 other-byte n m k e other = sym (ne-eqb n k (λ (p : n ≡ k). other (sym (eqb-true n m e) ∙ p)))
 
--- A message is sent where the state byte is 1 at a client and 5 at a server. A byte that is no state's counts as one without
--- a row.
+-- A message is sent where the state byte is 1 at a client and 5 at a server. A byte that is no state's counts as one
+-- without a row.
 pub sending-byte : (n : ℕ) → isSending (clientStateOf n) ≡ eqb n 1
 unfolding clientStateOf isSending
 sending-byte n =

@@ -40,13 +40,14 @@ pub unreadable-two : (h : HostWorld) (call : HostCall) → readableAt h call ≡
 unreadable-two h call e right = unreadable-answered h call e ∙ choose-true (sizedAt h call) _ _ right
 
 -- so it is one of the two,
-abbrev OneOrTwo : Answer → Type 0
+abbrev pub OneOrTwo : Answer → Type 0
 OneOrTwo a = (a ≡ Refused WrongLength) ⊎ (a ≡ Refused BrokenRecord)
 
 pub unreadable-refused : (h : HostWorld) (call : HostCall) → readableAt h call ≡ false
     → OneOrTwo (answerIn (exported h call .result))
 unreadable-refused h call e =
-    subst OneOrTwo (sym (unreadable-answered h call e)) (choice-keeps OneOrTwo (sizedAt h call) _ _ (inr refl) (inl refl))
+    subst OneOrTwo (sym (unreadable-answered h call e))
+    (choice-keeps OneOrTwo (sizedAt h call) _ _ (inr refl) (inl refl))
 
 -- and no part: a record that breaks its rules has none.
 no-part : (kept : Bool) (m : Incoming) (f : ℕ) (slots : List ℕ) → kept ≡ false → length (partOf kept m f slots) ≡ 0

@@ -1,5 +1,5 @@
--- Which notices the server gives: "dispatch", by a request that has the number that its record then has, and is in RUNNING
--- then; "cancel"; and no other.
+-- Which notices the server gives: "dispatch", by a request that has the number that its record then has, and is in
+-- RUNNING then; "cancel"; and no other.
 use Prim.Native.Nat.{ℕ}
 use mathlib.Core.Bool.{Bool, true, false}
 use mathlib.Core.Path.{_≡_, refl, sym, subst}
@@ -50,7 +50,8 @@ ServerTells asked kept state Dispatch = Dispatches asked kept state
 ServerTells asked kept state CancelNotice = Unit {0}
 
 -- What tells nothing is such.
-untold-tells : (asked kept : ℕ) (state : State) (notice : Notice) → notice ≡ Untold → ServerTells asked kept state notice
+untold-tells : (asked kept : ℕ) (state : State) (notice : Notice) → notice ≡ Untold
+    → ServerTells asked kept state notice
 untold-tells asked kept state notice e = subst (ServerTells asked kept state) (sym e) tt
 
 module _ (s : Server) (h : Header) where
@@ -100,10 +101,12 @@ server-tells w (ServerArrive p lent out) a =
     let slots = bytesLent lent (w .server .slots) in
     let h = reading (p .bytes) .header in
     arrive-cases s (p .bytes) slots out
-    (λ (x : Arrival Outcome). ServerTells (h .number) (x .outcome .server .number) (x .outcome .server .state) (x .outcome .notice))
+    (λ (x : Arrival Outcome).
+    ServerTells (h .number) (x .outcome .server .number) (x .outcome .server .state) (x .outcome .notice))
     (λ r e. tt)
     (λ row e. row-tells s h row (arrive-taken s (length slots) (length out) (p .bytes) row e .judged .can))
-server-tells w (ServerTransmit message out) a = untold-tells _ _ _ _ (transmit-deaf (w .server .machine) message out .untold)
+server-tells w (ServerTransmit message out) a =
+    untold-tells _ _ _ _ (transmit-deaf (w .server .machine) message out .untold)
 server-tells w (ServerTimer ticket out) a = untold-tells _ _ _ _ (timer-deaf (w .server .machine) ticket out .untold)
 server-tells w (Reply n message) a = untold-tells _ _ _ _ (reply-deaf (w .server .machine) n .untold)
 server-tells w (Fault status out) a = untold-tells _ _ _ _ (fault-deaf (w .server .machine) status out .untold)
