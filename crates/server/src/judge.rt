@@ -75,12 +75,10 @@ pub fn reply(s: Server, length: u32) -> Verdict
     if MESSAGE_SIZE < length {
         return Verdict::Refuse(Refusal::WrongLength);
     }
-    let sound = records::is_sound(s);
-    if !sound {
+    if !records::is_sound(s) {
         return Verdict::Refuse(Refusal::BrokenRecord);
     }
-    let running = records::is_running(state);
-    if !running {
+    if !records::is_running(state) {
         return Verdict::Refuse(Refusal::NoRow);
     }
     Verdict::Go(Row::Reply(length))
@@ -94,27 +92,22 @@ pub fn transmit(s: Server, message: usize, out: usize) -> Verdict
     let o = s.outgoing;
     let call = s.call;
     let replying = records::is_replying(state);
-    let lent = outgoing::is_transmit_lent(replying, message, o.length, out);
-    if !lent {
+    if !outgoing::is_transmit_lent(replying, message, o.length, out) {
         return Verdict::Refuse(Refusal::WrongLength);
     }
-    let sound = records::is_sound(s);
-    if !sound {
+    if !records::is_sound(s) {
         return Verdict::Refuse(Refusal::BrokenRecord);
     }
     if !replying {
         return Verdict::Refuse(Refusal::NoRow);
     }
-    let last = outgoing::sends_last(o);
-    if !last {
+    if !outgoing::sends_last(o) {
         return Verdict::Go(Row::TransmitMore);
     }
-    let again = records::runs_again(call.idempotent, o);
-    if again {
+    if records::runs_again(call.idempotent, o) {
         return Verdict::Go(Row::TransmitRepeatable);
     }
-    let up = timers::used_up(s.tickets);
-    if up {
+    if timers::used_up(s.tickets) {
         return Verdict::Refuse(Refusal::TicketsUsedUp);
     }
     Verdict::Go(Row::TransmitHeld)
@@ -129,19 +122,16 @@ pub fn fault(s: Server, status: u32, out: usize) -> Verdict
     if out != PDU_SIZE {
         return Verdict::Refuse(Refusal::WrongLength);
     }
-    let sound = records::is_sound(s);
-    if !sound {
+    if !records::is_sound(s) {
         return Verdict::Refuse(Refusal::BrokenRecord);
     }
-    let running = records::is_running(state);
-    if !running {
+    if !records::is_running(state) {
         return Verdict::Refuse(Refusal::NoRow);
     }
     if call.idempotent {
         return Verdict::Go(Row::FaultRepeatable(status));
     }
-    let up = timers::used_up(s.tickets);
-    if up {
+    if timers::used_up(s.tickets) {
         return Verdict::Refuse(Refusal::TicketsUsedUp);
     }
     Verdict::Go(Row::FaultHeld(status))
@@ -154,8 +144,7 @@ fn resend(reply: Reply, resends: u8, tickets: u64) -> Verdict
     let Reply::Fault(status) = reply else {
         return Verdict::Go(Row::ResendData(resends));
     };
-    let up = timers::used_up(tickets);
-    if up {
+    if timers::used_up(tickets) {
         return Verdict::Refuse(Refusal::TicketsUsedUp);
     }
     Verdict::Go(Row::ResendFault(status, resends))
@@ -170,15 +159,13 @@ pub fn timer(s: Server, ticket: u64, out: usize) -> Verdict
     if out != PDU_SIZE {
         return Verdict::Refuse(Refusal::WrongLength);
     }
-    let sound = records::is_sound(s);
-    if !sound {
+    if !records::is_sound(s) {
         return Verdict::Refuse(Refusal::BrokenRecord);
     }
     let State::Held(reply) = state else {
         return Verdict::Refuse(Refusal::NoRow);
     };
-    let armed = timers::is_armed_with(timer, ticket);
-    if !armed {
+    if !timers::is_armed_with(timer, ticket) {
         return Verdict::Refuse(Refusal::LateTimer);
     }
     if s.resends < RETRY_LIMIT {
@@ -193,8 +180,7 @@ fn order_for(s: Server, h: Header) -> Order
 {
     let state = s.state;
     let fresh = records::is_fresh(state);
-    let newer = words::either(fresh, s.number < h.number);
-    if newer {
+    if words::either(fresh, s.number < h.number) {
         return Order::Newer;
     }
     if s.number == h.number {
@@ -280,8 +266,7 @@ fn request_newer(s: Server, h: Header, little: bool, body: &[u8]) -> Verdict
     ensures { λ r. ⌜ r ≡ pduVerdict s h little (now (body .entry)) ⌝ }
 {
     let state = s.state;
-    let running = records::is_running(state);
-    if running {
+    if records::is_running(state) {
         return Verdict::Refuse(Refusal::NoRow);
     }
     Verdict::Go(Row::Begin(request_put(incoming::empty(), h, body)))
@@ -296,12 +281,10 @@ fn request_idle(idle: Idle, s: Server, h: Header, little: bool, body: &[u8]) -> 
     let Idle::Repeatable = idle else {
         return Verdict::Refuse(Refusal::OldCall);
     };
-    let bit = flags::is_idempotent(h.flags1);
-    if !bit {
+    if !flags::is_idempotent(h.flags1) {
         return Verdict::Refuse(Refusal::OldCall);
     }
-    let same = is_same_call(call, h);
-    if !same {
+    if !is_same_call(call, h) {
         return Verdict::Refuse(Refusal::Contradiction);
     }
     Verdict::Go(Row::Begin(request_put(incoming::empty(), h, body)))
@@ -313,12 +296,10 @@ fn request_collect(s: Server, h: Header, little: bool, body: &[u8]) -> Verdict
     ensures { λ r. ⌜ r ≡ pduVerdict s h little (now (body .entry)) ⌝ }
 {
     let m = s.incoming;
-    let held = fragments::is_held(m, h.fragment);
-    if held {
+    if fragments::is_held(m, h.fragment) {
         return Verdict::Refuse(Refusal::Repeated);
     }
-    let clash = contradicts_call(s, h);
-    if clash {
+    if contradicts_call(s, h) {
         return Verdict::Refuse(Refusal::Contradiction);
     }
     Verdict::Go(Row::Put(request_put(m, h, body)))
@@ -328,8 +309,7 @@ fn request_collect(s: Server, h: Header, little: bool, body: &[u8]) -> Verdict
 fn request_whole(s: Server, h: Header, row: Row) -> Verdict
     ensures { λ r. ⌜ r ≡ choose (contradictsCall s h) (Verdict.Refuse Refusal.Contradiction) (Verdict.Go row) ⌝ }
 {
-    let clash = contradicts_call(s, h);
-    if clash {
+    if contradicts_call(s, h) {
         return Verdict::Refuse(Refusal::Contradiction);
     }
     Verdict::Go(row)
@@ -355,12 +335,10 @@ fn request(s: Server, h: Header, little: bool, body: &[u8]) -> Verdict
     requires { ⌜ h .kind ≡ 0 ⌝ }
     ensures { λ r. ⌜ r ≡ pduVerdict s h little (now (body .entry)) ⌝ }
 {
-    let excluded = is_maybe_or_broadcast(h.flags1);
-    if excluded {
+    if is_maybe_or_broadcast(h.flags1) {
         return Verdict::Refuse(Refusal::MaybeOrBroadcast);
     }
-    let wrong = fragments::is_wrong(h.flags1, h.fragment);
-    if wrong {
+    if fragments::is_wrong(h.flags1, h.fragment) {
         return Verdict::Refuse(Refusal::WrongFragment);
     }
     match order_for(s, h) {
@@ -400,8 +378,7 @@ fn ping(s: Server, h: Header, little: bool, body: &[u8]) -> Verdict
 fn is_replied(state: State) -> bool
     ensures { λ r. ⌜ r ≡ either (isReplying state) (isHeld state) ⌝ }
 {
-    let replying = records::is_replying(state);
-    if replying {
+    if records::is_replying(state) {
         return true;
     }
     records::is_held(state)
@@ -421,8 +398,7 @@ fn ack(s: Server, h: Header, little: bool, body: &[u8]) -> Verdict
     let Order::Equal = order else {
         return Verdict::Refuse(Refusal::NoRow);
     };
-    let replied = is_replied(state);
-    if !replied {
+    if !is_replied(state) {
         return Verdict::Refuse(Refusal::NoRow);
     }
     if call.idempotent {
@@ -464,8 +440,7 @@ fn cancel(s: Server, h: Header, little: bool, body: &[u8]) -> Verdict
     if let Order::Below = order {
         return Verdict::Refuse(Refusal::OldCall);
     }
-    let malformed = bodies::is_cancel_malformed(body, little);
-    if malformed {
+    if bodies::is_cancel_malformed(body, little) {
         return Verdict::Refuse(Refusal::MalformedBody);
     }
     let Order::Equal = order else {
@@ -485,15 +460,13 @@ fn fack(s: Server, h: Header, little: bool, body: &[u8]) -> Verdict
     if let Order::Below = order {
         return Verdict::Refuse(Refusal::OldCall);
     }
-    let malformed = bodies::is_fack_malformed(body, little);
-    if malformed {
+    if bodies::is_fack_malformed(body, little) {
         return Verdict::Refuse(Refusal::MalformedBody);
     }
     let Order::Equal = order else {
         return Verdict::Refuse(Refusal::NoRow);
     };
-    let replied = is_replied(state);
-    if !replied {
+    if !is_replied(state) {
         return Verdict::Refuse(Refusal::NoRow);
     }
     let count = facks::acknowledged_by(h.fragment);
@@ -524,8 +497,7 @@ fn of_mine(s: Server, h: Header, little: bool, body: &[u8]) -> Verdict
 {
     let mine = s.activity;
     let theirs = h.activity;
-    let same = words::same_uuid(mine, theirs);
-    if !same {
+    if !words::same_uuid(mine, theirs) {
         return Verdict::Refuse(Refusal::OtherActivity);
     }
     pdu(s, h, little, body)
@@ -535,12 +507,10 @@ fn of_mine(s: Server, h: Header, little: bool, body: &[u8]) -> Verdict
 pub fn entry(s: Server, slots: usize, out: usize) -> Answer
     ensures { λ r. ⌜ r ≡ entryAnswer s slots out ⌝ }
 {
-    let lent = fragments::is_lent_right(slots, out);
-    if !lent {
+    if !fragments::is_lent_right(slots, out) {
         return Answer::Refused(Refusal::WrongLength);
     }
-    let sound = records::is_sound(s);
-    if !sound {
+    if !records::is_sound(s) {
         return Answer::Refused(Refusal::BrokenRecord);
     }
     Answer::Done
