@@ -5,6 +5,10 @@ use Rattle.words.proofs.Tests.{tests}
 use Rattle.server.proofs.judge.entry.Statement.{statement}
 use Rattle.server.proofs.judge.entry.Tie as tie
 
+returns : tie.Need-returns
+unfolding firstOf
+returns c = rw (← c .before .is-lent-right .ensures) (search tests)
+
 returns-2 : tie.Need-returns-2
 unfolding firstOf
 returns-2 c =
@@ -21,11 +25,4 @@ returns-3 c =
 
 pub entry-spec : {M : Type 1} → statement M
 unfolding firstOf
-entry-spec =
-    tie.close
-    (tie.spec
-    (λ c κs. search needs)
-    (λ c. rw (← c .before .is-lent-right .ensures) (search tests))
-    (λ c κs. search needs)
-    returns-2
-    returns-3)
+entry-spec = tie.close (tie.spec (λ c κs. search needs) returns (λ c κs. search needs) returns-2 returns-3)

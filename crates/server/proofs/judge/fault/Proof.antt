@@ -5,6 +5,12 @@ use Rattle.words.proofs.Tests.{tests}
 use Rattle.server.proofs.judge.fault.Statement.{statement}
 use Rattle.server.proofs.judge.fault.Tie as tie
 
+returns : tie.Need-returns
+returns c = rw fault-lines (search tests)
+
+returns-2 : tie.Need-returns-2
+returns-2 c = rw (fault-lines, ← c .before .is-sound .ensures) (search tests)
+
 returns-3 : tie.Need-returns-3
 returns-3 c =
     let at-is-running = c .before in
@@ -45,9 +51,9 @@ pub fault-spec : {M : Type 1} → statement M
 fault-spec =
     tie.close
     (tie.spec
-    (λ c. rw fault-lines (search tests))
+    returns
     (λ c κs. search needs)
-    (λ c. rw (fault-lines, ← c .before .is-sound .ensures) (search tests))
+    returns-2
     (λ c κs. search needs)
     returns-3
     returns-4

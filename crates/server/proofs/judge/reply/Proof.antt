@@ -6,6 +6,10 @@ use Rattle.words.proofs.Tests.{tests}
 use Rattle.server.proofs.judge.reply.Statement.{statement}
 use Rattle.server.proofs.judge.reply.Tie as tie
 
+returns : tie.Need-returns
+unfolding replyVerdict replyRefusals firstOf
+returns c = search tests
+
 returns-3 : tie.Need-returns-3
 unfolding replyVerdict replyRefusals firstOf
 returns-3 c =
@@ -25,7 +29,7 @@ unfolding replyVerdict replyRefusals firstOf
 reply-spec =
     tie.close
     (tie.spec
-    (λ c. search tests)
+    returns
     (λ c κs. search needs)
     (λ c. rw (← c .before .is-sound .ensures) (search tests))
     (λ c κs. search needs)

@@ -7,6 +7,10 @@ use Rattle.words.proofs.Tests.{tests}
 use Rattle.server.proofs.records.is_sound.Statement.{statement}
 use Rattle.server.proofs.records.is_sound.Tie as tie
 
+returns : tie.Need-returns
+unfolding sound both
+returns c = search tests
+
 returns-2 : tie.Need-returns-2
 unfolding sound both
 returns-2 c = rw (← c .before .outgoing-is-sound .ensures) (search (tests, not-true, not-false))
@@ -30,7 +34,7 @@ unfolding sound both
 is-sound-spec =
     tie.close
     (tie.spec
-    (λ c. search tests)
+    returns
     (λ c κs. search needs)
     returns-2
     (λ c κs. search needs)

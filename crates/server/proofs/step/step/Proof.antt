@@ -51,6 +51,10 @@ returns-5 c =
     let at-row2 = at-repeatable2 .before .before in
     rw (at-row2 .row2 .given .1, c .going5 .ensures, at-repeatable2 .repeatable2 .ensures)
 
+returns-6 : tie.Need-returns-6
+unfolding stepOf
+returns-6 c = rw (c .before .before .row3 .given .1, c .fault-held .ensures)
+
 returns-7 : tie.Need-returns-7
 unfolding stepOf
 returns-7 c =
@@ -79,6 +83,18 @@ returns-10 c =
     let at-row6 = at-begun .before .before in
     rw (at-row6 .row6 .given .1, c .put .ensures, at-begun .begun .ensures)
 
+returns-11 : tie.Need-returns-11
+unfolding stepOf
+returns-11 c = rw (c .before .before .row7 .given .1, c .put2 .ensures)
+
+returns-12 : tie.Need-returns-12
+unfolding stepOf
+returns-12 c = rw (c .before .enum-told5 .given .1, c .going8 .ensures)
+
+returns-13 : tie.Need-returns-13
+unfolding stepOf
+returns-13 c = rw (c .before .enum-told6 .given .1, c .going9 .ensures)
+
 returns-14 : tie.Need-returns-14
 unfolding stepOf
 returns-14 c =
@@ -86,12 +102,28 @@ returns-14 c =
     let at-enum-told7 = at-rewinding .before in
     rw (at-enum-told7 .enum-told7 .given .1, c .going10 .ensures, at-rewinding .rewinding .ensures)
 
+returns-15 : tie.Need-returns-15
+unfolding stepOf
+returns-15 c = rw (c .before .before .row8 .given .1, c .going11 .ensures)
+
 returns-16 : tie.Need-returns-16
 unfolding stepOf
 returns-16 c =
     let at-acknowledged = c .before in
     let at-row9 = at-acknowledged .before .before in
     rw (at-row9 .row9 .given .1, c .going12 .ensures, at-acknowledged .acknowledged .ensures)
+
+returns-17 : tie.Need-returns-17
+unfolding stepOf
+returns-17 c = rw (c .before .before .row10 .given .1, c .heard .ensures)
+
+returns-18 : tie.Need-returns-18
+unfolding stepOf
+returns-18 c = rw (c .before .before .row11 .given .1, c .going13 .ensures)
+
+returns-19 : tie.Need-returns-19
+unfolding stepOf
+returns-19 c = rw (c .before .before .row12 .given .1, c .going14 .ensures)
 
 pub step-spec : {M : Type 1} → statement M
 unfolding stepOf
@@ -154,17 +186,17 @@ step-spec =
     returns-3
     returns-4
     returns-5
-    (λ c. rw (c .before .before .row3 .given .1, c .fault-held .ensures))
+    returns-6
     returns-7
     returns-8
     returns-9
     returns-10
-    (λ c. rw (c .before .before .row7 .given .1, c .put2 .ensures))
-    (λ c. rw (c .before .enum-told5 .given .1, c .going8 .ensures))
-    (λ c. rw (c .before .enum-told6 .given .1, c .going9 .ensures))
+    returns-11
+    returns-12
+    returns-13
     returns-14
-    (λ c. rw (c .before .before .row8 .given .1, c .going11 .ensures))
+    returns-15
     returns-16
-    (λ c. rw (c .before .before .row10 .given .1, c .heard .ensures))
-    (λ c. rw (c .before .before .row11 .given .1, c .going13 .ensures))
-    (λ c. rw (c .before .before .row12 .given .1, c .going14 .ensures)))
+    returns-17
+    returns-18
+    returns-19)
