@@ -3,7 +3,7 @@ use mathlib.Core.Bool.{false}
 use mathlib.Core.Path.{_≡_}
 use Rattle.words.specs.Choice.{either}
 use Rattle.server.specs.judge.Rows.{isForServer}
-use Rattle.server.proofs.judge.KindLaws.{foreign-lines}
+use Rattle.server.proofs.KindLaws.{foreign-lines}
 use borrow.Author.Needs.{needs}
 use Rattle.words.proofs.Tests.{tests}
 use Rattle.server.proofs.judge.pdu.Statement.{statement}

@@ -1,4 +1,0 @@
--- Laws of the judgement.
-pub mod LocalLaws
-pub mod KindLaws
-pub mod ArmLaws
