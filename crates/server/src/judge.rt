@@ -15,6 +15,7 @@ use reader::Reading;
 use words::MESSAGE_SIZE;
 use words::PDU_SIZE;
 use words::RETRY_LIMIT;
+ghost use Prim.Native.Nat.{_≤_};
 ghost use mathlib.Core.Path.{_≡_};
 ghost use Rattle.words.specs.Choice.{choose, either};
 ghost use Rattle.timers.specs.Tickets.{usedUp};
@@ -476,18 +477,30 @@ fn fack(s: Server, h: Header, little: bool, body: &[u8]) -> Verdict
     Verdict::Go(Row::Acknowledge(count))
 }
 
-// 10 to 17, of a header and a body that were read, by the type.
-fn pdu(s: Server, h: Header, little: bool, body: &[u8]) -> Verdict
+// 11 to 17, of what the client calls with: types 0 and 1.
+fn call(s: Server, h: Header, little: bool, body: &[u8]) -> Verdict
+    requires { ⌜ h .kind ≤ 1 ⌝ }
     ensures { λ r. ⌜ r ≡ pduVerdict s h little (now (body .entry)) ⌝ }
 {
     let kind = h.kind;
     match kind {
         0 => request(s, h, little, body),
-        1 => ping(s, h, little, body),
+        _ => ping(s, h, little, body),
+    }
+}
+
+// 10 to 17, of a header and a body that were read, by the type: the server takes 0, 1, 7, 8 and 9.
+fn pdu(s: Server, h: Header, little: bool, body: &[u8]) -> Verdict
+    ensures { λ r. ⌜ r ≡ pduVerdict s h little (now (body .entry)) ⌝ }
+{
+    let kind = h.kind;
+    match kind {
+        0..=1 => call(s, h, little, body),
         7 => ack(s, h, little, body),
         8 => cancel(s, h, little, body),
         9 => fack(s, h, little, body),
-        _ => Verdict::Refuse(Refusal::WrongSide),
+        2..=6 => Verdict::Refuse(Refusal::WrongSide),
+        10..=255 => Verdict::Refuse(Refusal::WrongSide),
     }
 }
 
