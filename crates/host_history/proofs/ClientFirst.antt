@@ -2,16 +2,18 @@
 use Prim.Native.Nat.{ℕ}
 use mathlib.Core.Bool.{Bool, true, false, false≢true}
 use mathlib.Core.List.{List, []}
-use mathlib.Core.Path.{_≡_, refl, sym, subst}
+use mathlib.Core.Path.{_≡_, refl}
 use lib.Dec.{eqb, leb}
 use lib.ListN.{length}
 use borrow.Author.Tests.{not-false}
 use Rattle.words.specs.Choice.{choose, both}
 use Rattle.words.specs.Sizes.{pduSize, messageSize}
+use Rattle.answers.specs.declared.Answer.{Answer}
 use Rattle.answers.proofs.TableLaws.{passed-parts}
 use Rattle.calls.specs.declared.Call.{Call}
 use Rattle.fragments.specs.Fragment.{lentRight}
 use Rattle.outgoing.specs.Lent.{transmitLent}
+use Rattle.pdu.specs.Header.{bodyOf}
 use Rattle.reader.specs.Reading.{readRefusals}
 use Rattle.record_bytes.proofs.Keeping.{choice-keeps}
 use Rattle.client.specs.declared.records.Client.{Client}
@@ -19,13 +21,13 @@ use Rattle.client.specs.declared.records.TimerKind.{TimerKind}
 use Rattle.client.specs.declared.records.TimerKind.the-variants.{Wait, Ack, Cancel}
 use Rattle.client.specs.declared.judge.Verdict.{Verdict}
 use Rattle.client.specs.declared.judge.Verdict.the-variants.{Refuse, Go}
+use Rattle.client.specs.declared.judge.StartVerdict.{StartVerdict}
 use Rattle.client.specs.declared.judge.StartVerdict.the-variants.{Refuse as RefuseStart}
 use Rattle.client.specs.records.Rules.{sound}
 use Rattle.client.specs.records.States.{isSending}
 use Rattle.client.specs.judge.Rows.{isRow}
 use Rattle.client.specs.judge.Refusals.{startRefusals, startVerdict, transmitRefusals, transmitVerdict, timerRefusals, timerVerdict, cancelRefusals, cancelVerdict, pduRefusals, arrivalRefusals, arrivalVerdict}
-use Rattle.client.specs.Machine.{starting, transmitting, timing, cancelling, arriving}
-use Rattle.client.proofs.Accepting.{answeredBy, startAnsweredBy, start-answers, transmit-answers, timer-answers, cancel-answers, arrive-answers}
+use Rattle.client.specs.Machine.{refused, done, startBy, starting, sending, stepBy, transmitting, timing, cancelling, acted, arrivalBy, arriving}
 use Rattle.client.proofs.TableLaws.{start-rise, transmit-rise, timer-rise, cancel-rise, arrive-rise}
 use Rattle.client_bytes.specs.Layout.{clientIn}
 use Rattle.history.specs.World.{Side}
@@ -37,53 +39,56 @@ use Rattle.host_history.specs.Refusal.{clientSized}
 use Rattle.host_history.proofs.TransmitBytes.{client-message}
 use Rattle.host_history.proofs.FirstRefusals.{isOne, First, behindTwo, table-first, right-by, above, ReadsFirst, read-first, or-first, kind-first}
 
--- A row is not answered 1.
-row-other : (v : Verdict) → isRow v ≡ true → isOne (answeredBy v) ≡ false
-unfolding isRow
-row-other (Refuse r) e = absurd (false≢true e)
-row-other (Go row) e = refl
+-- A row is answered Done, so not 1.
+row-other : (v : Verdict) (c : Client) (body slots out : List ℕ) → isRow v ≡ true
+    → isOne (arrivalBy v c body slots out .outcome .answer) ≡ false
+unfolding isRow arrivalBy acted sending done
+row-other (Refuse r) c body slots out e = absurd (false≢true e)
+row-other (Go row) c body slots out e = refl
 
 -- The client's events.
 module _ (c : Client) where
   start-so : (call : Call) (n : ℕ) → First (leb n messageSize) (sound c) (starting c call n .answer)
-  unfolding startVerdict startRefusals both choose
+  unfolding starting startVerdict startRefusals startBy refused both choose
   start-so call n =
-      subst (First (leb n messageSize) (sound c)) (sym (start-answers c call n))
-      (table-first RefuseStart startAnsweredBy (λ r. refl) _ _ (start-rise c n) (λ passed. refl) _ (sound c) _
-      (above n))
+      table-first RefuseStart (λ (v : StartVerdict). startBy v c call n .answer) (λ r. refl) _ _ (start-rise c n)
+      (λ passed. refl) _ (sound c) _ (above n)
+
+  -- What a verdict gives of an event with a PDU buffer.
+  abbrev answered : List ℕ → List ℕ → Verdict → Answer
+  answered lent out v = stepBy v c lent out .outcome .answer
 
   transmit-so : (message out : List ℕ)
       → First (transmitLent (isSending (c .state)) (length message) (c .outgoing .length) (length out)) (sound c)
       (transmitting c message out .outcome .answer)
-  unfolding transmitVerdict transmitRefusals both choose
+  unfolding transmitting transmitVerdict transmitRefusals stepBy sending refused done both choose
   transmit-so message out =
-      subst (First _ (sound c)) (sym (transmit-answers c message out))
-      (table-first Refuse answeredBy (λ r. refl) _ _ (transmit-rise c (length message) (length out)) (λ passed. refl) _
-      (sound c) _ refl)
+      table-first Refuse (answered _ out) (λ r. refl) _ _ (transmit-rise c (length message) (length out)) (λ passed. refl)
+      _ (sound c) _ refl
 
   timer-so : (kind : TimerKind) (ticket : ℕ) (out : List ℕ)
       → First (eqb (length out) pduSize) (sound c) (timing c kind ticket out .outcome .answer)
-  unfolding timerVerdict timerRefusals both choose
+  unfolding timing timerVerdict timerRefusals stepBy sending refused done both choose
   timer-so kind ticket out =
-      subst (First _ (sound c)) (sym (timer-answers c kind ticket out))
-      (table-first Refuse answeredBy (λ r. refl) _ _ (timer-rise c kind ticket (length out)) (λ passed. refl) _
-      (sound c) _ refl)
+      table-first Refuse (answered [] out) (λ r. refl) _ _ (timer-rise c kind ticket (length out)) (λ passed. refl) _
+      (sound c) _ refl
 
   cancel-so : (out : List ℕ) → First (eqb (length out) pduSize) (sound c) (cancelling c out .outcome .answer)
-  unfolding cancelVerdict cancelRefusals both choose
+  unfolding cancelling cancelVerdict cancelRefusals stepBy sending refused done both choose
   cancel-so out =
-      subst (First _ (sound c)) (sym (cancel-answers c out))
-      (table-first Refuse answeredBy (λ r. refl) _ _ (cancel-rise c (length out)) (λ passed. refl) _ (sound c) _ refl)
+      table-first Refuse (answered [] out) (λ r. refl) _ _ (cancel-rise c (length out)) (λ passed. refl) _ (sound c) _ refl
 
   arrive-so : (datagram slots out : List ℕ)
       → First (lentRight (length slots) (length out)) (sound c) (arriving c datagram slots out .outcome .answer)
-  unfolding arrivalVerdict arrivalRefusals pduRefusals both choose
+  unfolding arriving arrivalVerdict arrivalRefusals pduRefusals arrivalBy refused both choose
   arrive-so datagram slots out =
-      subst (First _ (sound c)) (sym (arrive-answers c datagram slots out))
-      (table-first Refuse answeredBy (λ r. refl) (behindTwo (arrivalRefusals c (length slots) (length out) datagram)) _
+      table-first Refuse (λ (v : Verdict). arrivalBy v c (bodyOf datagram) slots out .outcome .answer) (λ r. refl)
+      (behindTwo (arrivalRefusals c (length slots) (length out) datagram)) _
       (arrive-rise c (length slots) (length out) datagram)
-      (λ passed. row-other _ (not-false _ (passed-parts (readRefusals datagram) _ passed .1 .1 .1 .1 .1 .1 .0))) _
-      (sound c) _ refl)
+      (λ passed.
+      row-other _ c (bodyOf datagram) slots out
+      (not-false _ (passed-parts (readRefusals datagram) _ passed .1 .1 .1 .1 .1 .1 .0)))
+      _ (sound c) _ refl
 
 -- Two tests before a third.
 both-joined : (a b c : Bool) → both (both a b) c ≡ both a (both b c)

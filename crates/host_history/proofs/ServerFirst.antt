@@ -1,31 +1,28 @@
 -- Every exported event of the server judges lengths first, and then its record: 1 and 2 stand first in its tables.
 use Prim.Native.Nat.{ℕ}
-use mathlib.Core.Bool.{true, false}
+use mathlib.Core.Bool.{false}
 use mathlib.Core.List.{List, []}
-use mathlib.Core.Path.{_≡_, refl, ap, subst}
+use mathlib.Core.Path.{_≡_, refl, ap}
 use lib.Dec.{eqb, leb}
 use lib.ListN.{length}
 use Rattle.words.specs.Choice.{choose, both}
 use Rattle.words.specs.Sizes.{pduSize, messageSize}
 use Rattle.answers.specs.declared.Answer.{Answer}
-use Rattle.answers.specs.declared.Answer.the-variants.{Done, Refused}
-use Rattle.answers.specs.Table.{risesFrom}
 use Rattle.answers.proofs.TableLaws.{passed-parts}
-use Rattle.calls.specs.Events.{Step, Arrival}
 use Rattle.fragments.specs.Fragment.{lentRight}
 use Rattle.outgoing.specs.Lent.{transmitLent}
 use Rattle.pdu.specs.Header.{bodyOf}
-use Rattle.reader.specs.Reading.{readerRefusals, readRefusals, reading}
+use Rattle.reader.specs.Reading.{readRefusals, reading}
 use Rattle.record_bytes.proofs.Keeping.{choice-keeps}
 use Rattle.server.specs.declared.records.Server.{Server}
 use Rattle.server.specs.declared.judge.Verdict.{Verdict}
-use Rattle.server.specs.declared.judge.Verdict.the-variants.{Refuse, Go}
-use Rattle.server.specs.declared.Outcome.{Outcome}
+use Rattle.server.specs.declared.judge.Verdict.the-variants.{Refuse}
 use Rattle.server.specs.records.Rules.{sound}
 use Rattle.server.specs.records.States.{isReplying}
-use Rattle.server.specs.judge.Refusals.{replyRefusals, replyVerdict, transmitRefusals, transmitVerdict, timerRefusals, timerVerdict, faultRefusals, faultVerdict, pduRefusals, arrivalRefusals, arrivalVerdict}
-use Rattle.server.specs.Machine.{refused, done, replying, sending, transmitting, timing, faulting, acted, arriving}
-use Rattle.server.proofs.Accepting.{reply-cases, transmit-cases, timer-cases, fault-cases, arrive-cases}
+use Rattle.server.specs.judge.Rows.{timerRow}
+use Rattle.server.specs.judge.Refusals.{replyRefusals, replyVerdict, transmitRefusals, transmitVerdict, timerRefusals, timerVerdict, faultRefusals, faultVerdict, arrivalRefusals, arrivalVerdict}
+use Rattle.server.specs.Machine.{refused, done, replyBy, replying, sending, stepBy, transmitting, timing, faulting, acted, arrivalBy, arriving}
+use Rattle.server.proofs.Lowest.{reply-rise, transmit-rise, timer-rise, fault-rise, arrival-rise}
 use Rattle.server.proofs.Judging.{timer-rows}
 use Rattle.server.proofs.Arriving.{row-stands}
 use Rattle.server_bytes.specs.Layout.{serverIn}
@@ -37,77 +34,57 @@ use Rattle.host_history.specs.Refusal.{serverSized}
 use Rattle.host_history.proofs.TransmitBytes.{server-message}
 use Rattle.host_history.proofs.FirstRefusals.{isOne, First, behindTwo, table-first, right-by, above, ReadsFirst, read-first, or-first, kind-first}
 
--- What is answered by a verdict.
-abbrev answeredBy : Verdict → Answer
-answeredBy (Refuse r) = Refused r
-answeredBy (Go row) = Done
-
 -- The server's events.
 module _ (s : Server) where
   reply-so : (n : ℕ) → First (leb n messageSize) (sound s) (replying s n .answer)
-  unfolding replyVerdict replyRefusals refused done both choose
+  unfolding replying replyVerdict replyRefusals replyBy refused done both choose
   reply-so n =
-      subst (First _ (sound s))
-      (reply-cases s n (λ (o : Outcome). answeredBy (replyVerdict s n) ≡ o .answer) (λ r e. ap answeredBy e)
-      (λ row e. ap answeredBy e))
-      (table-first Refuse answeredBy (λ r. refl) _ _ refl (λ passed. refl) _ (sound s) _ (above n))
+      table-first Refuse (λ (v : Verdict). replyBy v s .answer) (λ r. refl) _ _ (reply-rise s n) (λ passed. refl) _
+      (sound s) _ (above n)
+
+  -- What a verdict gives of an event of the stub or the timer.
+  abbrev answered : List ℕ → List ℕ → Verdict → Answer
+  answered lent out v = stepBy v s lent out .outcome .answer
 
   transmit-so : (message out : List ℕ)
       → First (transmitLent (isReplying (s .state)) (length message) (s .outgoing .length) (length out)) (sound s)
       (transmitting s message out .outcome .answer)
-  unfolding transmitVerdict transmitRefusals refused done sending both choose
+  unfolding transmitting transmitVerdict transmitRefusals stepBy sending refused done both choose
   transmit-so message out =
-      subst (First _ (sound s))
-      (transmit-cases s message out
-      (λ (x : Step Outcome). answeredBy (transmitVerdict s (length message) (length out)) ≡ x .outcome .answer)
-      (λ r e. ap answeredBy e) (λ row e. ap answeredBy e))
-      (table-first Refuse answeredBy (λ r. refl) _ _ refl (λ passed. refl) _ (sound s) _ refl)
+      table-first Refuse (answered _ out) (λ r. refl) _ _ (transmit-rise s (length message) (length out)) (λ passed. refl)
+      _ (sound s) _ refl
 
   timer-so : (ticket : ℕ) (out : List ℕ)
       → First (eqb (length out) pduSize) (sound s) (timing s ticket out .outcome .answer)
-  unfolding timerVerdict timerRefusals refused done sending both choose
+  unfolding timing timerVerdict timerRefusals stepBy sending refused done both choose
   timer-so ticket out =
-      subst (First _ (sound s))
-      (timer-cases s ticket out
-      (λ (x : Step Outcome). answeredBy (timerVerdict s ticket (length out)) ≡ x .outcome .answer)
-      (λ r e. ap answeredBy e) (λ row e. ap answeredBy e))
-      (table-first Refuse answeredBy (λ r. refl) _ _ refl
+      table-first Refuse (answered [] out) (λ r. refl) _ _
+      (timer-rise s ticket (length out) (timerRow (s .state) (s .resends)))
       (λ passed.
-      timer-rows s (λ (v : Verdict). isOne (answeredBy v) ≡ false) (λ other. refl) (λ held below. refl)
+      timer-rows s (λ (v : Verdict). isOne (answered [] out v) ≡ false) (λ other. refl) (λ held below. refl)
       (λ status held below. refl) (λ held limit. refl))
-      _ (sound s) _ refl)
+      _ (sound s) _ refl
 
   fault-so : (status : ℕ) (out : List ℕ)
       → First (eqb (length out) pduSize) (sound s) (faulting s status out .outcome .answer)
-  unfolding faultVerdict faultRefusals refused done sending both choose
+  unfolding faulting faultVerdict faultRefusals stepBy sending refused done both choose
   fault-so status out =
-      subst (First _ (sound s))
-      (fault-cases s status out
-      (λ (x : Step Outcome). answeredBy (faultVerdict s status (length out)) ≡ x .outcome .answer)
-      (λ r e. ap answeredBy e) (λ row e. ap answeredBy e))
-      (table-first Refuse answeredBy (λ r. refl) _ _ refl (λ passed. refl) _ (sound s) _ refl)
-
-  arrive-rise : (slots out : ℕ) (datagram : List ℕ)
-      → risesFrom 2 (behindTwo (arrivalRefusals s slots out datagram)) ≡ true
-  unfolding arrivalRefusals readRefusals readerRefusals pduRefusals both choose
-  arrive-rise slots out datagram = refl
+      table-first Refuse (answered [] out) (λ r. refl) _ _ (fault-rise s status (length out)) (λ passed. refl) _ (sound s)
+      _ refl
 
   arrive-so : (datagram slots out : List ℕ)
       → First (lentRight (length slots) (length out)) (sound s) (arriving s datagram slots out .outcome .answer)
-  unfolding arrivalVerdict arrivalRefusals refused done sending acted
+  unfolding arriving arrivalVerdict arrivalRefusals arrivalBy acted sending refused done both choose
   arrive-so datagram slots out =
-      let table = arrivalRefusals s (length slots) (length out) datagram in
       let h = reading datagram .header in
-      let little = reading datagram .little in
-      subst (First _ (sound s))
-      (arrive-cases s datagram slots out
-      (λ (x : Arrival Outcome). answeredBy (arrivalVerdict s (length slots) (length out) datagram) ≡ x .outcome .answer)
-      (λ r e. ap answeredBy e) (λ row e. ap answeredBy e))
-      (table-first Refuse answeredBy (λ r. refl) (behindTwo table) _ (arrive-rise (length slots) (length out) datagram)
+      table-first Refuse (λ (v : Verdict). arrivalBy v s h (bodyOf datagram) slots out .outcome .answer) (λ r. refl)
+      (behindTwo (arrivalRefusals s (length slots) (length out) datagram)) _
+      (arrival-rise s (length slots) (length out) datagram)
       (λ passed.
-      ap (λ (v : Verdict). isOne (answeredBy v))
-      (row-stands s h little (bodyOf datagram) (passed-parts (readRefusals datagram) _ passed .1 .1) .is))
-      _ (sound s) _ refl)
+      ap (λ (v : Verdict). isOne (arrivalBy v s h (bodyOf datagram) slots out .outcome .answer))
+      (row-stands s h (reading datagram .little) (bodyOf datagram)
+      (passed-parts (readRefusals datagram) _ passed .1 .1) .is))
+      _ (sound s) _ refl
 
 -- Every call of the server.
 pub server-so : (side : Side (List ℕ)) (call : ServerCall)
