@@ -26,7 +26,7 @@ use Rattle.client.specs.declared.judge.Verdict.the-variants.{Refuse, Go}
 use Rattle.client.specs.records.States.{isActive}
 use Rattle.client.specs.records.Rules.{sound}
 use Rattle.client.specs.judge.Rows.{cancelRow, arms}
-use Rattle.client.specs.judge.Refusals.{lastCancelNumber, mayCancel, cancelRefusals, cancelVerdict}
+use Rattle.client.specs.judge.Refusals.{mayCancel, cancelRefusals, cancelVerdict}
 use Rattle.client.specs.Machine.{cancelling}
 use Rattle.client.proofs.Accepting.{answeredBy, cancel-answers}
 
@@ -86,19 +86,19 @@ module _ (c : Client) (out : List ℕ) where
       inactive-cancel other = unlisted (choose-false _ _ _ (inactive (c .state) other))
 
       -- and behind the last cancel number.
-      pub numberless-cancel : c .cancels ≡ lastCancelNumber → answer ≡ Refused NoRow
+      pub numberless-cancel : c .cancels ≡ 4294967295 → answer ≡ Refused NoRow
       unfolding mayCancel both choose
       numberless-cancel last = unlisted (by-state (isActive (c .state)))
         where
-          by-state : (t : Bool) → choose t (not (eqb (c .cancels) lastCancelNumber)) false ≡ false
-          by-state true = ap not (eq-eqb (c .cancels) lastCancelNumber last)
+          by-state : (t : Bool) → choose t (not (eqb (c .cancels) 4294967295)) false ≡ false
+          by-state true = ap not (eq-eqb (c .cancels) 4294967295 last)
           by-state false = refl
 
       -- In the three, with a number left,
-      module _ (three : Active (c .state)) (below : c .cancels ≡ lastCancelNumber → ⊥) where
+      module _ (three : Active (c .state)) (below : c .cancels ≡ 4294967295 → ⊥) where
         may : mayCancel (c .state) (c .cancels) ≡ true
         unfolding mayCancel
-        may = both-hold _ _ (active (c .state) three) (ap not (ne-eqb (c .cancels) lastCancelNumber below))
+        may = both-hold _ _ (active (c .state) three) (ap not (ne-eqb (c .cancels) 4294967295 below))
 
         taken-with : both (off (c .cancel)) (usedUp (c .tickets)) ≡ false → answer ≡ Done
         unfolding cancelRefusals arms cancelRow

@@ -1,31 +1,24 @@
--- What the client makes of cancels: what a local cancel sends and leaves, and that CANCEL stays armed until the
--- cancel is answered or the call ends.
-use Prim.Native.Nat.{ℕ, _+_, _<_}
+-- What the client makes of cancels: what a local cancel leaves, and that CANCEL stays armed until the cancel is
+-- answered or the call ends.
+use Prim.Native.Nat.{ℕ, _+_}
 use mathlib.Core.Bool.{Bool, true, false, false≢true}
 use mathlib.Core.List.{List, []}
 use mathlib.Core.Logic.{_⊎_, inl, inr}
 use mathlib.Core.Path.{_≡_, refl, sym, ap, subst, _∙_}
-use native.Mathlib.Omega.{arith}
 use lib.ListN.{length}
 use Rattle.words.specs.Choice.{choose, both, either}
 use Rattle.answers.specs.declared.Answer.{Answer}
 use Rattle.answers.specs.declared.Answer.the-variants.{Done}
-use Rattle.bodies.specs.declared.CancelReading.{CancelReading}
 use Rattle.bodies.specs.declared.CancelAckReading.{CancelAckReading}
-use Rattle.bodies.specs.Cancel.{cancelReading, cancelAckMalformed, cancelAckReading, cancelBytes}
-use Rattle.bodies.proofs.CancelTrip.{read-written-cancel, cancel-ack-formed}
+use Rattle.bodies.specs.Cancel.{cancelAckMalformed, cancelAckReading}
+use Rattle.bodies.proofs.CancelTrip.{cancel-ack-formed}
 use Rattle.calls.specs.declared.Call.{Call}
 use Rattle.calls.specs.declared.Notice.the-variants.{Nothing as Untold}
 use Rattle.calls.specs.Events.{Step, Arrival}
-use Rattle.calls.specs.Sent.{sentHeader, Posting, sentBytes}
-use Rattle.calls.proofs.PostLaws.{whole, whole-bytes}
-use Rattle.flags.specs.Flags.{idempotent, withFlag}
 use Rattle.fragments.specs.declared.Fragment.{Fragment}
 use Rattle.incoming.specs.declared.Incoming.{Incoming}
-use Rattle.pdu.specs.Header.{datagram as datagramOf, bodyOf}
-use Rattle.reader.specs.declared.Reading.{Reading}
+use Rattle.pdu.specs.Header.{bodyOf}
 use Rattle.reader.specs.Reading.{reading}
-use Rattle.writer.proofs.RoundTrip.{Fits, read-written, body-written}
 use Rattle.timers.specs.declared.Timer.{Timer}
 use Rattle.timers.specs.declared.Timer.the-variants.{Off, Armed}
 use Rattle.timers.specs.Tickets.{usedUp, armedAfresh, armedIfOff, ticketsIfOff, off}
@@ -42,19 +35,16 @@ use Rattle.client.specs.declared.Outcome.{Outcome}
 use Rattle.client.specs.records.States.{mayStart, isActive}
 use Rattle.client.specs.records.Rules.{sound}
 use Rattle.client.specs.records.Record.{waiting, sending as sendsAgain, ackPending, unarmed, cancelArmed, cancelDisarmed, withOutgoing, withIncoming, withWaits, withResends, withCancels}
-use Rattle.client.specs.judge.Rows.{oneMore, transmitRow, timerRow, cancelRow}
+use Rattle.client.specs.judge.Rows.{transmitRow, timerRow, cancelRow}
 use Rattle.client.specs.judge.Refusals.{isMalformed, arrivalVerdict}
 use Rattle.client.specs.step.Plan.{going, failed}
 use Rattle.client.specs.step.Steps.{started, transmitted, pinged, cancelled, putRecord, received, responsePlan, workingPlan, resent, acknowledged, stepOf}
-use Rattle.client.specs.Sending.{pduHeader, sentOut}
 use Rattle.client.specs.Machine.{refused, done, starting, sending, transmitting, timing, cancelling, acted, arrivalBy, arriving}
 use Rattle.client.proofs.RuleLaws.{cancel-off}
 use Rattle.client.proofs.RowLaws.{timer-rows, arrival-rows}
 use Rattle.client.proofs.Judging.{Judged, ArrivalTaken, arrive-taken}
 use Rattle.client.proofs.Accepting.{start-accepted, cancel-accepted, cancel-ack-accepted}
-use Rattle.client.proofs.StepLaws.{next-cancel}
 use Rattle.client.proofs.ByRows.{start-by-rows, transmit-by-rows, timer-by-rows, cancel-by-rows, arrive-by-rows}
-use Rattle.client.proofs.Sends.{cancel-whole}
 
 -- A call whose CANCEL is armed is active,
 armed-active : (c : Client) (ticket : ℕ) → sound c ≡ true → c .cancel ≡ Armed ticket → isActive (c .state) ≡ true
@@ -260,59 +250,6 @@ module _ (c : Client) where
       arrive-by-rows c datagram slots out (λ d later. d .cancels ≡ c .cancels) refl
       (arrived-leaves (length slots) (length out) datagram)
 
--- As a cancel a PDU tells its reader the call and the cancel number.
-pub record AsksCancel (c : Client) (n : ℕ) (pdu : List ℕ) : Type 0 where
-  -- It is accepted, its type is 8, and its body is well formed.
-  pub taken : reading pdu .answer ≡ Done
-  pub kind : reading pdu .header .kind ≡ 8
-  pub formed : cancelReading (reading pdu .little) (bodyOf pdu) .answer ≡ Done
-  pub cancelled : cancelReading (reading pdu .little) (bodyOf pdu) .number ≡ n
-  -- It has the record's number, call data, activity and serial; idempotent is set where the call is, and no other flag.
-  pub number : reading pdu .header .number ≡ c .number
-  pub object : reading pdu .header .object ≡ c .call .object
-  pub interface : reading pdu .header .interface ≡ c .call .interface
-  pub version : reading pdu .header .version ≡ c .call .version
-  pub operation : reading pdu .header .operation ≡ c .call .operation
-  pub activity : reading pdu .header .activity ≡ c .activity
-  pub boot : reading pdu .header .boot ≡ 0
-  pub serial : reading pdu .header .serial ≡ c .outgoing .serial
-  pub flags : reading pdu .header .flags1 ≡ withFlag idempotent (c .call .idempotent) 0
-  pub fragment : reading pdu .header .fragment ≡ 0
-
--- A cancel as it is sent tells it.
-module _ (c : Client) (n : ℕ) (small : n < 4294967296) (fits : Fits (pduHeader 8 0 0 c)) where
-  abbrev pdu : List ℕ
-  pdu = datagramOf (pduHeader 8 0 0 c) (cancelBytes n)
-
-  read-so : reading pdu ≡ record { answer = Done; little = true; header = pduHeader 8 0 0 c }
-  unfolding pduHeader sentHeader cancelBytes
-  read-so = read-written (pduHeader 8 0 0 c) (cancelBytes n) fits (omega arith) refl (omega arith)
-
-  body-told : cancelReading (reading pdu .little) (bodyOf pdu) ≡ record { answer = Done; number = n }
-  body-told =
-      ap (λ (r : Reading). cancelReading (r .little) (bodyOf pdu)) read-so
-      ∙ ap (cancelReading true) (body-written (pduHeader 8 0 0 c) (cancelBytes n) (fits .sized))
-      ∙ read-written-cancel n small
-
-  cancel-tells : AsksCancel c n pdu
-  unfolding pduHeader sentHeader
-  cancel-tells = record {
-    taken = ap (λ (r : Reading). r .answer) read-so;
-    kind = ap (λ (r : Reading). r .header .kind) read-so;
-    formed = ap (λ (r : CancelReading). r .answer) body-told;
-    cancelled = ap (λ (r : CancelReading). r .number) body-told;
-    number = ap (λ (r : Reading). r .header .number) read-so;
-    object = ap (λ (r : Reading). r .header .object) read-so;
-    interface = ap (λ (r : Reading). r .header .interface) read-so;
-    version = ap (λ (r : Reading). r .header .version) read-so;
-    operation = ap (λ (r : Reading). r .header .operation) read-so;
-    activity = ap (λ (r : Reading). r .header .activity) read-so;
-    boot = ap (λ (r : Reading). r .header .boot) read-so;
-    serial = ap (λ (r : Reading). r .header .serial) read-so;
-    flags = ap (λ (r : Reading). r .header .flags1) read-so;
-    fragment = ap (λ (r : Reading). r .header .fragment) read-so;
-  }
-
 -- CANCEL as a local cancel leaves it: armed with the counter raised by one where it was off, else as it was.
 unfoldable pub CancelAfter : Timer → ℕ → Timer → ℕ → Type 0
 CancelAfter Off counter after later = (after ≡ Armed (counter + 1)) × (later ≡ counter + 1)
@@ -324,42 +261,23 @@ module _ (c : Client) (out : List ℕ) (told : cancelling c out .outcome .answer
   after = cancelling c out .outcome .client
 
   -- has its row,
-  does : cancelling c out ≡ sending (stepOf (cancelRow c) c) [] out
-  does =
+  pub cancel-acts : cancelling c out ≡ sending (stepOf (cancelRow c) c) [] out
+  cancel-acts =
       let a = cancel-accepted c out told in
       a .does ∙ ap (λ (row : Row). sending (stepOf row c) [] out) (a .taken .is)
 
-  judged : Judged c (cancelRow c)
-  judged = let a = cancel-accepted c out told in subst (Judged c) (a .taken .is) (a .taken .judged)
+  pub cancel-judged : Judged c (cancelRow c)
+  cancel-judged = let a = cancel-accepted c out told in subst (Judged c) (a .taken .is) (a .taken .judged)
 
-  -- and what goes out tells the record's call and the next cancel number;
-  pub cancel-asks : c .cancels < 4294967296 → Fits (pduHeader 8 0 0 c)
-      → AsksCancel c (c .cancels + 1) (sentBytes (cancelling c out .outcome .sent) (cancelling c out .out))
-  unfolding sending done cancelRow stepOf going sentOut cancelled withCancels cancelArmed pduHeader
-  cancel-asks small fits =
-      let numbered = judged .can .numbered in
-      let n = next-cancel (c .cancels) small numbered in
-      let room = cancel-accepted c out told .taken .buffer in
-      let posted : sentOut (stepOf (cancelRow c) c .send) (stepOf (cancelRow c) c .client) [] out
-      ≡ whole (pduHeader 8 0 0 c) (cancelBytes (c .cancels + 1)) out =
-      cancel-whole (cancelled c (oneMore (c .cancels))) out room (oneMore (c .cancels))
-      ∙ ap (λ (k : ℕ). whole (pduHeader 8 0 0 c) (cancelBytes k) out) n in
-      subst (AsksCancel c (c .cancels + 1))
-      (sym (ap (λ (s : Step Outcome). sentBytes (s .outcome .sent) (s .out)) does
-      ∙ ap (λ (q : Posting). sentBytes (q .sent) (q .out)) posted
-      ∙ whole-bytes (pduHeader 8 0 0 c) (cancelBytes (c .cancels + 1)) out room (fits .sized)
-      (unfold cancelBytes in omega arith)))
-      (cancel-tells c (c .cancels + 1) (omega (arith, numbered)) fits)
-
-  -- it arms CANCEL if that is off;
+  -- it arms CANCEL if that is off,
   pub cancel-arms : CancelAfter (c .cancel) (c .tickets) (after .cancel) (after .tickets)
   unfolding sending done cancelRow stepOf going cancelled withCancels cancelArmed
   cancel-arms =
       subst
       (λ (s : Step Outcome).
       CancelAfter (c .cancel) (c .tickets) (s .outcome .client .cancel) (s .outcome .client .tickets))
-      (sym does)
-      (by-timer (c .cancel) (judged .can .free))
+      (sym cancel-acts)
+      (by-timer (c .cancel) (cancel-judged .can .free))
     where
       by-timer : (t : Timer) → (off t ≡ true → usedUp (c .tickets) ≡ false)
           → CancelAfter t (c .tickets) (armedIfOff t (c .tickets)) (ticketsIfOff t (c .tickets))
@@ -384,7 +302,7 @@ module _ (c : Client) (out : List ℕ) (told : cancelling c out .outcome .answer
   pub cancel-leaves : StaysBeside after
   unfolding sending done cancelRow stepOf going cancelled withCancels cancelArmed
   cancel-leaves =
-      subst (λ (s : Step Outcome). StaysBeside (s .outcome .client)) (sym does)
+      subst (λ (s : Step Outcome). StaysBeside (s .outcome .client)) (sym cancel-acts)
       (record {
         state = refl;
         activity = refl;
@@ -401,7 +319,7 @@ module _ (c : Client) (out : List ℕ) (told : cancelling c out .outcome .answer
   -- The stub is told nothing.
   pub cancel-untold : cancelling c out .outcome .notice ≡ Untold
   unfolding sending done cancelRow stepOf going
-  cancel-untold = ap (λ (s : Step Outcome). s .outcome .notice) does
+  cancel-untold = ap (λ (s : Step Outcome). s .outcome .notice) cancel-acts
 
 -- A cancel_ack, type 10, that is taken has the record's cancel number; CANCEL was armed and is off then, and nothing
 -- else of the record changes.

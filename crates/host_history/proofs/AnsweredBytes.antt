@@ -2,18 +2,19 @@
 use Prim.Native.Nat.{ℕ}
 use mathlib.Core.Bool.{Bool, true, false}
 use mathlib.Core.List.{List, []}
-use mathlib.Core.Logic.{_⊎_, inl, inr}
+use mathlib.Core.Logic.{inl, inr}
 use mathlib.Core.Path.{_≡_, refl, sym, ap, subst, _∙_}
-use native.Mathlib.Omega.{arith}
 use lib.Dec.{eqb}
 use lib.ListN.{length}
 use borrow.Author.Tests.{eq-eqb, eqb-true}
 use Rattle.words.specs.Choice.{choose}
 use Rattle.words.specs.Place.{placed}
 use Rattle.words.proofs.Tests.{choose-true, both-true}
+use Rattle.answers.specs.declared.Refusal.the-variants.{WrongLength, BrokenRecord}
 use Rattle.answers.specs.declared.Answer.{Answer}
-use Rattle.answers.specs.declared.Answer.the-variants.{Done, WrongLength, BrokenRecord}
+use Rattle.answers.specs.declared.Answer.the-variants.{Done}
 use Rattle.answers.specs.Number.{numberOf}
+use Rattle.answers.proofs.NumberLaws.{refused-not-done}
 use Rattle.calls.specs.declared.Notice.{Notice}
 use Rattle.calls.specs.declared.Sent.{Sent}
 use Rattle.record_bytes.specs.Fits.{Octets, Uuid, FitsCall}
@@ -45,7 +46,7 @@ use Rattle.host_history.proofs.Unpacking.{result-answer}
 use Rattle.host_history.proofs.Leaving.{refusing-undone, kind-undone}
 use Rattle.host_history.proofs.ClientCalls.{uuid-given, client-placed}
 use Rattle.host_history.proofs.ServerCalls.{server-placed}
-use Rattle.host_history.proofs.Unreadable.{unreadable-refused}
+use Rattle.host_history.proofs.Unreadable.{OneOrTwo, unreadable-refused}
 
 -- Where the answer read is 0, the bytes left are such.
 abbrev Leaves : (List ℕ → Type 0) → Export → Type 0
@@ -172,11 +173,9 @@ module _ (side : Side (List ℕ)) (size : length (side .machine) ≡ 272) (octet
       given-leaves ServerCanonical _ _ _ _ (side .machine) (server-next (Fault status out) small))
 
 -- Neither 1 nor 2 is 0, so what is answered 0 was readable.
-not-both : (a : Answer) → a ≡ Done → (a ≡ WrongLength) ⊎ (a ≡ BrokenRecord) → ⊥
-not-both a done (inl one) =
-    let e : numberOf Done ≡ numberOf WrongLength = ap numberOf (sym done ∙ one) in omega (arith, e)
-not-both a done (inr two) =
-    let e : numberOf Done ≡ numberOf BrokenRecord = ap numberOf (sym done ∙ two) in omega (arith, e)
+not-both : (a : Answer) → a ≡ Done → OneOrTwo a → ⊥
+not-both a done (inl one) = refused-not-done WrongLength (sym one ∙ done)
+not-both a done (inr two) = refused-not-done BrokenRecord (sym two ∙ done)
 
 pub answered-readable : (h : HostWorld) (call : HostCall) → answerIn (exported h call .result) ≡ Done
     → readableAt h call ≡ true

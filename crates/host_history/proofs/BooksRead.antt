@@ -36,7 +36,7 @@ use Rattle.host_history.proofs.ServerCalls.{ServerMeets, server-meets}
 use Rattle.host_history.proofs.SameRun.{keeps-step}
 use Rattle.host_history.proofs.Handing.{client-parts, server-parts}
 use Rattle.history.proofs.ClientNotices.{ClientTells, client-tells}
-use Rattle.host_history.proofs.Notices.{Dispatches, ServerTells, server-tells}
+use Rattle.host_history.proofs.ServerNotices.{Dispatches, ServerTells, server-tells}
 
 -- Where the notice is "dispatch" there is one more, else none; the same of "last".
 module _ (before : List Dispatched) (d : Dispatched) where

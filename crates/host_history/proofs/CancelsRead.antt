@@ -18,7 +18,6 @@ use Rattle.bodies.specs.Cancel.{cancelAckReading}
 use Rattle.bodies.proofs.CancelTrip.{cancel-read, cancel-ack-read}
 use Rattle.calls.specs.declared.Notice.{Notice}
 use Rattle.calls.specs.declared.Notice.the-variants.{Nothing as Untold, Last, Count, Fault, Reject, Cause, Dispatch, Cancel}
-use Rattle.grounds.specs.Entry.{lentGround}
 use Rattle.pdu.specs.Header.{bodyOf}
 use Rattle.reader.specs.Reading.{reading}
 use Rattle.timers.specs.declared.Timer.the-variants.{Armed}
@@ -28,9 +27,7 @@ use Rattle.record_bytes.proofs.PartLaws.{uuid-part}
 use Rattle.record_bytes.proofs.Keeping.{choice-by, choice-keeps}
 use Rattle.client.specs.declared.records.State.{State as ClientState}
 use Rattle.client.specs.declared.records.TimerKind.the-variants.{Cancel as CancelKind}
-use Rattle.client.specs.judge.Events.{eventOf as clientEventOf}
-use Rattle.client.proofs.Accepting.{arrive-accepted}
-use Rattle.client.proofs.Judging.{acknowledgement-passes}
+use Rattle.client.proofs.Cancels.{cancel-ack-answers}
 use Rattle.client_bytes.specs.Layout.{stateOf as clientState, clientOf, clientIn}
 use Rattle.server.proofs.CancelAnswers.{WellFormed, formed-read}
 use Rattle.server.proofs.Cancels.{cancel-touches-nothing}
@@ -91,13 +88,10 @@ cancel-carried p done formed =
 ack-carried : (w : World) (p : SentPdu) (lent : Lent) (out : List ℕ)
     → answerTo w (OfClient (ArriveOfClient p lent out)) ≡ Done → reading (p .bytes) .header .kind ≡ 10
     → cancelAckReading (reading (p .bytes) .little) (bodyOf (p .bytes)) .number ≡ cancelCarried (p .bytes)
-unfolding answerTo happens clientEventOf choose
+unfolding answerTo happens
 ack-carried w p lent out done typed =
     let slots = bytesLent lent (w .client .slots) in
-    let formed =
-    acknowledgement-passes (w .client .machine) (lentGround (length slots) (length out)) (reading (p .bytes))
-    (bodyOf (p .bytes)) (arrive-accepted (w .client .machine) (p .bytes) slots out done) (ap clientEventOf typed)
-    .formed in
+    let formed = cancel-ack-answers (w .client .machine) (p .bytes) slots out done typed .0 .formed in
     ap (λ (r : CancelAckReading). r .number) (cancel-ack-read _ (bodyOf (p .bytes)) formed .reading)
     ∙ carried-there (p .bytes) (client-took w p lent out done)
 

@@ -6,7 +6,7 @@ use mathlib.Core.List.{List, _∷_}
 use mathlib.Core.Path.{_≡_, refl, sym, ap, _∙_}
 use native.Mathlib.Omega.{arith}
 use lib.Dec.{eqb}
-use lib.ListN.{length, getD, drop}
+use lib.ListN.{getD, drop}
 use lib.Seq.{getD-drop}
 use borrow.Author.Tests.{eqb-true}
 use Rattle.words.specs.Choice.{choose, either}
@@ -47,7 +47,8 @@ order-there : (s : List ℕ) → either (orderIs 16 s) (orderIs 0 s) ≡ true �
 unfolding orderIs
 order-there s known = by-order (orderIs 16 s) refl known
   where
-    by-order : (little : Bool) → orderIs 16 s ≡ little → either little (orderIs 0 s) ≡ true → little ≡ eqb (getD s 4 0) 16
+    by-order : (little : Bool) → orderIs 16 s ≡ little → either little (orderIs 0 s) ≡ true
+        → little ≡ eqb (getD s 4 0) 16
     by-order true e told = sym (both-true (eqb (getD s 4 0) 16) _ e .0)
     by-order false e told =
         let zero : getD s 4 0 ≡ 0 = unfold either choose in eqb-true _ 0 (both-true (eqb (getD s 4 0) 0) _ told .0) in

@@ -77,7 +77,8 @@ read-fits (Refused r) little h fits = blank-fits
 pub reading-fits : (s : List ℕ) → Octets s → FitsHeader (reading s .header)
 unfolding reading
 reading-fits s octets =
-    read-fits (answerOf (readRefusals s)) (orderIs 16 s) (headerOf (orderIs 16 s) s) (header-fits s octets (orderIs 16 s))
+    read-fits (answerOf (readRefusals s)) (orderIs 16 s) (headerOf (orderIs 16 s) s)
+    (header-fits s octets (orderIs 16 s))
 
 -- The number of a cancel, whether it is well formed or not.
 pub cancel-number-fits : (s : List ℕ) (little : Bool) → Octets s → cancelNumberIn little (bodyOf s) < 4294967296

@@ -3,11 +3,9 @@ use Prim.Native.Nat.{ℕ}
 use mathlib.Core.Bool.{Bool, false, not}
 use mathlib.Core.List.{List}
 use mathlib.Core.Path.{_≡_, refl, sym, ap, subst, _∙_}
-use native.Mathlib.Omega.{arith}
 use lib.Dec.{eqb}
 use lib.ListN.{length}
 use borrow.Author.Tests.{ne-eqb}
-use Rattle.words.specs.Choice.{choose}
 use Rattle.words.specs.Place.{placed}
 use Rattle.words.specs.Sizes.{pduSize}
 use Rattle.words.proofs.Tests.{choose-false}
@@ -66,8 +64,8 @@ module _ (bytes slots out : List ℕ) where
   kind-refused sound =
       choice-keeps (λ (n : ℕ). Refused (left n) bytes slots out) (not (eqb (length out) pduSize)) 1 _
       (left-refused (RefusedBy WrongLength))
-      (choice-keeps (λ (n : ℕ). Refused (left n) bytes slots out) (not sound) 2 15 (left-refused (RefusedBy BrokenRecord))
-      (left-refused (RefusedBy NoRow)))
+      (choice-keeps (λ (n : ℕ). Refused (left n) bytes slots out) (not sound) 2 15
+      (left-refused (RefusedBy BrokenRecord)) (left-refused (RefusedBy NoRow)))
 
 -- An answer that is not Done is not 0, and the bytes stay.
 pub not-zero : (a : Answer) → (a ≡ Done → ⊥) → isDone a ≡ false
@@ -107,6 +105,7 @@ module _ (bytes slots out : List ℕ) where
   pub kind-undone : (sound : Bool) → Undone (otherKind sound bytes slots out)
   unfolding otherKind otherTimer
   kind-undone sound =
-      choice-keeps (λ (n : ℕ). Undone (left bytes slots out n)) (not (eqb (length out) pduSize)) 1 _ (left-undone WrongLength)
+      choice-keeps (λ (n : ℕ). Undone (left bytes slots out n)) (not (eqb (length out) pduSize)) 1 _
+      (left-undone WrongLength)
       (choice-keeps (λ (n : ℕ). Undone (left bytes slots out n)) (not sound) 2 15 (left-undone BrokenRecord)
       (left-undone NoRow))

@@ -2,11 +2,10 @@
 use Prim.Native.Nat.{ℕ, _<_, _≤_}
 use mathlib.Core.Bool.{Bool}
 use mathlib.Core.List.{List}
-use mathlib.Core.Path.{_≡_, sym, subst}
+use mathlib.Core.Path.{sym, subst}
 use native.Mathlib.Omega.{arith}
 use lib.ListN.{length}
 use Rattle.words.specs.Sizes.{bodySize, lastNumber}
-use Rattle.answers.specs.declared.Refusal.the-variants.{NoRow}
 use Rattle.calls.specs.Events.{Step, Arrival}
 use Rattle.fragments.specs.declared.Fragment.{Fragment}
 use Rattle.outgoing.specs.Sending.{afterSend, acknowledgedTo, rewound, replied}
@@ -15,20 +14,16 @@ use Rattle.pdu.specs.Header.{bodyOf, blank}
 use Rattle.reader.specs.Reading.{reading}
 use Rattle.server.specs.declared.records.Idle.the-variants.{Spent, Repeatable}
 use Rattle.server.specs.declared.records.Reply.the-variants.{Data, Fault as FaultReply}
-use Rattle.server.specs.declared.records.State.{State}
 use Rattle.server.specs.declared.records.State.the-variants.{Idle as IdleState, Collect, Running, Replying}
 use Rattle.server.specs.declared.records.Server.{Server}
 use Rattle.server.specs.declared.judge.Row.{Row}
 use Rattle.server.specs.declared.judge.Row.the-variants.{Reply, TransmitMore, TransmitRepeatable, TransmitHeld, FaultRepeatable, FaultHeld, ResendData, ResendFault, Spend, Begin, Put, Working, Nocall, Rewind, RepeatFault, Acknowledge, HearCancel, AcceptCancel, DeclineCancel}
-use Rattle.server.specs.declared.judge.Verdict.{Verdict}
-use Rattle.server.specs.declared.judge.Verdict.the-variants.{Go}
-use Rattle.server.specs.judge.Rows.{timerRow}
 use Rattle.server.specs.step.Plan.{going}
 use Rattle.server.specs.step.Steps.{answered, transmitted, repeatable, rewinding, callOf, begun, putState, putPlan, acknowledged, heardPlan, stepOf}
 use Rattle.server.specs.declared.Outcome.{Outcome}
 use Rattle.server.specs.Machine.{refused, done, sending, acted}
 use Rattle.server.proofs.TableLaws.{RowTells}
-use Rattle.server.proofs.Judging.{CanTake, Judged, refusal-no-row, same-row, reply-taken, transmit-rows, transmit-taken, fault-rows, fault-taken, timer-rows, timer-taken}
+use Rattle.server.proofs.Judging.{CanTake, reply-taken, transmit-rows, transmit-taken, fault-rows, fault-taken, resend-rows, timer-taken}
 use Rattle.server.proofs.Arriving.{arrive-taken}
 use Rattle.server.proofs.Accepting.{reply-cases, transmit-cases, timer-cases, fault-cases, arrive-cases}
 use Rattle.history.specs.World.{Side}
@@ -93,7 +88,7 @@ module _ (s : Server) (fits : FitsServer s) where
     state = tt;
   }
 
--- What a row carries into the record fits it: the header of a request that begins, the status of a fault, a cancel's number.
+-- What a row carries into the record fits it: the header of a request that begins, a fault's status, a cancel's number.
 abbrev Carries : Row → Header → Type 0
 Carries (Reply n) h = Unit {0}
 Carries TransmitMore h = Unit {0}
@@ -146,7 +141,7 @@ module _ (s : Server) (fits : FitsServer s) (h : Header) where
   row-fits (AcceptCancel n) can carried = fits
   row-fits (DeclineCancel n) can carried = fits
 
--- What the rows of an arriving datagram carry,
+-- What the row of an arriving datagram carries fits.
 module _ (s : Server) (d : List ℕ) (octets : Octets d) where
   arrival-carries : (row : Row) → RowTells row s (reading d .header) (reading d .little) (bodyOf d)
       → Carries row (reading d .header)
@@ -170,15 +165,6 @@ module _ (s : Server) (d : List ℕ) (octets : Octets d) where
       subst (λ (m : ℕ). m < 4294967296) (sym (told .3)) (cancel-number-fits d (reading d .little) octets)
   arrival-carries (AcceptCancel n) told = tt
   arrival-carries (DeclineCancel n) told = tt
-
--- and that of the timer.
-timer-carries : (s : Server) (row : Row) → timerRow (s .state) (s .resends) ≡ Go row → Carries row blank
-timer-carries s row =
-    timer-rows s (λ (v : Verdict). v ≡ Go row → Carries row blank)
-    (λ other is. absurd (refusal-no-row NoRow row is))
-    (λ held below is. subst (λ (r : Row). Carries r blank) (same-row _ row is) tt)
-    (λ status held below is. subst (λ (r : Row). Carries r blank) (same-row _ row is) tt)
-    (λ held limit is. subst (λ (r : Row). Carries r blank) (same-row _ row is) tt)
 
 -- So every event of the server keeps the widths of its record.
 pub server-turn-fits : (side : Side Server) (e : ServerEvent) → FitsServer (side .machine) → ServerFits e
@@ -205,7 +191,9 @@ server-turn-fits side (ServerTimer ticket out) fits given =
     timer-cases s ticket out (λ (x : Step Outcome). FitsServer (x .outcome .server)) (λ r e. fits)
     (λ row e.
     let taken = timer-taken s ticket (length out) row e in
-    row-fits s fits blank row (taken .judged .can) (timer-carries s row (taken .is)))
+    row-fits s fits blank row (taken .judged .can)
+    (resend-rows s row (λ (r : Row). Carries r blank) (taken .is) (λ held below. tt) (λ status held below. tt)
+    (λ held limit. tt)))
 server-turn-fits side (ReplyEvent n message) fits given =
     let s = side .machine in
     reply-cases s n (λ (o : Outcome). FitsServer (o .server)) (λ r e. fits)

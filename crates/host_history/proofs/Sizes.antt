@@ -108,7 +108,8 @@ server-turn-sent side (ServerTransmit message out) =
 server-turn-sent side (ServerTimer ticket out) =
     timer-cases _ ticket out (λ (x : Step Outcome). FitsSent (x .outcome .sent)) (λ r e. tt)
     (λ row e. server-sent-fits _ _ _ [] out)
-server-turn-sent side (Reply n message) = reply-cases _ n (λ (o : Outcome). FitsSent (o .sent)) (λ r e. tt) (λ row e. tt)
+server-turn-sent side (Reply n message) =
+    reply-cases _ n (λ (o : Outcome). FitsSent (o .sent)) (λ r e. tt) (λ row e. tt)
 server-turn-sent side (FaultEvent status out) =
     fault-cases _ status out (λ (x : Step Outcome). FitsSent (x .outcome .sent)) (λ r e. tt)
     (λ row e. server-sent-fits _ _ _ [] out)

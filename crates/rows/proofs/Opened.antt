@@ -40,7 +40,7 @@ shared = tt
 unfoldable pub reads : Unit {0}
 unfolding shared
     Number.number Place.putAt
-    Header.headerOf 
+    Header.headerOf
     Reading.orderIs Reading.readerRefusals Reading.readRefusals Reading.readBy Reading.reading
 reads = tt
 

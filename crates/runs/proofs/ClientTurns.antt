@@ -47,7 +47,7 @@ use Rattle.history.proofs.ClientSends.{clientPdus, client-sent}
 use Rattle.runs.proofs.Stories.{Makes, Carried, carried-read, carried-body, read-on}
 
 -- The plan of a verdict: a refusal leaves all as it was.
-abbrev pub clientPlan : Verdict → Client → Plan
+abbrev clientPlan : Verdict → Client → Plan
 clientPlan (Refuse r) c = going c Nothing Untold
 clientPlan (Go row) c = stepOf row c
 
@@ -66,14 +66,15 @@ planned v c lent out slots = record {
   slots = slots;
 }
 
-turn-planned : (v : Verdict) (c : Client) (lent out slots : List ℕ) → turnBy v c lent out slots ≡ planned v c lent out slots
+turn-planned : (v : Verdict) (c : Client) (lent out slots : List ℕ)
+    → turnBy v c lent out slots ≡ planned v c lent out slots
 unfolding stepBy sending refused done going sentOut
 turn-planned (Refuse r) c lent out slots = refl
 turn-planned (Go row) c lent out slots = refl
 
 -- The world after a plan of the client, with the local cancels then; all but a local cancel leave them.
-abbrev pub clientLeftWith : List Cancelled → World → Plan → List ℕ → List ℕ → World
-clientLeftWith cancels w plan lent slots = record {
+abbrev clientLeft : List Cancelled → World → Plan → List ℕ → List ℕ → World
+clientLeft cancels w plan lent slots = record {
   client =
       record {
         machine = plan .client;
@@ -84,19 +85,16 @@ clientLeftWith cancels w plan lent slots = record {
   books = clientWorld w (clientTurnOf (done plan Unsent) [] slots) (w .books .starts) cancels .books;
 }
 
-abbrev pub clientLeft : World → Plan → List ℕ → List ℕ → World
-clientLeft w plan lent slots = clientLeftWith (w .books .cancels) w plan lent slots
+-- What an event makes that is judged so, and the UUIDs of what it sends.
+abbrev ClientMakes : World → ClientEvent → Verdict → List Cancelled → List ℕ → List ℕ → Type 0
+ClientMakes w e v cancels lent slots =
+    Makes w (OfClient e) (numberOf (answeredBy v)) (clientPlan v (w .client .machine) .notice)
+    (clientLeft cancels w (clientPlan v (w .client .machine)) lent slots)
 
--- The verdict on a transmit of n bytes, on a timer event, on a local cancel, and on a PDU that was read.
-abbrev pub clientTransmit : Client → ℕ → Verdict
-clientTransmit c n = transmitVerdict c n pduSize
+abbrev ClientUuids : Verdict → Client → Type 0
+ClientUuids v c = Uuids (clientPlan v c .client .activity) (clientPlan v c .client .call)
 
-abbrev pub clientTime : Client → TimerKind → ℕ → Verdict
-clientTime c kind ticket = timerVerdict c kind ticket pduSize
-
-abbrev pub clientCancel : Client → Verdict
-clientCancel c = cancelVerdict c pduSize
-
+-- The verdict on a PDU that was read, where what is lent is right,
 abbrev arrivalAs : Client → Reading → List ℕ → Verdict
 arrivalAs c r body =
     firstOf Refuse
@@ -105,116 +103,122 @@ arrivalAs c r body =
     ∷ pduRefusals c (r .header) (r .little) body (arrivalRow c (r .header) (r .little) body))
     (arrivalRow c (r .header) (r .little) body)
 
-abbrev pub clientArrival : Client → Header → List ℕ → Verdict
+-- on one as it was written,
+abbrev clientArrival : Client → Header → List ℕ → Verdict
 clientArrival c h body = arrivalAs c (accepted h) body
 
--- The local cancels on the books after one that is judged so.
-abbrev pub cancelsThen : World → Verdict → List Cancelled
-cancelsThen w v =
-    cancelledAfter (w .books .cancels) (planned v (w .client .machine) [] [] (w .client .slots)) (lastStart (w .books .starts))
-
--- A PDU as it was written is judged so, where what is lent is right,
-arrival-judged : (c : Client) (slots out : List ℕ) (h : Header) (body : List ℕ) → Carried h body → length slots ≡ slotsSize
-    → length out ≡ pduSize → arrivalVerdict c (length slots) (length out) (datagram h body) ≡ clientArrival c h body
+arrival-judged : (c : Client) (slots out : List ℕ) (h : Header) (body : List ℕ) → Carried h body
+    → length slots ≡ slotsSize → length out ≡ pduSize
+    → arrivalVerdict c (length slots) (length out) (datagram h body) ≡ clientArrival c h body
 unfolding arrivalVerdict arrivalRefusals lentRight both choose
 arrival-judged c slots out h body k whole room =
     let d = datagram h body in
     let read = carried-read h body k in
     let rest = carried-body h body k in
     let row = arrivalRow c (reading d .header) (reading d .little) (bodyOf d) in
-    read-on Refuse (WrongLength when not (lentRight (length slots) (length out))) (BrokenRecord when not (sound c)) (readRefusals d)
+    read-on Refuse (WrongLength when not (lentRight (length slots) (length out))) (BrokenRecord when not (sound c))
+    (readRefusals d)
     (OtherActivity when not (same (c .activity) (reading d .header .activity))
     ∷ pduRefusals c (reading d .header) (reading d .little) (bodyOf d) row) row
     (λ i. not (lentRight (whole i) (room i))) (read-passed d (ap (λ (r : Reading). r .answer) read))
     ∙ (λ i. arrivalAs c (read i) (rest i))
 
--- and what it is judged gives this turn.
-arrival-turn : (v : Verdict) (c : Client) (body slots out : List ℕ)
-    → clientTurnOf (arrivalBy v c body slots out .outcome) (arrivalBy v c body slots out .out) (arrivalBy v c body slots out .slots)
-    ≡ turnBy v c [] out (storing (clientPlan v c .store) body slots)
+-- and the turn that it gives.
+abbrev slotsBy : Verdict → Client → List ℕ → List ℕ → List ℕ
+slotsBy v c body slots = storing (clientPlan v c .store) body slots
+
+abbrev arrivedBy : Verdict → Client → List ℕ → List ℕ → List ℕ → Turn Client
+arrivedBy v c body slots out =
+    clientTurnOf (arrivalBy v c body slots out .outcome) (arrivalBy v c body slots out .out)
+    (arrivalBy v c body slots out .slots)
+
+arrived-turn : (v : Verdict) (c : Client) (body slots out : List ℕ)
+    → arrivedBy v c body slots out ≡ turnBy v c [] out (slotsBy v c body slots)
 unfolding arrivalBy acted stepBy storing going
-arrival-turn (Refuse r) c body slots out = refl
-arrival-turn (Go row) c body slots out = refl
+arrived-turn (Refuse r) c body slots out = refl
+arrived-turn (Go row) c body slots out = refl
 
 module _ (w : World) (out : List ℕ) (room : length out ≡ pduSize) where
   abbrev c : Client
   c = w .client .machine
 
-  -- What an event makes that leaves the starts as they are, where a verdict gives its turn.
-  makes : (e : ClientEvent) (v : Verdict) (lent slots : List ℕ) (cancels : Turn Client → List Cancelled)
-      → step w (OfClient e) ≡ clientWorld w (clientTurn (w .client) e) (w .books .starts) (cancels (clientTurn (w .client) e))
-      → clientTurn (w .client) e ≡ turnBy v c lent out slots
-      → Uuids (clientPlan v c .client .activity) (clientPlan v c .client .call) → Short lent
-      → Makes w (OfClient e) (numberOf (answeredBy v)) (clientPlan v c .notice)
-      (clientLeftWith (cancels (planned v c lent out slots)) w (clientPlan v c) lent slots)
+  abbrev slots : List ℕ
+  slots = w .client .slots
+
+  -- An event that leaves the starts as they are, where a verdict gives its turn.
+  makes : (e : ClientEvent) (v : Verdict) (lent left : List ℕ) (cancels : Turn Client → List Cancelled)
+      → step w (OfClient e)
+      ≡ clientWorld w (clientTurn (w .client) e) (w .books .starts) (cancels (clientTurn (w .client) e))
+      → clientTurn (w .client) e ≡ turnBy v c lent out left → ClientUuids v c → Short lent
+      → ClientMakes w e v (cancels (planned v c lent out left)) lent left
   unfolding answerTo noticeOf happens done
-  makes e v lent slots cancels left given z short =
-      let turn = given ∙ turn-planned v c lent out slots in
+  makes e v lent left cancels steps given z short =
+      let plan = clientPlan v c in
+      let turn = given ∙ turn-planned v c lent out left in
+      let cancelled = cancels (planned v c lent out left) in
       record {
         answered = ap (λ (t : Turn Client). numberOf (t .answer)) turn;
         tells = ap (λ (t : Turn Client). t .notice) turn;
         leaves =
-            left
+            steps
             ∙ ap (λ (t : Turn Client). clientWorld w t (w .books .starts) (cancels t)) turn
             ∙ (λ i. record {
               client =
                   record {
-                    machine = clientPlan v c .client;
-                    slots = slots;
-                    sent = client-sent (clientPlan v c .send) (clientPlan v c .client) lent out (w .client .sent) (lastStart (w .books .starts)) z short room i;
+                    machine = plan .client;
+                    slots = left;
+                    sent =
+                        client-sent (plan .send) (plan .client) lent out (w .client .sent)
+                        (lastStart (w .books .starts)) z short room i;
                   };
               server = w .server;
-              books = clientLeftWith (cancels (planned v c lent out slots)) w (clientPlan v c) lent slots .books;
+              books = clientLeft cancelled w plan lent left .books;
             });
       }
 
-  -- The same where the local cancels stay.
-  abbrev kept : Turn Client → List Cancelled
-  kept t = w .books .cancels
+  -- The local cancels stay, or one more is on the books where that is answered 0.
+  abbrev sameCancels : Turn Client → List Cancelled
+  sameCancels t = w .books .cancels
+
+  abbrev moreCancels : Turn Client → List Cancelled
+  moreCancels t = cancelledAfter (w .books .cancels) t (lastStart (w .books .starts))
 
   -- A transmit, of a message of n bytes;
-  pub client-transmits : (message : List ℕ) (n : ℕ) → length message ≡ n
-      → Uuids (clientPlan (clientTransmit c n) c .client .activity) (clientPlan (clientTransmit c n) c .client .call)
-      → Makes w (OfClient (ClientTransmit message out)) (numberOf (answeredBy (clientTransmit c n))) (clientPlan (clientTransmit c n) c .notice)
-      (clientLeft w (clientPlan (clientTransmit c n) c) (fragmentOf message (c .outgoing .sent)) (w .client .slots))
+  pub client-transmits : (message : List ℕ) (n : ℕ) → length message ≡ n → ClientUuids (transmitVerdict c n pduSize) c
+      → ClientMakes w (ClientTransmit message out) (transmitVerdict c n pduSize) (w .books .cancels)
+      (fragmentOf message (c .outgoing .sent)) slots
   unfolding step happens transmitting
   client-transmits message n whole z =
-      makes (ClientTransmit message out) (clientTransmit c n) (fragmentOf message (c .outgoing .sent)) (w .client .slots) kept refl
-      (λ i. turnBy (transmitVerdict c (whole i) (room i)) c (fragmentOf message (c .outgoing .sent)) out (w .client .slots)) z
-      (fragment-most message (c .outgoing .sent))
+      let lent = fragmentOf message (c .outgoing .sent) in
+      makes (ClientTransmit message out) (transmitVerdict c n pduSize) lent slots sameCancels refl
+      (λ i. turnBy (transmitVerdict c (whole i) (room i)) c lent out slots) z (fragment-most message (c .outgoing .sent))
 
   -- a timer event;
-  pub client-times : (kind : TimerKind) (ticket : ℕ)
-      → Uuids (clientPlan (clientTime c kind ticket) c .client .activity) (clientPlan (clientTime c kind ticket) c .client .call)
-      → Makes w (OfClient (ClientTimer kind ticket out)) (numberOf (answeredBy (clientTime c kind ticket)))
-      (clientPlan (clientTime c kind ticket) c .notice) (clientLeft w (clientPlan (clientTime c kind ticket) c) [] (w .client .slots))
+  pub client-times : (kind : TimerKind) (ticket : ℕ) → ClientUuids (timerVerdict c kind ticket pduSize) c
+      → ClientMakes w (ClientTimer kind ticket out) (timerVerdict c kind ticket pduSize) (w .books .cancels) [] slots
   unfolding step happens timing
   client-times kind ticket z =
-      makes (ClientTimer kind ticket out) (clientTime c kind ticket) [] (w .client .slots) kept refl
-      (λ i. turnBy (timerVerdict c kind ticket (room i)) c [] out (w .client .slots)) z (omega arith)
+      makes (ClientTimer kind ticket out) (timerVerdict c kind ticket pduSize) [] slots sameCancels refl
+      (λ i. turnBy (timerVerdict c kind ticket (room i)) c [] out slots) z (omega arith)
 
   -- a local cancel;
-  pub client-cancels : Uuids (clientPlan (clientCancel c) c .client .activity) (clientPlan (clientCancel c) c .client .call)
-      → Makes w (OfClient (ClientCancel out)) (numberOf (answeredBy (clientCancel c))) (clientPlan (clientCancel c) c .notice)
-      (clientLeftWith (cancelsThen w (clientCancel c)) w (clientPlan (clientCancel c) c) [] (w .client .slots))
+  pub client-cancels : ClientUuids (cancelVerdict c pduSize) c
+      → ClientMakes w (ClientCancel out) (cancelVerdict c pduSize)
+      (moreCancels (planned (cancelVerdict c pduSize) c [] out slots)) [] slots
   unfolding step happens cancelling
   client-cancels z =
-      makes (ClientCancel out) (clientCancel c) [] (w .client .slots)
-      (λ t. cancelledAfter (w .books .cancels) t (lastStart (w .books .starts))) refl
-      (λ i. turnBy (cancelVerdict c (room i)) c [] out (w .client .slots)) z (omega arith)
+      makes (ClientCancel out) (cancelVerdict c pduSize) [] slots moreCancels refl
+      (λ i. turnBy (cancelVerdict c (room i)) c [] out slots) z (omega arith)
 
   -- a PDU that arrives.
-  pub client-arrives : {h : Header} {body : List ℕ} {o : ℕ} → Carried h body → length (w .client .slots) ≡ slotsSize
-      → Uuids (clientPlan (clientArrival c h body) c .client .activity) (clientPlan (clientArrival c h body) c .client .call)
-      → Makes w (OfClient (ClientArrive (pduOf o (datagram h body)) Own out)) (numberOf (answeredBy (clientArrival c h body)))
-      (clientPlan (clientArrival c h body) c .notice)
-      (clientLeft w (clientPlan (clientArrival c h body) c) [] (storing (clientPlan (clientArrival c h body) c .store) body (w .client .slots)))
+  pub client-arrives : {h : Header} {body : List ℕ} {o : ℕ} → Carried h body → length slots ≡ slotsSize
+      → ClientUuids (clientArrival c h body) c
+      → ClientMakes w (ClientArrive (pduOf o (datagram h body)) Own out) (clientArrival c h body) (w .books .cancels) []
+      (slotsBy (clientArrival c h body) c body slots)
   unfolding step happens arriving bytesLent ownAfter
   client-arrives {h} {body} {o} k whole z =
-      let judged = arrival-judged c (w .client .slots) out h body k whole room in
+      let v = clientArrival c h body in
+      let judged = arrival-judged c slots out h body k whole room in
       let rest = carried-body h body k in
-      makes (ClientArrive (pduOf o (datagram h body)) Own out) (clientArrival c h body) []
-      (storing (clientPlan (clientArrival c h body) c .store) body (w .client .slots)) kept refl
-      ((λ i. clientTurnOf (arrivalBy (judged i) c (rest i) (w .client .slots) out .outcome) (arrivalBy (judged i) c (rest i) (w .client .slots) out .out)
-      (arrivalBy (judged i) c (rest i) (w .client .slots) out .slots))
-      ∙ arrival-turn (clientArrival c h body) c body (w .client .slots) out) z (omega arith)
+      makes (ClientArrive (pduOf o (datagram h body)) Own out) v [] (slotsBy v c body slots) sameCancels refl
+      ((λ i. arrivedBy (judged i) c (rest i) slots out) ∙ arrived-turn v c body slots out) z (omega arith)

@@ -90,7 +90,7 @@ unfolding ServerStates.neverCalled ServerStates.isFresh ServerStates.isRunning S
     ServerRows.requestAgain ServerRows.requestIdle ServerRows.requestEqual ServerRows.requestRow ServerRows.pingEqual ServerRows.pingRow
     ServerRows.whereReplied ServerRows.acknowledgementRow ServerRows.ackRow ServerRows.runningCancel ServerRows.cancelEqual
     ServerRows.cancelRow ServerRows.requestPut ServerRows.isForServer ServerRows.arrivalRow ServerRows.transmitRow ServerRows.faultRow
-    ServerRows.resendHeld ServerRows.resendRow ServerRows.timerRow ServerRows.arms ServerRows.armsTimer
+    ServerRows.timerRow ServerRows.arms
     ServerRefusals.replyRefusals ServerRefusals.replyVerdict ServerRefusals.transmitRefusals ServerRefusals.transmitVerdict
     ServerRefusals.faultRefusals ServerRefusals.faultVerdict ServerRefusals.timerRefusals ServerRefusals.timerVerdict
     ServerRefusals.isRequest ServerRefusals.isMaybeOrBroadcast ServerRefusals.isMalformed ServerRefusals.puts ServerRefusals.slotsFor

@@ -9,7 +9,9 @@ use answers::Refusal;
 use calls::Call;
 use calls::Notice;
 use calls::Sent;
+use judge::Verdict;
 use pdu::Header;
+use reader::Reading;
 pub use records::Idle;
 pub use records::Reply;
 pub use records::Server;
@@ -26,7 +28,8 @@ ghost use mathlib.Core.List.{[]};
 ghost use Rattle.calls.specs.Sent.{Posted};
 ghost use Rattle.server.specs.Sending.{replyHeader, echoed as echoedCall, echoHeader, responseSent, faultSent, emptySent, fackSent, cancelAckSent, sentOut};
 ghost use Rattle.calls.specs.Events.{Stepped, Arrived};
-ghost use Rattle.server.specs.Machine.{outcomeOf, replying, transmitting, timing, faulting, planOf, acted, arriving, handedUpOf};
+ghost use Rattle.server.specs.judge.Parts.{readVerdict};
+ghost use Rattle.server.specs.Machine.{refused as refusedOutcome, done as doneOutcome, replying, sending, stepBy, transmitting, timing, faulting, acted, arrivalBy, arriving, handedUpOf};
 
 // What an event gives back.
 pub struct Outcome {
@@ -115,13 +118,13 @@ fn send_empty(kind: u8, s: Server, h: Header, out: &mut [u8]) -> Sent
     calls::post(header, &none, out)
 }
 
-// Sends a fack for the serial answered.
-fn send_fack(serial: u16, s: Server, h: Header, out: &mut [u8]) -> Sent
-    ensures { λ r. ⌜ Posted (fackSent serial s h (now (out .entry))) r (now (out .exit)) ⌝ }
+// Sends a fack for the serial answered; count is the contiguous count of what is held.
+fn send_fack(serial: u16, count: u16, s: Server, h: Header, out: &mut [u8]) -> Sent
+    ensures { λ r. ⌜ Posted (fackSent serial count s h (now (out .entry))) r (now (out .exit)) ⌝ }
 {
     let m = s.incoming;
-    let header = echo_header(9, facks::number(m), s, h);
-    let body = bodies::write_fack(serial, facks::mask(m));
+    let header = echo_header(9, facks::number(count), s, h);
+    let body = bodies::write_fack(serial, facks::mask(m, count));
     calls::post(header, &body, out)
 }
 
@@ -144,20 +147,31 @@ fn send_out(send: Send, s: Server, h: Header, lent: &[u8], out: &mut [u8]) -> Se
         Send::Fault(status) => send_fault(status, s, out),
         Send::Working => send_empty(4, s, h, out),
         Send::Nocall => send_empty(5, s, h, out),
-        Send::Fack(serial) => send_fack(serial, s, h, out),
+        Send::Fack(serial, count) => send_fack(serial, count, s, h, out),
         Send::CancelAck(number, accepts) => send_cancel_ack(number, accepts, s, h, out),
     }
 }
 
-// What an event gives back of its plan and of what was sent.
-fn outcome_of(plan: Plan, sent: Sent) -> Outcome
-    ensures { λ r. ⌜ r ≡ outcomeOf plan sent ⌝ }
+// A refusal: the record stays, nothing is sent or told.
+fn refused(s: Server, refusal: Refusal) -> Outcome
+    ensures { λ r. ⌜ r ≡ refusedOutcome s refusal ⌝ }
 {
-    let answer = plan.answer;
+    Outcome {
+        answer: Answer::Refused(refusal),
+        server: s,
+        sent: Sent::Nothing,
+        notice: Notice::Nothing,
+    }
+}
+
+// What a row's plan gives back with what was sent.
+fn done(plan: Plan, sent: Sent) -> Outcome
+    ensures { λ r. ⌜ r ≡ doneOutcome plan sent ⌝ }
+{
     let server = plan.server;
     let notice = plan.notice;
     Outcome {
-        answer,
+        answer: Answer::Done,
         server,
         sent,
         notice,
@@ -168,82 +182,96 @@ fn outcome_of(plan: Plan, sent: Sent) -> Outcome
 pub fn reply(s: Server, length: u32) -> Outcome
     ensures { λ r. ⌜ r ≡ replying s length ⌝ }
 {
-    let ground = judge::reply(s, length);
-    outcome_of(step::reply(ground, s, length), Sent::Nothing)
+    match judge::reply(s, length) {
+        Verdict::Refuse(refusal) => refused(s, refusal),
+        Verdict::Go(row) => done(step::step(row, s, pdu::no_header()), Sent::Nothing),
+    }
+}
+
+// Sends the PDU of a plan, for the PDU answered; the bytes of a fragment that is sent are lent.
+fn send(plan: Plan, h: Header, lent: &[u8], out: &mut [u8]) -> Outcome
+    ensures { λ r. ⌜ Stepped (sending plan h (now (lent .entry)) (now (out .entry))) r (now (out .exit)) ⌝ }
+{
+    let server = plan.server;
+    let send = plan.send;
+    done(plan, send_out(send, server, h, lent, out))
+}
+
+// An event of the stub or the timer, judged; no PDU is answered.
+fn act(verdict: Verdict, s: Server, lent: &[u8], out: &mut [u8]) -> Outcome
+    ensures { λ r. ⌜ Stepped (stepBy verdict s (now (lent .entry)) (now (out .entry))) r (now (out .exit)) ⌝ }
+{
+    match verdict {
+        Verdict::Refuse(refusal) => refused(s, refusal),
+        Verdict::Go(row) => {
+            let h = pdu::no_header();
+            send(step::step(row, s, h), h, lent, out)
+        }
+    }
 }
 
 // Transmit: the next fragment of the lent message.
 pub fn transmit(s: Server, message: &[u8], out: &mut [u8]) -> Outcome
     ensures { λ r. ⌜ Stepped (transmitting s (now (message .entry)) (now (out .entry))) r (now (out .exit)) ⌝ }
 {
-    let ground = judge::transmit(s, message.len(), out.len());
-    let plan = step::transmit(ground, s);
-    let server = plan.server;
-    let send = plan.send;
     let o = s.outgoing;
-    let fragment = outgoing::fragment(message, o.sent);
-    let sent = send_out(send, server, pdu::no_header(), fragment, out);
-    outcome_of(plan, sent)
+    let verdict = judge::transmit(s, message.len(), out.len());
+    act(verdict, s, outgoing::fragment(message, o.sent), out)
 }
 
 // The RESEND timer with that ticket.
 pub fn timer(s: Server, ticket: u64, out: &mut [u8]) -> Outcome
     ensures { λ r. ⌜ Stepped (timing s ticket (now (out .entry))) r (now (out .exit)) ⌝ }
 {
-    let ground = judge::timer(s, ticket, out.len());
-    let plan = step::timer(ground, s);
-    let server = plan.server;
-    let send = plan.send;
+    let verdict = judge::timer(s, ticket, out.len());
     let none: [u8; 0] = [];
-    let sent = send_out(send, server, pdu::no_header(), &none, out);
-    outcome_of(plan, sent)
+    act(verdict, s, &none, out)
 }
 
 // Fault: the call that is running fails with this status.
 pub fn fault(s: Server, status: u32, out: &mut [u8]) -> Outcome
     ensures { λ r. ⌜ Stepped (faulting s status (now (out .entry))) r (now (out .exit)) ⌝ }
 {
-    let ground = judge::fault(s, out.len());
-    let plan = step::fault(ground, s, status);
-    let server = plan.server;
-    let send = plan.send;
+    let verdict = judge::fault(s, status, out.len());
     let none: [u8; 0] = [];
-    let sent = send_out(send, server, pdu::no_header(), &none, out);
-    outcome_of(plan, sent)
+    act(verdict, s, &none, out)
 }
 
-// The plan of an arriving PDU.
-fn plan_arrival(s: Server, lent: Ground, reading: Reading, body: &[u8]) -> Plan
-    ensures { λ r. ⌜ r ≡ planOf s lent reading (now (body .entry)) ⌝ }
-{
-    let h = reading.header;
-    let ground = judge::arrival(s, lent, reading, body);
-    let length = grounds::body_length(body.len());
-    let cancel = bodies::read_cancel(body, reading.little);
-    arrivals::arrive(ground, s, h, length, cancel.number)
-}
-
-// Acts on the plan of an arriving PDU.
-fn act(plan: Plan, h: Header, body: &[u8], slots: &mut [u8], out: &mut [u8]) -> Outcome
+// Acts on the plan of an arriving PDU: its body goes into its slot, the PDU into the buffer.
+fn store_and_send(plan: Plan, h: Header, body: &[u8], slots: &mut [u8], out: &mut [u8]) -> Outcome
     ensures { λ r. ⌜ Arrived (acted plan h (now (body .entry)) (now (slots .entry)) (now (out .entry))) r (now (slots .exit)) (now (out .exit)) ⌝ }
 {
-    let server = plan.server;
-    let send = plan.send;
+    let place = plan.store;
     let none: [u8; 0] = [];
-    fragments::store(plan.put, h.fragment, body, slots);
-    outcome_of(plan, send_out(send, server, h, &none, out))
+    fragments::store(place, body, slots);
+    send(plan, h, &none, out)
 }
 
-// An arriving PDU.
+// A datagram that was read, behind its entry.
+fn receive(s: Server, reading: Reading, body: &[u8], slots: &mut [u8], out: &mut [u8]) -> Outcome
+    ensures { λ r. ⌜ Arrived (arrivalBy (readVerdict s reading (now (body .entry))) s (reading .header) (now (body .entry)) (now (slots .entry)) (now (out .entry))) r (now (slots .exit)) (now (out .exit)) ⌝ }
+{
+    let h = reading.header;
+    match judge::arrival(s, reading, body) {
+        Verdict::Refuse(refusal) => refused(s, refusal),
+        Verdict::Go(row) => store_and_send(step::step(row, s, h), h, body, slots, out),
+    }
+}
+
+// An arriving PDU. It is read only where what is lent is right and the record keeps its rules.
 pub fn arrive(s: Server, datagram: &[u8], slots: &mut [u8], out: &mut [u8]) -> Outcome
     ensures { λ r. ⌜ Arrived (arriving s (now (datagram .entry)) (now (slots .entry)) (now (out .entry))) r (now (slots .exit)) (now (out .exit)) ⌝ }
 {
-    let reading = reader::read(datagram);
-    let body = reader::body(datagram);
-    let h = reading.header;
-    let lent = grounds::lent(slots.len(), out.len());
-    let plan = plan_arrival(s, lent, reading, body);
-    act(plan, h, body, slots, out)
+    match judge::entry(s, slots.len(), out.len()) {
+        Answer::Refused(refusal) => refused(s, refusal),
+        Answer::Done => receive(
+            s,
+            reader::read(datagram),
+            reader::body(datagram),
+            slots,
+            out,
+        ),
+    }
 }
 
 // The part of the slot buffer that is fragment f of what was received; empty where f is not

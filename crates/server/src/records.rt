@@ -1,5 +1,5 @@
 // The server's record: what a controller keeps of an activity, the rules that a record keeps, the two
-// ways in which a row leaves its timer, the record with another part, and when a row arms the timer.
+// ways in which a row leaves its timer, the record with another part, and whether a call can be run again.
 use calls::Call;
 use incoming::Incoming;
 use outgoing::Outgoing;
@@ -9,7 +9,7 @@ ghost use mathlib.Core.Path.{_≡_};
 ghost use Rattle.server.specs.records.States.{neverCalled, isFresh, isRunning, isReplying, isHeld};
 ghost use Rattle.server.specs.records.Rules.{idleRule, heldRule, messageRule, outgoingSound, sound};
 ghost use Rattle.server.specs.records.Record.{fresh as freshRecord, timed, holding, unarmed, withOutgoing, withIncoming, withResends, withSeen, withCall};
-ghost use Rattle.server.specs.records.Arming.{runsAgain, armsResend, heldArmsAgain, armsAgain};
+ghost use Rattle.server.specs.records.Arming.{runsAgain};
 
 // What became of the last call.
 pub enum Idle {
@@ -167,14 +167,16 @@ pub fn is_sound(s: Server) -> bool
     let o = s.outgoing;
     let m = s.incoming;
     let resend = s.resend;
-    let sending = outgoing_is_sound(state, o);
-    let receiving = incoming::is_sound(m);
-    let named = is_held(state);
-    let timing = timers::is_sound_where(named, resend, s.tickets);
-    words::both(
-        s.resends <= RETRY_LIMIT,
-        words::both(sending, words::both(receiving, timing)),
-    )
+    if RETRY_LIMIT < s.resends {
+        return false;
+    }
+    if !outgoing_is_sound(state, o) {
+        return false;
+    }
+    if !incoming::is_sound(m) {
+        return false;
+    }
+    timers::is_sound_where(is_held(state), resend, s.tickets)
 }
 
 // A fresh server: IDLE fresh, nothing held or armed.
@@ -296,35 +298,4 @@ pub fn runs_again(idempotent: bool, o: Outgoing) -> bool
     ensures { λ r. ⌜ r ≡ runsAgain idempotent o ⌝ }
 {
     words::both(idempotent, o.count == 1)
-}
-
-// Whether the next fragment arms RESEND.
-pub fn arms_resend(idempotent: bool, o: Outgoing) -> bool
-    ensures { λ r. ⌜ r ≡ armsResend idempotent o ⌝ }
-{
-    let again = runs_again(idempotent, o);
-    words::both(outgoing::sends_last(o), !again)
-}
-
-// Whether replaying what is held arms RESEND afresh.
-fn held_arms_again(reply: Reply, below: bool) -> bool
-    ensures { λ r. ⌜ r ≡ heldArmsAgain reply below ⌝ }
-{
-    match reply {
-        Reply::Data => false,
-        Reply::Fault(status) => below,
-    }
-}
-
-// Whether RESEND's row arms it afresh.
-pub fn arms_again(state: State, below: bool) -> bool
-    ensures { λ r. ⌜ r ≡ armsAgain state below ⌝ }
-{
-    match state {
-        State::Idle(idle) => false,
-        State::Collect => false,
-        State::Running => false,
-        State::Replying => false,
-        State::Held(reply) => held_arms_again(reply, below),
-    }
 }

@@ -9,7 +9,8 @@ returns c = step-refused _ _ _ _ _ _ (c .before .before .verdict .given .1) (c .
 
 returns-2 : tie.Need-returns-2
 returns-2 c =
-    step-taken _ _ _ _ _ _ _ _ (c .before .before .before .before .before .before .verdict2 .given .1) (c .before .before .before .before .step .ensures) (c .before .before .send .ensures)
+    step-taken _ _ _ _ _ _ _ _ (c .before .before .before .before .before .before .verdict2 .given .1)
+    (c .before .before .before .before .step .ensures) (c .before .before .send .ensures)
 
 pub act-spec : {M : Type 1} → statement M
 act-spec =

@@ -9,7 +9,8 @@ use Rattle.client.proofs.cancel.Tie as tie
 returns : tie.Need-returns
 unfolding cancelling
 returns c =
-    judged-as _ _ _ _ _ _ _ _ (c .before .before .before .before .before .cancel .ensures) refl (c .before .before .act .ensures)
+    judged-as _ _ _ _ _ _ _ _ (c .before .before .before .before .before .cancel .ensures) refl
+    (c .before .before .act .ensures)
 
 pub cancel-spec : {M : Type 1} → statement M
 cancel-spec =

@@ -4,6 +4,9 @@ use Rattle.client.specs.Machine.{handedUpOf}
 use Rattle.client.proofs.hand_up.Statement.{statement}
 use Rattle.client.proofs.hand_up.Tie as tie
 
-pub hand-up-spec : {M : Type 1} → statement M
+returns : tie.Need-returns
 unfolding handedUpOf
-hand-up-spec = tie.close (tie.spec (λ c κs. search needs) (λ c κs. search needs) (λ c. rw (c .hand-up-where .ensures, c .before .is-sound .ensures)))
+returns c = rw (c .hand-up-where .ensures, c .before .is-sound .ensures)
+
+pub hand-up-spec : {M : Type 1} → statement M
+hand-up-spec = tie.close (tie.spec (λ c κs. search needs) (λ c κs. search needs) returns)

@@ -6,4 +6,9 @@ use Rattle.client.proofs.header.Tie as tie
 
 pub header-spec : {M : Type 1} → statement M
 unfolding pduHeader
-header-spec = tie.close (tie.spec (λ c κs. search needs) (λ c κs. search needs) (λ c. rw (c .header .ensures, c .before .with .ensures)))
+header-spec =
+    tie.close
+    (tie.spec
+    (λ c κs. search needs)
+    (λ c κs. search needs)
+    (λ c. rw (c .header .ensures, c .before .with .ensures)))

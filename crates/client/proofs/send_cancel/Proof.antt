@@ -8,7 +8,8 @@ use Rattle.client.proofs.send_cancel.Tie as tie
 returns : tie.Need-returns
 unfolding cancelSent
 returns c =
-    posted-as _ _ _ _ _ _ _ (c .before .before .post .ensures) (c .before .before .before .before .before .before .header .ensures)
+    posted-as _ _ _ _ _ _ _ (c .before .before .post .ensures)
+    (c .before .before .before .before .before .before .header .ensures)
     (c .before .before .before .before .before .write-cancel .ensures)
 
 pub send-cancel-spec : {M : Type 1} → statement M

@@ -8,7 +8,16 @@ use Rattle.client.proofs.send_empty.Tie as tie
 
 returns : tie.Need-returns
 unfolding emptySent
-returns c = posted-as _ _ _ _ _ _ _ (c .before .before .post .ensures) (c .before .before .before .before .before .header .ensures) refl
+returns c =
+    posted-as _ _ _ _ _ _ _ (c .before .before .post .ensures)
+    (c .before .before .before .before .before .header .ensures) refl
 
 pub send-empty-spec : {M : Type 1} → statement M
-send-empty-spec = tie.close (tie.spec (λ c κs. search needs) (λ c. search needs) (λ c κs. search needs) (λ c. search needs) returns)
+send-empty-spec =
+    tie.close
+    (tie.spec
+    (λ c κs. search needs)
+    (λ c. search needs)
+    (λ c κs. search needs)
+    (λ c. search needs)
+    returns)

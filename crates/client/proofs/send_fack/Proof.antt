@@ -11,10 +11,12 @@ use Rattle.client.proofs.send_fack.Tie as tie
 returns : tie.Need-returns
 unfolding fackSent
 returns c =
-    let a = c .before .before .before .before .before .before .before .before .before .before .before .args in
+    let d = c .before .before .before .before .before in
+    let a = d .before .before .before .before .before .before .args in
     posted-as _ _ _ _ _ _ _ (c .before .before .post .ensures)
-    (c .before .before .before .before .before .before .before .header .ensures ∙ ap (λ (n : ℕ). pduHeader 9 0 n (a .c)) (c .before .before .before .before .before .before .before .before .number .ensures))
-    (c .before .before .before .before .before .write-fack .ensures ∙ ap (λ (k : ℕ). fackBytes (fackFields (a .serial) k)) (c .before .before .before .before .before .before .mask .ensures))
+    (d .before .before .header .ensures
+    ∙ ap (λ (n : ℕ). pduHeader 9 0 n (a .c)) (d .before .before .before .number .ensures))
+    (d .write-fack .ensures ∙ ap (λ (k : ℕ). fackBytes (fackFields (a .serial) k)) (d .before .mask .ensures))
 
 pub send-fack-spec : {M : Type 1} → statement M
 send-fack-spec =

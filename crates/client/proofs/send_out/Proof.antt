@@ -12,23 +12,33 @@ returns c = sent-as _ _ _ _ _ _ _ (c .enum-told .given .1) (record { sent = refl
 
 returns-2 : tie.Need-returns-2
 unfolding sentOut
-returns-2 c = sent-as _ _ _ _ _ _ _ (c .before .before .before .before .before .send .given .1) (c .before .before .send-request .ensures)
+returns-2 c =
+    sent-as _ _ _ _ _ _ _ (c .before .before .before .before .before .send .given .1)
+    (c .before .before .send-request .ensures)
 
 returns-3 : tie.Need-returns-3
 unfolding sentOut
-returns-3 c = sent-as _ _ _ _ _ _ _ (c .before .before .before .before .enum-told2 .given .1) (c .before .before .send-empty .ensures)
+returns-3 c =
+    sent-as _ _ _ _ _ _ _ (c .before .before .before .before .enum-told2 .given .1)
+    (c .before .before .send-empty .ensures)
 
 returns-4 : tie.Need-returns-4
 unfolding sentOut
-returns-4 c = sent-as _ _ _ _ _ _ _ (c .before .before .before .before .enum-told3 .given .1) (c .before .before .send-empty2 .ensures)
+returns-4 c =
+    sent-as _ _ _ _ _ _ _ (c .before .before .before .before .enum-told3 .given .1)
+    (c .before .before .send-empty2 .ensures)
 
 returns-5 : tie.Need-returns-5
 unfolding sentOut
-returns-5 c = sent-as _ _ _ _ _ _ _ (c .before .before .before .before .before .send2 .given .1) (c .before .before .send-fack .ensures)
+returns-5 c =
+    sent-as _ _ _ _ _ _ _ (c .before .before .before .before .before .send2 .given .1)
+    (c .before .before .send-fack .ensures)
 
 returns-6 : tie.Need-returns-6
 unfolding sentOut
-returns-6 c = sent-as _ _ _ _ _ _ _ (c .before .before .before .before .before .send3 .given .1) (c .before .before .send-cancel .ensures)
+returns-6 c =
+    sent-as _ _ _ _ _ _ _ (c .before .before .before .before .before .send3 .given .1)
+    (c .before .before .send-cancel .ensures)
 
 pub send-out-spec : {M : Type 1} → statement M
 send-out-spec =

@@ -10,9 +10,10 @@ use Rattle.client.proofs.send_request.Tie as tie
 returns : tie.Need-returns
 unfolding requestSent
 returns c =
-    let a = c .before .before .before .before .before .before .before .before .before .args in
+    let d = c .before .before .before .before in
+    let a = d .before .before .before .before .before .args in
     posted-as _ _ _ _ _ _ _ (c .before .before .post .ensures)
-    (c .before .before .before .before .header .ensures ∙ ap (λ (n : ℕ). pduHeader 0 n (a .f) (a .c)) (c .before .before .before .before .before .flags .ensures))
+    (d .header .ensures ∙ ap (λ (n : ℕ). pduHeader 0 n (a .f) (a .c)) (d .before .flags .ensures))
     refl
 
 pub send-request-spec : {M : Type 1} → statement M

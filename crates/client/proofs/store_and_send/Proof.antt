@@ -6,7 +6,8 @@ use Rattle.client.proofs.store_and_send.Tie as tie
 
 returns : tie.Need-returns
 returns c =
-    acted-on _ _ _ _ _ _ _ (c .before .before .before .before .before .before .before .store .ensures) (c .before .before .send .ensures)
+    acted-on _ _ _ _ _ _ _ (c .before .before .before .before .before .before .before .store .ensures)
+    (c .before .before .send .ensures)
 
 pub store-and-send-spec : {M : Type 1} → statement M
 store-and-send-spec =

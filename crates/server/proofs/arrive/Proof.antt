@@ -1,27 +1,37 @@
 -- `server::arrive` meets its contract.
-use Rattle.server.specs.Machine.{arriving}
-use Rattle.server.proofs.Returns.{arrived-as}
+use Rattle.server.proofs.Returns.{entry-refused, entry-passed}
 use borrow.Author.Needs.{needs}
 use Rattle.server.proofs.arrive.Statement.{statement}
 use Rattle.server.proofs.arrive.Tie as tie
 
 returns : tie.Need-returns
-unfolding arriving
 returns c =
-    let d = c .before .before .before .before .before .before .before in
-    let e = d .before .before .before in
-    arrived-as _ _ _ _ _ _ _ _ _ _ _ _ (d .plan-arrival .ensures) (d .before .lent .ensures) (e .before .read .ensures) (e .body .ensures)
-    (c .before .before .before .before .act .ensures)
+    let at-refusal = c .before .before in
+    let at-entry = at-refusal .before .before in
+    entry-refused _ _ _ _ _ (at-entry .entry .ensures) _ _ (at-refusal .refusal .given .1) (c .refused .ensures)
+
+returns-2 : tie.Need-returns-2
+returns-2 c =
+    let at-receive = c .before .before .before .before in
+    let at-body = at-receive .before .before .before in
+    let at-read = at-body .before in
+    let at-enum-told = at-read .before in
+    let at-entry = at-enum-told .before .before in
+    entry-passed _ _ _ _ _ (at-entry .entry .ensures) _ _ _ _ _ (at-enum-told .enum-told .given .1)
+    (at-read .read .ensures) (at-body .body .ensures) (at-receive .receive .ensures)
 
 pub arrive-spec : {M : Type 1} → statement M
 arrive-spec =
     tie.close
     (tie.spec
     (λ c κs. search needs)
-    (λ c κs. search needs)
-    (λ c κs. search needs)
-    (λ c κs. search needs)
+    (λ c. search needs)
     (λ c κs. search needs)
     (λ c. search needs)
+    (λ c κs. search needs)
+    (λ c κs. search needs)
+    (λ c κs. search needs)
+    returns
     (λ c. search needs)
-    returns)
+    (λ c. search needs)
+    returns-2)

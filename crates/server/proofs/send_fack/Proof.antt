@@ -14,7 +14,7 @@ returns c =
     let a = c .before .before .before .before .before .before .before .before .before .before .before .args in
     posted-as _ _ _ _ _ _ _ (c .before .before .post .ensures)
     (c .before .before .before .before .before .before .before .echo-header .ensures ∙ ap (λ (n : ℕ). echoHeader 9 n (a .s) (a .h)) (c .before .before .before .before .before .before .before .before .number .ensures))
-    (c .before .before .before .before .before .write-fack .ensures ∙ ap (λ (k : ℕ). fackBytes (fackFields (a .serial) k)) (c .before .before .before .before .before .before .mask .ensures .word))
+    (c .before .before .before .before .before .write-fack .ensures ∙ ap (λ (k : ℕ). fackBytes (fackFields (a .serial) k)) (c .before .before .before .before .before .before .mask .ensures))
 
 pub send-fack-spec : {M : Type 1} → statement M
 send-fack-spec =

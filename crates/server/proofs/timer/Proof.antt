@@ -1,9 +1,7 @@
 -- `server::timer` meets its contract.
-use mathlib.Core.Path.{ap, _∙_}
-use Rattle.answers.specs.declared.Ground.{Ground}
-use Rattle.server.specs.step.Rows.{timerPlan}
+use mathlib.Core.Path.{refl}
 use Rattle.server.specs.Machine.{timing}
-use Rattle.server.proofs.Returns.{stepped}
+use Rattle.server.proofs.Returns.{judged-step}
 use borrow.Author.Needs.{needs}
 use Rattle.server.proofs.timer.Statement.{statement}
 use Rattle.server.proofs.timer.Tie as tie
@@ -11,20 +9,17 @@ use Rattle.server.proofs.timer.Tie as tie
 returns : tie.Need-returns
 unfolding timing
 returns c =
-    let d = c .before .before .before .before .before .before .before .before in
-    let a = d .before .before .before .args in
-    stepped _ _ _ _ _ _ _ _ _ (d .timer2 .ensures ∙ ap (λ (g : Ground). timerPlan g (a .s)) (d .before .timer .ensures))
-    (c .before .before .before .before .before .before .no-header .ensures) (c .before .before .before .send-out .ensures) (c .outcome-of .ensures)
+    let at-act = c .before .before in
+    let at-timer = at-act .before .before .before in
+    judged-step _ _ _ _ _ _ _ _ (at-timer .timer .ensures) refl (at-act .act .ensures)
 
 pub timer-spec : {M : Type 1} → statement M
+unfolding timing
 timer-spec =
     tie.close
     (tie.spec
     (λ c κs. search needs)
-    (λ c κs. search needs)
-    (λ c κs. search needs)
     (λ c. search needs)
-    (λ c κs. search needs)
     (λ c κs. search needs)
     (λ c. search needs)
     returns)

@@ -33,11 +33,9 @@ lines c slots out d =
     (joined Refuse (readRefusals d) _ _ ∙ by-answer Refuse (readRefusals d) _ ∙ ap (behindAnswer Refuse _) (sym (read-answers d)))
 
 returns : tie.Need-returns
-unfolding behindAnswer
 returns c = rw (lines, ← c .before .is-lent-right .ensures) (search tests)
 
 returns-2 : tie.Need-returns-2
-unfolding behindAnswer
 returns-2 c = rw (
   lines,
   ← c .before .before .before .is-lent-right .ensures,

@@ -27,7 +27,8 @@ lines : (c : Client) (h : Header) (little : Bool) (body : List ℕ) → h .kind 
     (choose (not (isCurrent (c .cancel) (c .cancels) (cancelNumberIn little body))) (Refuse NoRow)
     (Go CancelAck)))
 unfolding pduVerdict pduRefusals firstOf arrivalRow isResponse isMalformed isContradiction isForClient rowIn isRow armsTimer arms both either choose
-lines c h little body e = by-test (isCurrent (c .cancel) (c .cancels) (cancelNumberIn little body)) (λ is. rw (e, is)) (λ is. rw (e, is))
+lines c h little body e =
+    by-test (isCurrent (c .cancel) (c .cancels) (cancelNumberIn little body)) (λ is. rw (e, is)) (λ is. rw (e, is))
 
 returns : tie.Need-returns
 returns c =

@@ -74,12 +74,13 @@ returns-4 c =
 
 returns-5 : tie.Need-returns-5
 returns-5 c =
-    let kind = c .before .before .before .before .before .before .before .before .before .before .before .before .before .pre in
+    let d = c .before .before .before .before .before .before in
+    let kind = d .before .before .before .before .before .before .before .pre in
     rw (
       lines,
-      ← c .before .before .before .before .before .before .before .before .before .before .is-wrong .ensures,
-      ← c .before .before .before .before .before .before .before .before .is-old .ensures,
-      ← c .before .before .before .before .before .before .is-active .ensures,
+      ← d .before .before .before .before .is-wrong .ensures,
+      ← d .before .before .is-old .ensures,
+      ← d .is-active .ensures,
       ← c .before .before .before .before .is-held .ensures,
       ← c .before .before .is-last .ensures,
       ← c .before .contradicts-held .ensures,
@@ -87,12 +88,13 @@ returns-5 c =
 
 returns-6 : tie.Need-returns-6
 returns-6 c =
-    let kind = c .before .before .before .before .before .before .before .before .before .before .before .before .before .before .before .before .pre in
+    let d = c .before .before .before .before .before .before .before .before .before in
+    let kind = d .before .before .before .before .before .before .before .pre in
     rw (
       lines,
-      ← c .before .before .before .before .before .before .before .before .before .before .before .before .before .is-wrong .ensures,
-      ← c .before .before .before .before .before .before .before .before .before .before .before .is-old .ensures,
-      ← c .before .before .before .before .before .before .before .before .before .is-active .ensures,
+      ← d .before .before .before .before .is-wrong .ensures,
+      ← d .before .before .is-old .ensures,
+      ← d .is-active .ensures,
       ← c .before .before .before .before .before .before .before .is-held .ensures,
       ← c .before .before .before .before .before .is-last .ensures,
       ← c .before .before .before .before .contradicts-held .ensures,

@@ -20,7 +20,10 @@ both-right false b e = refl
 
 returns : tie.Need-returns
 returns c =
-    sym (choose-true _ _ _ (both-hold _ _ (sym (c .before .arms .ensures) ∙ c .if2 .taken) (sym (c .before .before .before .used-up .ensures) ∙ c .before .before .if1 .taken)))
+    let d = c .before .before in
+    sym (choose-true _ _ _ (both-hold _ _
+    (sym (c .before .arms .ensures) ∙ c .if2 .taken)
+    (sym (d .before .used-up .ensures) ∙ d .if1 .taken)))
 
 returns-2 : tie.Need-returns-2
 returns-2 c =

@@ -9,7 +9,7 @@ use Rattle.client.proofs.records.is_sound.Tie as tie
 
 returns : tie.Need-returns
 unfolding sound both
-returns c = rw (← c .before .counts-are-sound .ensures) (search (tests, not-true, not-false))
+returns c = rw (← c .before .counts-are-sound .ensures) (search (tests, not-true))
 
 returns-2 : tie.Need-returns-2
 unfolding sound both
@@ -33,7 +33,7 @@ returns-4 c = rw (
   ← c .before .before .before .before .outgoing-is-sound .ensures,
   ← c .before .before .is-sound .ensures,
   ← c .timers-are-sound .ensures,
-) (search (tests, not-true, not-false))
+) (search (tests, not-false))
 
 pub is-sound-spec : {M : Type 1} → statement M
 is-sound-spec =

@@ -4,8 +4,20 @@ use borrow.Author.Needs.{needs}
 use Rattle.client.proofs.records.outgoing_is_sound.Statement.{statement}
 use Rattle.client.proofs.records.outgoing_is_sound.Tie as tie
 
-pub outgoing-is-sound-spec : {M : Type 1} → statement M
+returns : tie.Need-returns
 unfolding outgoingSound
+returns c =
+    let d = c .before .before .before .before in
+    rw (
+      c .both2 .ensures,
+      c .before .message-rule .ensures,
+      c .before .before .both .ensures,
+      d .has-nothing .ensures,
+      d .before .has-message .ensures,
+      d .before .before .is-bounded .ensures,
+    )
+
+pub outgoing-is-sound-spec : {M : Type 1} → statement M
 outgoing-is-sound-spec =
     tie.close
     (tie.spec
@@ -15,4 +27,4 @@ outgoing-is-sound-spec =
     (λ c κs. search needs)
     (λ c κs. search needs)
     (λ c κs. search needs)
-    (λ c. rw (c .both2 .ensures, c .before .message-rule .ensures, c .before .before .both .ensures, c .before .before .before .before .has-nothing .ensures, c .before .before .before .before .before .has-message .ensures, c .before .before .before .before .before .before .is-bounded .ensures)))
+    returns)

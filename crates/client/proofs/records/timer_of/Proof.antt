@@ -7,4 +7,12 @@ use Rattle.client.proofs.records.timer_of.Tie as tie
 
 pub timer-of-spec : {M : Type 1} → statement M
 unfolding namedTimer
-timer-of-spec = tie.close (tie.spec (λ c. search needs) (λ c. search needs) (λ c. search needs) (λ c. search tests) (λ c. search tests) (λ c. search tests))
+timer-of-spec =
+    tie.close
+    (tie.spec
+    (λ c. search needs)
+    (λ c. search needs)
+    (λ c. search needs)
+    (λ c. search tests)
+    (λ c. search tests)
+    (λ c. search tests))

@@ -1,21 +1,20 @@
--- `server_table::arrival` meets its contract.
-use Rattle.server.specs.judge.Arrival.{arrivalGround}
+-- `server::judge::arrival` meets its contract.
+use Rattle.answers.specs.Table.{behindAnswer}
 use borrow.Author.Needs.{needs}
 use Rattle.server.proofs.judge.arrival.Statement.{statement}
 use Rattle.server.proofs.judge.arrival.Tie as tie
 
+returns-2 : tie.Need-returns-2
+unfolding behindAnswer
+returns-2 c = rw (c .before .enum-told .given .1, c .of-mine .ensures)
+
 pub arrival-spec : {M : Type 1} → statement M
-unfolding arrivalGround
+unfolding behindAnswer
 arrival-spec =
     tie.close
     (tie.spec
+    (λ c. search needs)
+    (λ c. search needs)
     (λ c κs. search needs)
-    (λ c κs. search needs)
-    (λ c κs. search needs)
-    (λ c κs. search needs)
-    (λ c κs. search needs)
-    (λ c κs. search needs)
-    (λ c κs. search needs)
-    (λ c κs. search needs)
-    (λ c κs. search needs)
-    (λ c. rw (c .first-of2 .ensures, c .before .first-of .ensures, c .before .before .table-ground .ensures, c .before .before .before .order-for .ensures, c .before .before .before .before .pdu-ground .ensures, c .before .before .before .before .before .row-for .ensures, c .before .before .before .before .before .before .event-of .ensures, c .before .before .before .before .before .before .before .entry .ensures, c .before .before .before .before .before .before .before .before .is-sound .ensures)))
+    (λ c. rw (c .before .answer .given .1))
+    returns-2)

@@ -1,9 +1,0 @@
--- `server_arrivals::heard` meets its contract.
-use Rattle.server.specs.arrivals.Rows.{heardPlan}
-use borrow.Author.Needs.{needs}
-use Rattle.server.proofs.arrivals.heard.Statement.{statement}
-use Rattle.server.proofs.arrivals.heard.Tie as tie
-
-pub heard-spec : {M : Type 1} → statement M
-unfolding heardPlan
-heard-spec = tie.close (tie.spec (λ c κs. search needs) (λ c. rw (c .with-seen .ensures)))

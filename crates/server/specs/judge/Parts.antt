@@ -1,0 +1,47 @@
+-- Parts of the judgement, as the code is cut.
+use Prim.Native.Nat.{ℕ}
+use mathlib.Core.Bool.{Bool, false, not}
+use mathlib.Core.List.{List, [], _∷_}
+use mathlib.Core.Path.{_≡_}
+use Rattle.words.specs.Choice.{choose, both, either}
+use Rattle.answers.specs.declared.Answer.{Answer}
+use Rattle.answers.specs.declared.Refusal.the-variants.{WrongLength, BrokenRecord, TicketsUsedUp}
+use Rattle.answers.specs.Table.{_when_, answerOf, behindAnswer}
+use Rattle.fragments.specs.Fragment.{lentRight, isLast, wrongFragment}
+use Rattle.fragments.specs.Judgement.{contradicts}
+use Rattle.pdu.specs.declared.Header.{Header}
+use Rattle.reader.specs.declared.Reading.{Reading}
+use Rattle.server.specs.declared.records.State.{State}
+use Rattle.server.specs.declared.records.Server.{Server}
+use Rattle.server.specs.declared.judge.Order.{Order}
+use Rattle.server.specs.declared.judge.Row.{Row}
+use Rattle.server.specs.declared.judge.Verdict.{Verdict}
+use Rattle.server.specs.declared.judge.Verdict.the-variants.{Refuse, Go}
+use Rattle.server.specs.records.Rules.{sound}
+use Rattle.server.specs.judge.Rows.{orderFor, arms}
+use Rattle.server.specs.judge.Refusals.{isMaybeOrBroadcast, sameCall, activityVerdict}
+
+-- A row that arms RESEND asks for a ticket: 20 where they are used up.
+abbrev pub ticketed : Row → Bool → Verdict
+ticketed row up = choose (both (arms row) up) (Refuse TicketsUsedUp) (Go row)
+
+-- A request, neither maybe nor broadcast and no wrong fragment, with a number of that order, in that state: 11 and
+-- 12 are behind it.
+pub record RequestIn (s : Server) (h : Header) (order : Order) (state : State) : Type 0 where
+  pub kind : h .kind ≡ 0
+  pub single : isMaybeOrBroadcast (h .flags1) ≡ false
+  pub numbered : wrongFragment (h .flags1) (h .fragment) ≡ false
+  pub ordered : orderFor s h ≡ order
+  pub stands : s .state ≡ state
+
+-- A request with an equal number contradicts what is held of the call, or is not of it.
+abbrev pub contradictsCall : Server → Header → Bool
+contradictsCall s h = either (contradicts (s .incoming) (h .fragment) (isLast (h .flags1))) (not (sameCall (s .call) h))
+
+-- What a datagram finds, by the lengths of what is lent: 1, 2.
+abbrev pub entryAnswer : Server → ℕ → ℕ → Answer
+entryAnswer s slots out = answerOf (WrongLength when not (lentRight slots out) ∷ BrokenRecord when not (sound s) ∷ [])
+
+-- A datagram behind its entry, by what reading it gave: those of the reader, 9, those of the PDU.
+abbrev pub readVerdict : Server → Reading → List ℕ → Verdict
+readVerdict s read body = behindAnswer Refuse (activityVerdict s (read .header) (read .little) body) (read .answer)
