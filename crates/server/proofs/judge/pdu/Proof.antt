@@ -8,7 +8,7 @@ use borrow.Author.Needs.{needs}
 use borrow.Author.Tests.{ne-eqb}
 use Rattle.words.specs.Choice.{choose, either}
 use Rattle.server.specs.judge.Rows.{isForServer}
-use Rattle.server.proofs.KindLaws.{foreign-lines}
+use Rattle.server.proofs.judge.KindLaws.{foreign-lines}
 use Rattle.server.proofs.judge.pdu.Statement.{statement}
 use Rattle.server.proofs.judge.pdu.Tie as tie
 
