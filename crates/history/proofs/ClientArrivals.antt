@@ -197,6 +197,7 @@ module _ (w : World) (inv : Inv w) (o : ℕ) (h : Header) (little : Bool) (body 
         unasked = λ e. absurd (false≢true (sym (put-started (p .complete) (c .call .idempotent) c m) ∙ e));
         holds = λ q. put-held p is kind (j .can .can) begun;
       }
+
   other : (row : Row) → Judged (w .client .machine) row → puts row ≡ false
       → ClientInv (stepOf row (w .client .machine) .client) (w .client .slots) (w .books .starts) (w .books .replies)
   other row j none = kept-on w inv row j none

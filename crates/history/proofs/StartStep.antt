@@ -62,7 +62,7 @@ module _ (c : Client) (slots : List ℕ) (starts : List Started) (replies : List
           omega arith
 
 -- A start that goes on the books.
-module _ (w : World) (inv : Inv w) (call : Call) (n : ℕ) (message : List ℕ) 
+module _ (w : World) (inv : Inv w) (call : Call) (n : ℕ) (message : List ℕ)
     (can : CanStart (w .client .machine) n (nextNumber (isQueued (w .client .machine .state)) (w .client .machine .number))) (fair : FairStart call n message) where
   abbrev number : ℕ
   number = nextNumber (isQueued (w .client .machine .state)) (w .client .machine .number)

@@ -1,5 +1,5 @@
 -- `server::arrive` meets its contract.
-use Rattle.server.proofs.Returns.{entry-refused, entry-passed}
+use Rattle.server.proofs.judge.EntryLaws.{entry-refused, entry-passed}
 use borrow.Author.Needs.{needs}
 use Rattle.server.proofs.arrive.Statement.{statement}
 use Rattle.server.proofs.arrive.Tie as tie

@@ -28,11 +28,25 @@ module _ (c : Client) (h : Header) (little : Bool) (body : List ℕ) where
 outside : (kind : ℕ) → (kind < 2) ⊎ ((6 < kind) × (kind ≡ 9 → ⊥) × (kind ≡ 10 → ⊥)) → isForClient kind ≡ false
 unfolding isForClient either
 outside kind (inl low) =
-    rw (ne-eqb kind 2 (λ e. omega arith), ne-eqb kind 3 (λ e. omega arith), ne-eqb kind 4 (λ e. omega arith), ne-eqb kind 5 (λ e. omega arith),
-    ne-eqb kind 6 (λ e. omega arith), ne-eqb kind 9 (λ e. omega arith), ne-eqb kind 10 (λ e. omega arith)) (unfold choose in refl)
+    rw (
+      ne-eqb kind 2 (λ e. omega arith),
+      ne-eqb kind 3 (λ e. omega arith),
+      ne-eqb kind 4 (λ e. omega arith),
+      ne-eqb kind 5 (λ e. omega arith),
+      ne-eqb kind 6 (λ e. omega arith),
+      ne-eqb kind 9 (λ e. omega arith),
+      ne-eqb kind 10 (λ e. omega arith),
+    ) (unfold choose in refl)
 outside kind (inr (high, fack, ack)) =
-    rw (ne-eqb kind 2 (λ e. omega arith), ne-eqb kind 3 (λ e. omega arith), ne-eqb kind 4 (λ e. omega arith), ne-eqb kind 5 (λ e. omega arith),
-    ne-eqb kind 6 (λ e. omega arith), ne-eqb kind 9 fack, ne-eqb kind 10 ack) (unfold choose in refl)
+    rw (
+      ne-eqb kind 2 (λ e. omega arith),
+      ne-eqb kind 3 (λ e. omega arith),
+      ne-eqb kind 4 (λ e. omega arith),
+      ne-eqb kind 5 (λ e. omega arith),
+      ne-eqb kind 6 (λ e. omega arith),
+      ne-eqb kind 9 fack,
+      ne-eqb kind 10 ack,
+    ) (unfold choose in refl)
 
 pub pdu-spec : {M : Type 1} → statement M
 pdu-spec =

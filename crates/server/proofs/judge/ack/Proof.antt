@@ -1,7 +1,7 @@
 -- `server::judge::ack` meets its contract.
 use Rattle.server.specs.judge.Rows.{acknowledgementRow, ackRow}
-use Rattle.server.proofs.KindLaws.{replied-lines, ack-lines}
-use Rattle.server.proofs.ArmLaws.{is-newer}
+use Rattle.server.proofs.judge.KindLaws.{replied-lines, ack-lines}
+use Rattle.server.proofs.judge.ArmLaws.{is-newer}
 use borrow.Author.Needs.{needs}
 use Rattle.words.proofs.Tests.{tests}
 use Rattle.server.proofs.judge.ack.Statement.{statement}

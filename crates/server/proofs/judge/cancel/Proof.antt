@@ -1,8 +1,8 @@
 -- `server::judge::cancel` meets its contract.
 use Rattle.words.specs.Choice.{choose}
 use Rattle.server.specs.judge.Rows.{cancelRow}
-use Rattle.server.proofs.KindLaws.{isBelow, cancel-lines}
-use Rattle.server.proofs.ArmLaws.{not-below, is-newer}
+use Rattle.server.proofs.judge.KindLaws.{isBelow, cancel-lines}
+use Rattle.server.proofs.judge.ArmLaws.{not-below, is-newer}
 use borrow.Author.Needs.{needs}
 use Rattle.words.proofs.Tests.{tests}
 use Rattle.server.proofs.judge.cancel.Statement.{statement}

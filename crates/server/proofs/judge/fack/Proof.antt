@@ -2,8 +2,8 @@
 use Rattle.words.specs.Choice.{choose}
 use Rattle.facks.specs.Mask.{acknowledgesMore}
 use Rattle.server.specs.judge.Rows.{acknowledgementRow}
-use Rattle.server.proofs.KindLaws.{isBelow, replied-lines, fack-lines}
-use Rattle.server.proofs.ArmLaws.{not-below, is-newer}
+use Rattle.server.proofs.judge.KindLaws.{isBelow, replied-lines, fack-lines}
+use Rattle.server.proofs.judge.ArmLaws.{not-below, is-newer}
 use borrow.Author.Needs.{needs}
 use Rattle.words.proofs.Tests.{tests}
 use Rattle.server.proofs.judge.fack.Statement.{statement}

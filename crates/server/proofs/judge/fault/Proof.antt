@@ -1,5 +1,5 @@
 -- `server::judge::fault` meets its contract.
-use Rattle.server.proofs.LocalLaws.{fault-lines}
+use Rattle.server.proofs.judge.LocalLaws.{fault-lines}
 use borrow.Author.Needs.{needs}
 use Rattle.words.proofs.Tests.{tests}
 use Rattle.server.proofs.judge.fault.Statement.{statement}

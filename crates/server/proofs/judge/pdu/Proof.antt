@@ -8,7 +8,7 @@ use borrow.Author.Needs.{needs}
 use borrow.Author.Tests.{ne-eqb}
 use Rattle.words.specs.Choice.{choose, either}
 use Rattle.server.specs.judge.Rows.{isForServer}
-use Rattle.server.proofs.KindLaws.{foreign-lines}
+use Rattle.server.proofs.judge.KindLaws.{foreign-lines}
 use Rattle.server.proofs.judge.pdu.Statement.{statement}
 use Rattle.server.proofs.judge.pdu.Tie as tie
 
@@ -16,11 +16,21 @@ use Rattle.server.proofs.judge.pdu.Tie as tie
 outside : (kind : ℕ) → ((1 < kind) × (kind < 7)) ⊎ (9 < kind) → isForServer kind ≡ false
 unfolding isForServer either
 outside kind (inl middle) =
-    rw (ne-eqb kind 0 (λ e. omega arith), ne-eqb kind 1 (λ e. omega arith), ne-eqb kind 7 (λ e. omega arith), ne-eqb kind 8 (λ e. omega arith),
-    ne-eqb kind 9 (λ e. omega arith)) (unfold choose in refl)
+    rw (
+      ne-eqb kind 0 (λ e. omega arith),
+      ne-eqb kind 1 (λ e. omega arith),
+      ne-eqb kind 7 (λ e. omega arith),
+      ne-eqb kind 8 (λ e. omega arith),
+      ne-eqb kind 9 (λ e. omega arith),
+    ) (unfold choose in refl)
 outside kind (inr high) =
-    rw (ne-eqb kind 0 (λ e. omega arith), ne-eqb kind 1 (λ e. omega arith), ne-eqb kind 7 (λ e. omega arith), ne-eqb kind 8 (λ e. omega arith),
-    ne-eqb kind 9 (λ e. omega arith)) (unfold choose in refl)
+    rw (
+      ne-eqb kind 0 (λ e. omega arith),
+      ne-eqb kind 1 (λ e. omega arith),
+      ne-eqb kind 7 (λ e. omega arith),
+      ne-eqb kind 8 (λ e. omega arith),
+      ne-eqb kind 9 (λ e. omega arith),
+    ) (unfold choose in refl)
 
 pub pdu-spec : {M : Type 1} → statement M
 pdu-spec =

@@ -1,6 +1,6 @@
 -- `server::judge::ping` meets its contract.
 use Rattle.server.specs.judge.Rows.{pingRow}
-use Rattle.server.proofs.KindLaws.{ping-lines}
+use Rattle.server.proofs.judge.KindLaws.{ping-lines}
 use borrow.Author.Needs.{needs}
 use Rattle.server.proofs.judge.ping.Statement.{statement}
 use Rattle.server.proofs.judge.ping.Tie as tie

@@ -1,6 +1,6 @@
 -- `server::judge::request` meets its contract.
 use mathlib.Core.Path.{refl, sym, _∙_}
-use Rattle.server.proofs.KindLaws.{request-lines, below-lines}
+use Rattle.server.proofs.judge.KindLaws.{request-lines, below-lines}
 use borrow.Author.Needs.{needs}
 use Rattle.words.proofs.Tests.{tests}
 use Rattle.server.proofs.judge.request.Statement.{statement}

@@ -1,5 +1,5 @@
 -- `server::judge::request_collect` meets its contract.
-use Rattle.server.proofs.KindLaws.{collect-lines}
+use Rattle.server.proofs.judge.KindLaws.{collect-lines}
 use borrow.Author.Needs.{needs}
 use Rattle.words.proofs.Tests.{tests}
 use Rattle.server.proofs.judge.request_collect.Statement.{statement}

@@ -1,5 +1,5 @@
 -- `server::judge::request_equal` meets its contract.
-use Rattle.server.proofs.KindLaws.{in-state, running-lines, replying-lines, held-lines}
+use Rattle.server.proofs.judge.KindLaws.{in-state, running-lines, replying-lines, held-lines}
 use borrow.Author.Needs.{needs}
 use Rattle.server.proofs.judge.request_equal.Statement.{statement}
 use Rattle.server.proofs.judge.request_equal.Tie as tie

@@ -1,8 +1,8 @@
 -- `server::judge::request_idle` meets its contract.
 use mathlib.Core.Path.{ap}
 use Rattle.server.specs.declared.records.State.the-variants.{Idle as IdleState}
-use Rattle.server.proofs.KindLaws.{in-state, repeatable-lines}
-use Rattle.server.proofs.ArmLaws.{not-repeatable}
+use Rattle.server.proofs.judge.KindLaws.{in-state, repeatable-lines}
+use Rattle.server.proofs.judge.ArmLaws.{not-repeatable}
 use borrow.Author.Needs.{needs}
 use Rattle.words.proofs.Tests.{tests}
 use Rattle.server.proofs.judge.request_idle.Statement.{statement}

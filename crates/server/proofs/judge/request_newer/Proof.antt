@@ -1,5 +1,5 @@
 -- `server::judge::request_newer` meets its contract.
-use Rattle.server.proofs.KindLaws.{newer-lines}
+use Rattle.server.proofs.judge.KindLaws.{newer-lines}
 use borrow.Author.Needs.{needs}
 use Rattle.words.proofs.Tests.{tests}
 use Rattle.server.proofs.judge.request_newer.Statement.{statement}

@@ -1,8 +1,8 @@
 -- `server::judge::timer` meets its contract.
 use Rattle.answers.specs.Table.{firstOf}
 use Rattle.server.specs.judge.Refusals.{timerRefusals, timerVerdict}
-use Rattle.server.proofs.LocalLaws.{timer-lines, untimed-lines}
-use Rattle.server.proofs.ArmLaws.{not-held}
+use Rattle.server.proofs.judge.LocalLaws.{timer-lines, untimed-lines}
+use Rattle.server.proofs.judge.ArmLaws.{not-held}
 use borrow.Author.Needs.{needs}
 use Rattle.words.proofs.Tests.{tests}
 use Rattle.server.proofs.judge.timer.Statement.{statement}

@@ -1,5 +1,5 @@
 -- `server::judge::transmit` meets its contract.
-use Rattle.server.proofs.LocalLaws.{transmit-lines}
+use Rattle.server.proofs.judge.LocalLaws.{transmit-lines}
 use borrow.Author.Needs.{needs}
 use Rattle.words.proofs.Tests.{tests}
 use Rattle.server.proofs.judge.transmit.Statement.{statement}

@@ -23,7 +23,7 @@ use Rattle.server.specs.judge.Parts.{RequestIn}
 use Rattle.server.proofs.records.Idle.{the-type as idle-type}
 use Rattle.server.proofs.records.State.{the-type as state-type}
 use Rattle.server.proofs.judge.Order.{the-type as order-type}
-use Rattle.server.proofs.KindLaws.{isBelow, fresh-lines, spent-lines}
+use Rattle.server.proofs.judge.KindLaws.{isBelow, fresh-lines, spent-lines}
 
 -- An order that is not Below,
 pub not-below : (order : Order) → OneOf (1 ∷ (2 ∷ [])) (tagOf order-type order) → isBelow order ≡ false
