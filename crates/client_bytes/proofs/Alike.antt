@@ -14,18 +14,19 @@ use Rattle.words.specs.Sizes.{windowSize}
 use Rattle.record_bytes.specs.Canonical.{SharedUnjudged, SameButAt}
 use Rattle.record_bytes.specs.Parts.{timerWhere, timerIn}
 use Rattle.record_bytes.specs.Layout.{fieldsIn}
-use Rattle.record_bytes.proofs.Alike.{timer-alike, timer-at-alike, mark-not-zero, number-alike, clear-alike, front-alike, back-alike, shared-readable, fields-alike, put-any, first-ticket-any, slot-length-any}
+use Rattle.record_bytes.proofs.Alike.{timer-alike, timer-at-alike, mark-not-zero, front-alike, back-alike, shared-readable, fields-alike, put-any, first-ticket-any, slot-length-any}
+use Rattle.record_bytes.proofs.Places.{number-alike, clear-alike}
 use Rattle.client_bytes.specs.Canonical.{Unjudged}
 use Rattle.client_bytes.specs.Layout.{readable, clientOf, clientIn}
 
 module _ (b c : List ℕ) (alike : SameButAt (Unjudged b) b c) where
-  own : (i : ℕ) → Unjudged b i → SharedUnjudged b i ⊎ ((48 ≤ i) × (i < 64))
-  own i (inl u) = inl u
-  own i (inr (inl u)) = inr (u .1, omega (arith, u .2))
-  own i (inr (inr u)) = inr (omega (arith, u .1), u .2)
+  own : (i : ℕ) → i < 272 → Unjudged b i → SharedUnjudged b i ⊎ ((48 ≤ i) × (i < 64))
+  own i below (inl u) = inl u
+  own i below (inr (inl u)) = inr (u .1, omega (arith, u .2))
+  own i below (inr (inr u)) = inr (omega (arith, u .1), u .2)
 
   front : (i : ℕ) → i < 40 → getD c i 0 ≡ getD b i 0
-  front = front-alike (Unjudged b) b c alike own
+  front = front-alike (Unjudged b) b c (alike .same) own
 
   -- The tickets of ACK and CANCEL are judged where they are armed, and their marks always.
   ack-ticket : (getD b 65 0 ≡ 0 → ⊥) → number 8 true c 48 ≡ number 8 true b 48
@@ -49,7 +50,7 @@ module _ (b c : List ℕ) (alike : SameButAt (Unjudged b) b c) where
       judged i low high (inr (inr u)) = armed (u .0)
 
   mark-alike : (mark : ℕ) → 64 ≤ mark → mark < 144 → getD c mark 0 ≡ getD b mark 0
-  mark-alike = back-alike (Unjudged b) b c alike own
+  mark-alike = back-alike (Unjudged b) b c (alike .same) own
 
   pub client-readable-alike : readable c ≡ readable b
   unfolding readable
@@ -57,7 +58,7 @@ module _ (b c : List ℕ) (alike : SameButAt (Unjudged b) b c) where
       rw (
         front 0 (omega arith),
         clear-alike 4 b c 28 (λ (k : ℕ) (low : 28 ≤ k) (high : k < 32). front k (omega arith)),
-        shared-readable (Unjudged b) b c alike own,
+        shared-readable (Unjudged b) b c (alike .same) own,
       )
 
   pub client-alike : clientIn c ≡ clientIn b
@@ -68,7 +69,7 @@ module _ (b c : List ℕ) (alike : SameButAt (Unjudged b) b c) where
       (λ (e : eqb (getD b 65 0) 1 ≡ true). ack-ticket (mark-not-zero (getD b 65 0) e)) in
       let cancel : timerIn c 66 56 ≡ timerIn b 66 56 =
       timer-at-alike b c 66 56 (mark-alike 66 (omega arith) (omega arith)) cancel-ticket in
-      (λ i. clientOf (client-readable-alike i) (fields-alike (Unjudged b) b c alike own i))
+      (λ i. clientOf (client-readable-alike i) (fields-alike (Unjudged b) b c (alike .same) own i))
       ∙ (λ i. record {
         state = clientIn b .state;
         activity = clientIn b .activity;

@@ -4,7 +4,7 @@ use client::State;
 use record_bytes::Fields;
 ghost use mathlib.Core.Path.{_≡_};
 ghost use Rattle.words.specs.Place.{placed};
-ghost use Rattle.client_bytes.specs.Layout.{stateOf, stateNumber, readable, clientOf, clientIn, fieldsOf, clientBytes};
+ghost use Rattle.client_bytes.specs.Layout.{stateOf, stateNumber, clientOf, clientIn, fieldsOf, clientBytes};
 
 // The state that a number stands for; one above 6 stands for none, and counts as FAULT.
 fn state_of(number: u8) -> State
@@ -45,16 +45,6 @@ fn state_number(state: State) -> u8
     }
 }
 
-// Whether bytes are readable as a client's record.
-fn is_readable(s: &[u8]) -> bool
-    ensures { λ r. ⌜ r ≡ readable (now (s .entry)) ⌝ }
-{
-    let state = words::byte_at(s, 0);
-    let boot = record_bytes::is_clear(words::behind(s, 28), 4);
-    let shared = record_bytes::is_readable(s);
-    words::both(state <= 6, words::both(boot, shared))
-}
-
 // The record of what stands in bytes.
 fn client_of(readable: bool, f: Fields) -> Client
     ensures { λ r. ⌜ r ≡ clientOf readable f ⌝ }
@@ -88,8 +78,11 @@ fn client_of(readable: bool, f: Fields) -> Client
 pub fn decode(s: &[u8]) -> Client
     ensures { λ r. ⌜ r ≡ clientIn (now (s .entry)) ⌝ }
 {
-    let readable = is_readable(s);
-    client_of(readable, record_bytes::decode(s))
+    let d = record_bytes::decode(s);
+    let f = d.fields;
+    // Readable: a state that is listed, no boot, and what both sides ask.
+    let readable = words::both(f.state <= 6, words::both(f.boot == 0, d.readable));
+    client_of(readable, f)
 }
 
 // What the bytes of a record hold.

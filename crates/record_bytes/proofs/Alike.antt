@@ -18,10 +18,10 @@ use Rattle.timers.specs.declared.Timer.{Timer}
 use Rattle.record_bytes.specs.declared.Fields.{Fields}
 use Rattle.record_bytes.specs.Canonical.{SharedUnjudged, SameButAt}
 use Rattle.record_bytes.specs.Parts.{timerWhere, timerIn, lastOf, uuidIn, clear}
-use Rattle.record_bytes.specs.Held.{lengthWhere, slotIn, slotsBelow, slotsIn, slotReadable, readableBelow, slotsReadable}
+use Rattle.record_bytes.specs.Held.{lengthWhere, slotOf, slotIn, slotsBelow, slotsIn, slotReadable, readableBelow, slotsReadable}
 use Rattle.record_bytes.specs.Layout.{sparesReadable, readable}
 use Rattle.record_bytes.specs.Layout.{callIn, outgoingIn, incomingIn, fieldsIn}
-use Rattle.record_bytes.proofs.PartLaws.{uuid-part}
+use Rattle.record_bytes.proofs.Places.{part-alike, number-alike, clear-alike, uuid-bytes}
 
 -- The ticket of a timer that is not armed, and the length of a slot that is not held, may be any.
 pub timer-alike : (armed : Bool) (t u : ℕ) → (armed ≡ true → t ≡ u) → timerWhere armed t ≡ timerWhere armed u
@@ -46,48 +46,28 @@ timer-at-alike b c mark at same ticket =
     (λ (e : eqb (getD b mark 0) 1 ≡ true). ticket (mark-not-zero (getD b mark 0) e))
 
 -- Slots by their bytes.
-module _ (s t : List ℕ) (mark : (f : ℕ) → getD t (4 * f + 2) 0 ≡ getD s (4 * f + 2) 0) where
-  slots-alike : ((f : ℕ) → (getD s (4 * f + 2) 0 ≡ 0 → ⊥) → number 2 true t (4 * f) ≡ number 2 true s (4 * f))
-      → (n : ℕ) → slotsBelow t n ≡ slotsBelow s n
-  unfolding slotsBelow slotIn
-  slots-alike lengths zero = refl
-  slots-alike lengths (suc n) =
+module _ (s t : List ℕ) (mark : (f : ℕ) → f < windowSize → getD t (4 * f + 2) 0 ≡ getD s (4 * f + 2) 0) where
+  slots-alike
+      : ((f : ℕ) → f < windowSize → (getD s (4 * f + 2) 0 ≡ 0 → ⊥) → number 2 true t (4 * f) ≡ number 2 true s (4 * f))
+      → (n : ℕ) → n ≤ windowSize → slotsBelow t n ≡ slotsBelow s n
+  unfolding slotsBelow slotIn slotOf
+  slots-alike lengths zero below = refl
+  slots-alike lengths (suc n) below =
+      let here : getD t (4 * n + 2) 0 ≡ getD s (4 * n + 2) 0 = mark n (omega arith) in
       let length : lengthWhere (eqb (getD t (4 * n + 2) 0) 1) (number 2 true t (4 * n))
       ≡ lengthWhere (eqb (getD s (4 * n + 2) 0) 1) (number 2 true s (4 * n)) =
-      ap (λ (m : ℕ). lengthWhere (eqb m 1) (number 2 true t (4 * n))) (mark n)
+      ap (λ (m : ℕ). lengthWhere (eqb m 1) (number 2 true t (4 * n))) here
       ∙ length-alike (eqb (getD s (4 * n + 2) 0) 1) _ _
-      (λ (e : eqb (getD s (4 * n + 2) 0) 1 ≡ true). lengths n (mark-not-zero (getD s (4 * n + 2) 0) e)) in
-      λ i. set (slots-alike lengths n i) n (record { held = eqb (mark n i) 1; length = length i })
+      (λ (e : eqb (getD s (4 * n + 2) 0) 1 ≡ true).
+      lengths n (omega arith) (mark-not-zero (getD s (4 * n + 2) 0) e)) in
+      λ i. set (slots-alike lengths n (omega arith) i) n (record { held = eqb (here i) 1; length = length i })
 
-  readable-alike : ((f : ℕ) → getD t (4 * f + 3) 0 ≡ getD s (4 * f + 3) 0)
-      → (n : ℕ) → readableBelow t n ≡ readableBelow s n
+  readable-alike : ((f : ℕ) → f < windowSize → getD t (4 * f + 3) 0 ≡ getD s (4 * f + 3) 0)
+      → (n : ℕ) → n ≤ windowSize → readableBelow t n ≡ readableBelow s n
   unfolding readableBelow slotReadable
-  readable-alike spare zero = refl
-  readable-alike spare (suc n) = rw (readable-alike spare n, mark n, spare n)
-
--- Numbers and places that are clear.
-part-alike : (n : ℕ) (b c : List ℕ) (at : ℕ) → ((i : ℕ) → at ≤ i → i < at + n → getD c i 0 ≡ getD b i 0)
-    → part n c at ≡ part n b at
-part-alike zero b c at h = refl
-part-alike (suc n) b c at h =
-    let rest : part n c (at + 1) ≡ part n b (at + 1) =
-    part-alike n b c (at + 1) (λ (k : ℕ) (low : at + 1 ≤ k) (high : k < at + 1 + n). h k (omega arith) (omega arith)) in
-    λ i. h at (omega arith) (omega arith) i ∷ rest i
-
-pub number-alike : (n : ℕ) (b c : List ℕ) (at : ℕ) → ((i : ℕ) → at ≤ i → i < at + n → getD c i 0 ≡ getD b i 0)
-    → number n true c at ≡ number n true b at
-unfolding number
-number-alike n b c at h = ap le (part-alike n b c at h)
-
-pub clear-alike : (n : ℕ) (b c : List ℕ) (at : ℕ) → ((i : ℕ) → at ≤ i → i < at + n → getD c i 0 ≡ getD b i 0)
-    → clear n (drop at c) ≡ clear n (drop at b)
-unfolding clear
-clear-alike zero b c at h = refl
-clear-alike (suc n) b c at h =
-    let here : getD (drop at c) n 0 ≡ getD (drop at b) n 0 =
-    getD-drop at c n 0 ∙ h (at + n) (omega arith) (omega arith) ∙ sym (getD-drop at b n 0) in
-    λ i.
-    both (clear-alike n b c at (λ (k : ℕ) (low : at ≤ k) (high : k < at + n). h k low (omega arith)) i) (eqb (here i) 0)
+  readable-alike spare zero below = refl
+  readable-alike spare (suc n) below =
+      rw (readable-alike spare n (omega arith), mark n (omega arith), spare n (omega arith))
 
 -- What stands in bytes, with another word at 48 and another third timer.
 abbrev pub withOwn : ℕ → Timer → Fields → Fields
@@ -109,11 +89,12 @@ withOwn word cancel f = record {
   cancels = f .cancels;
 }
 
--- Each side has its own places that are not judged beside those of both, and they are among bytes 48 to 63.
-module _ (Unjudged : ℕ → Type 0) (b c : List ℕ) (alike : SameButAt Unjudged b c)
-    (own : (i : ℕ) → Unjudged i → SharedUnjudged b i ⊎ ((48 ≤ i) × (i < 64))) where
-  judged : (i : ℕ) → (SharedUnjudged b i → ⊥) → ((48 ≤ i) × (i < 64) → ⊥) → getD c i 0 ≡ getD b i 0
-  judged i p q = alike .same i (λ (u : Unjudged i). by-side (own i u))
+-- Each side has its own places that are not judged beside those of both, and they are among bytes 48 to 63. Nothing
+-- from 272 on is looked at.
+module _ (Unjudged : ℕ → Type 0) (b c : List ℕ) (same : (i : ℕ) → (Unjudged i → ⊥) → getD c i 0 ≡ getD b i 0)
+    (own : (i : ℕ) → i < 272 → Unjudged i → SharedUnjudged b i ⊎ ((48 ≤ i) × (i < 64))) where
+  judged : (i : ℕ) → i < 272 → (SharedUnjudged b i → ⊥) → ((48 ≤ i) × (i < 64) → ⊥) → getD c i 0 ≡ getD b i 0
+  judged i below p q = same i (λ (u : Unjudged i). by-side (own i below u))
     where
       by-side : SharedUnjudged b i ⊎ ((48 ≤ i) × (i < 64)) → ⊥
       by-side (inl u) = p u
@@ -121,7 +102,7 @@ module _ (Unjudged : ℕ → Type 0) (b c : List ℕ) (alike : SameButAt Unjudge
 
   -- The places that are always judged: those before 40,
   pub front-alike : (i : ℕ) → i < 40 → getD c i 0 ≡ getD b i 0
-  front-alike i h = judged i shared (λ u. omega (arith, u .0))
+  front-alike i h = judged i (omega arith) shared (λ u. omega (arith, u .0))
     where
       shared : SharedUnjudged b i → ⊥
       shared (inl u) = omega (arith, u .1)
@@ -129,16 +110,17 @@ module _ (Unjudged : ℕ → Type 0) (b c : List ℕ) (alike : SameButAt Unjudge
 
   -- those from 64 to 143,
   pub back-alike : (i : ℕ) → 64 ≤ i → i < 144 → getD c i 0 ≡ getD b i 0
-  back-alike i low high = judged i shared (λ u. omega (arith, u .1))
+  back-alike i low high = judged i (omega arith) shared (λ u. omega (arith, u .1))
     where
       shared : SharedUnjudged b i → ⊥
       shared (inl u) = omega (arith, u .2)
       shared (inr u) = omega (arith, u .from)
 
   -- the third and fourth byte of a slot;
-  slot-alike : (f k : ℕ) → 2 ≤ k → k < 4 → getD (drop 144 c) (4 * f + k) 0 ≡ getD (drop 144 b) (4 * f + k) 0
-  slot-alike f k low high =
-      getD-drop 144 c (4 * f + k) 0 ∙ judged (144 + (4 * f + k)) shared (λ u. omega (arith, u .1))
+  slot-alike : (f k : ℕ) → f < windowSize → 2 ≤ k → k < 4
+      → getD (drop 144 c) (4 * f + k) 0 ≡ getD (drop 144 b) (4 * f + k) 0
+  slot-alike f k below low high =
+      getD-drop 144 c (4 * f + k) 0 ∙ judged (144 + (4 * f + k)) (omega arith) shared (λ u. omega (arith, u .1))
       ∙ sym (getD-drop 144 b (4 * f + k) 0)
     where
       shared : SharedUnjudged b (144 + (4 * f + k)) → ⊥
@@ -149,17 +131,18 @@ module _ (Unjudged : ℕ → Type 0) (b c : List ℕ) (alike : SameButAt Unjudge
   ticket-alike : (getD b 64 0 ≡ 0 → ⊥) → number 8 true c 40 ≡ number 8 true b 40
   ticket-alike armed =
       number-alike 8 b c 40 (λ (i : ℕ) (low : 40 ≤ i) (high : i < 48).
-      judged i (shared i high) (λ u. omega (arith, u .0)))
+      judged i (omega arith) (shared i high) (λ u. omega (arith, u .0)))
     where
       shared : (i : ℕ) → i < 48 → SharedUnjudged b i → ⊥
       shared i high (inl u) = armed (u .0)
       shared i high (inr u) = omega (arith, u .from)
 
-  lengths-alike : (f : ℕ) → (getD (drop 144 b) (4 * f + 2) 0 ≡ 0 → ⊥)
+  lengths-alike : (f : ℕ) → f < windowSize → (getD (drop 144 b) (4 * f + 2) 0 ≡ 0 → ⊥)
       → number 2 true (drop 144 c) (4 * f) ≡ number 2 true (drop 144 b) (4 * f)
-  lengths-alike f held =
+  lengths-alike f below held =
       number-alike 2 (drop 144 b) (drop 144 c) (4 * f) (λ (i : ℕ) (low : 4 * f ≤ i) (high : i < 4 * f + 2).
-      getD-drop 144 c i 0 ∙ judged (144 + i) (shared i low high) (λ u. omega (arith, u .1)) ∙ sym (getD-drop 144 b i 0))
+      getD-drop 144 c i 0 ∙ judged (144 + i) (omega arith) (shared i low high) (λ u. omega (arith, u .1))
+      ∙ sym (getD-drop 144 b i 0))
     where
       shared : (i : ℕ) → 4 * f ≤ i → i < 4 * f + 2 → SharedUnjudged b (144 + i) → ⊥
       shared i low high (inl u) = omega (arith, u .2)
@@ -167,11 +150,11 @@ module _ (Unjudged : ℕ → Type 0) (b c : List ℕ) (alike : SameButAt Unjudge
           let place : 144 + (4 * f + 2) ≡ 4 * u .fragment + 146 = omega (arith, u .from, u .below) in
           held (getD-drop 144 b (4 * f + 2) 0 ∙ ap (λ (k : ℕ). getD b k 0) place ∙ u .missing)
 
-  mark-alike : (f : ℕ) → getD (drop 144 c) (4 * f + 2) 0 ≡ getD (drop 144 b) (4 * f + 2) 0
-  mark-alike f = slot-alike f 2 (omega arith) (omega arith)
+  mark-alike : (f : ℕ) → f < windowSize → getD (drop 144 c) (4 * f + 2) 0 ≡ getD (drop 144 b) (4 * f + 2) 0
+  mark-alike f below = slot-alike f 2 below (omega arith) (omega arith)
 
-  spare-alike : (f : ℕ) → getD (drop 144 c) (4 * f + 3) 0 ≡ getD (drop 144 b) (4 * f + 3) 0
-  spare-alike f = slot-alike f 3 (omega arith) (omega arith)
+  spare-alike : (f : ℕ) → f < windowSize → getD (drop 144 c) (4 * f + 3) 0 ≡ getD (drop 144 b) (4 * f + 3) 0
+  spare-alike f below = slot-alike f 3 below (omega arith) (omega arith)
 
   low-number : (n at : ℕ) → at + n ≤ 40 → number n true c at ≡ number n true b at
   low-number n at h =
@@ -191,14 +174,14 @@ module _ (Unjudged : ℕ → Type 0) (b c : List ℕ) (alike : SameButAt Unjudge
         low-number 2 10 (omega arith),
         back 67 (omega arith) (omega arith),
         clear-alike 24 b c 72 (λ (k : ℕ) (low : 72 ≤ k) (high : k < 96). back k (omega arith) (omega arith)),
-        readable-alike (drop 144 b) (drop 144 c) mark-alike spare-alike windowSize,
+        readable-alike (drop 144 b) (drop 144 c) mark-alike spare-alike windowSize (omega arith),
       )
 
   uuid-alike : (at : ℕ) → 64 ≤ at → at + 16 ≤ 144 → uuidIn c at ≡ uuidIn b at
   uuid-alike at low high =
-      uuid-part c at (omega (arith, alike .other-size))
+      uuid-bytes c at
       ∙ part-alike 16 b c at (λ (i : ℕ) (from : at ≤ i) (to : i < at + 16). back-alike i (omega arith) (omega arith))
-      ∙ sym (uuid-part b at (omega (arith, alike .size)))
+      ∙ sym (uuid-bytes b at)
 
   -- and the same stands in them, but for the word at 48 and the third timer.
   pub fields-alike : fieldsIn c ≡ withOwn (number 8 true c 48) (timerIn c 66 56) (fieldsIn b)
@@ -229,7 +212,7 @@ module _ (Unjudged : ℕ → Type 0) (b c : List ℕ) (alike : SameButAt Unjudge
           serial = low-number 2 12 (omega arith) i;
         };
         incoming = record {
-          slots = slots-alike (drop 144 b) (drop 144 c) mark-alike lengths-alike windowSize i;
+          slots = slots-alike (drop 144 b) (drop 144 c) mark-alike lengths-alike windowSize (omega arith) i;
           last = lastOf (low-number 2 10 (omega arith) i);
         };
         tickets = low-number 8 32 (omega arith) i;

@@ -1,5 +1,4 @@
--- One more slot, one more that is readable, one more byte that is 0, of those that bytes give, and the bytes of one
--- more slot.
+-- One more slot, and one more that is readable, of those that bytes give, and the bytes of one more slot.
 use Prim.Native.Nat.{ℕ, _+_, _*_, _<_, _≤_}
 use mathlib.Core.Bool.{Bool}
 use mathlib.Core.List.{List, [], _∷_, _++_}
@@ -7,7 +6,6 @@ use mathlib.Core.Path.{_≡_, refl, sym, ap, _∙_}
 use native.Mathlib.Numerals.{add-one}
 use native.Mathlib.Nat.{le-of-lt}
 use native.Mathlib.Omega.{arith}
-use lib.Dec.{eqb}
 use lib.ListN.{length, getD, set, take}
 use lib.Seq.{take-suc, take-all, length-take-le}
 use Rattle.words.specs.Choice.{both}
@@ -15,7 +13,6 @@ use Rattle.words.specs.Place.{putAt, placed}
 use Rattle.words.proofs.Place.{put-behind, placed-fits, length-putAt, placed-front}
 use Rattle.incoming.specs.declared.Slot.{Slot}
 use Rattle.record_bytes.specs.Held.{slotBytes, slotsBytes, slotIn, slotsBelow, slotReadable, readableBelow}
-use Rattle.record_bytes.specs.Parts.{clear}
 
 pub slots-more : (s : List ℕ) (f : ℕ) (all : List Slot) (x : Slot) → all ≡ slotsBelow s f → x ≡ slotIn s f → set all f x ≡ slotsBelow s (f + 1)
 unfolding slotsBelow
@@ -25,11 +22,6 @@ pub readable-more : (s : List ℕ) (f : ℕ) (one all after : Bool) → all ≡ 
     → after ≡ readableBelow s (f + 1)
 unfolding readableBelow
 readable-more s f one all after p q e = rw (add-one f, e, p, q)
-
-pub clear-more : (s : List ℕ) (i byte : ℕ) (all after : Bool) → all ≡ clear i s → byte ≡ getD s i 0 → after ≡ both all (eqb byte 0)
-    → after ≡ clear (i + 1) s
-unfolding clear
-clear-more s i byte all after p q e = rw (add-one i, e, p, q)
 
 pub length-slots : (xs : List Slot) → length (slotsBytes xs) ≡ 4 * length xs
 length-slots [] = refl

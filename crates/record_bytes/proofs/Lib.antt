@@ -5,6 +5,7 @@ pub mod NumberLaws
 pub mod HeldLaws
 pub mod Laying
 pub mod PartLaws
+pub mod Places
 pub mod SlotLaws
 pub mod FieldsBack
 pub mod Reading

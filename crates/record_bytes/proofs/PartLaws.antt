@@ -2,15 +2,14 @@
 use Prim.Native.Nat.{ℕ, zero, suc, _+_, _^_, _≤_, _<_}
 use mathlib.Core.Bool.{Bool, true, false}
 use mathlib.Core.List.{List}
-use mathlib.Core.Path.{_≡_, refl, sym, ap, _∙_}
+use mathlib.Core.Path.{_≡_, refl, ap, _∙_}
 use native.Mathlib.Omega.{arith}
 use lib.Dec.{eqb, leb}
-use lib.ListN.{length, take, drop, replicate, length-drop}
-use lib.Seq.{length-take-le}
+use lib.ListN.{length}
 use borrow.Author.Tests.{lt-ltb, ne-eqb}
 use Rattle.words.specs.Choice.{choose, either, markOf}
 use Rattle.words.specs.Number.{digits, part, number}
-use Rattle.words.proofs.Number.{value-bytes, part-take, part-all}
+use Rattle.words.proofs.Number.{value-bytes, part-all}
 use Rattle.incoming.specs.declared.Last.{Last}
 use Rattle.incoming.specs.declared.Last.the-variants.{Unknown, At}
 use Rattle.timers.specs.declared.Timer.{Timer}
@@ -18,7 +17,7 @@ use Rattle.timers.specs.declared.Timer.the-variants.{Off, Armed}
 use Rattle.record_bytes.specs.Fits.{FitsLast, FitsTimer}
 use Rattle.record_bytes.specs.Parts.{timerWhere, isArmed, timerTicket, lastField, lastOf, uuidIn}
 use Rattle.record_bytes.specs.Layout.{lastReadable}
-use Rattle.record_bytes.proofs.HeldLaws.{placed-all}
+use Rattle.record_bytes.proofs.Places.{uuid-bytes}
 
 -- A number that fits its width comes back.
 pub number-back : (n v : ℕ) → v < 256 ^ n → number n true (digits n v) 0 ≡ v
@@ -90,8 +89,4 @@ last-readable l fits = ap lastReadable (number-back 2 (lastField l) (last-small 
 
 -- A UUID within bytes is its sixteen bytes.
 pub uuid-part : (s : List ℕ) (at : ℕ) → at + 16 ≤ length s → uuidIn s at ≡ part 16 s at
-unfolding uuidIn
-uuid-part s at h =
-    let room : 16 ≤ length (drop at s) = omega (arith, length-drop at s) in
-    let size : length (take 16 (drop at s)) ≡ length (replicate {A = ℕ} 16 0) = length-take-le 16 (drop at s) room in
-    placed-all (take 16 (drop at s)) (replicate 16 0) size ∙ sym (part-take 16 s at h)
+uuid-part s at h = uuid-bytes s at

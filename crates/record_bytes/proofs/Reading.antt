@@ -34,7 +34,7 @@ each-of all one step (suc n) e i h =
         before (omega (arith, other))
 
 -- Bytes that are clear are zeros.
-clear-at : (n : ℕ) (s : List ℕ) → clear n s ≡ true → (i : ℕ) → i < n → getD s i 0 ≡ 0
+pub clear-at : (n : ℕ) (s : List ℕ) → clear n s ≡ true → (i : ℕ) → i < n → getD s i 0 ≡ 0
 unfolding clear
 clear-at n s e i h =
     eqb-true (getD s i 0) 0

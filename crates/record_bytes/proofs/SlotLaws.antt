@@ -15,7 +15,7 @@ use Rattle.incoming.specs.declared.Slot.{Slot}
 use Rattle.incoming.specs.Slots.{missing}
 use Rattle.record_bytes.specs.Fits.{Octets, FitsSlot, FitsSlots}
 use Rattle.record_bytes.specs.Canonical.{LengthsClear}
-use Rattle.record_bytes.specs.Held.{lengthWhere, slotBytes, slotsBytes, slotIn, slotsBelow, slotsIn}
+use Rattle.record_bytes.specs.Held.{lengthWhere, slotBytes, slotsBytes, slotOf, slotIn, slotsBelow, slotsIn}
 use Rattle.record_bytes.specs.Held.{slotReadable, readableBelow, slotsReadable}
 use Rattle.record_bytes.proofs.PartLaws.{mark-readable, mark-small}
 
@@ -24,7 +24,7 @@ abbrev again : Slot → Slot
 again x = slotIn (slotBytes (x .held) (x .length)) 0
 
 slot-back : (held : Bool) (n : ℕ) → FitsSlot held n → slotIn (slotBytes held n) 0 ≡ record { held = held; length = n }
-unfolding slotIn lengthWhere markOf choose number
+unfolding slotIn slotOf lengthWhere markOf choose number
 slot-back true n fits = λ i. record { held = true; length = value-bytes 2 true n fits i }
 slot-back false n fits = λ i. record { held = false; length = sym fits i }
 

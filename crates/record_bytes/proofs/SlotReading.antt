@@ -15,7 +15,7 @@ use Rattle.words.proofs.Tests.{both-true}
 use Rattle.incoming.specs.declared.Slot.{Slot}
 use Rattle.record_bytes.specs.Fits.{Octets, FitsSlot, FitsSlots}
 use Rattle.record_bytes.specs.Canonical.{LengthsClear}
-use Rattle.record_bytes.specs.Held.{lengthWhere, slotsBytes, slotIn, slotsBelow, slotsIn}
+use Rattle.record_bytes.specs.Held.{lengthWhere, slotsBytes, slotOf, slotIn, slotsBelow, slotsIn}
 use Rattle.record_bytes.specs.Held.{slotReadable, readableBelow, slotsReadable}
 use Rattle.record_bytes.proofs.ByteLaws.{octet-at, number-below}
 use Rattle.record_bytes.proofs.Reading.{each-of, mark-zero, mark-again}
@@ -54,7 +54,7 @@ lengthAt s f = number 2 true s (4 * f)
 
 module _ (s : List ℕ) (octets : Octets s) where
   from-fits : (n f : ℕ) → FitsSlots (slotsFrom n s f)
-  unfolding slotIn
+  unfolding slotIn slotOf
   from-fits zero f = tt
   from-fits (suc n) f =
       (length-fits (eqb (markAt s f) 1) _ (number-below 2 true s (4 * f) octets), from-fits n (f + 1))
@@ -78,7 +78,7 @@ module _ (s : List ℕ) (octets : Octets s) where
         ∙ digits-part 2 s (4 * f) (octet-at s octets)
 
     from-again : (n f : ℕ) → f + n ≤ windowSize → slotsBytes (slotsFrom n s f) ≡ foursFrom n s f
-    unfolding slotIn
+    unfolding slotIn slotOf
     from-again zero f h = refl
     from-again (suc n) f h =
         let here : f < windowSize = omega arith in

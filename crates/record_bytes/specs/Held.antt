@@ -22,12 +22,12 @@ abbrev pub slotsBytes : List Slot → List ℕ
 slotsBytes [] = []
 slotsBytes (s ∷ ss) = slotBytes (s .held) (s .length) ++ slotsBytes ss
 
--- Fragment f's slot, held where its mark is 1.
+-- A slot by its mark, held where that is 1, and its length; and fragment f's slot.
+unfoldable pub slotOf : ℕ → ℕ → Slot
+slotOf mark length = record { held = eqb mark 1; length = lengthWhere (eqb mark 1) length }
+
 unfoldable pub slotIn : List ℕ → ℕ → Slot
-slotIn s f = record {
-  held = eqb (getD s (4 * f + 2) 0) 1;
-  length = lengthWhere (eqb (getD s (4 * f + 2) 0) 1) (number 2 true s (4 * f));
-}
+slotIn s f = slotOf (getD s (4 * f + 2) 0) (number 2 true s (4 * f))
 
 -- The slots of which the first n are as they stand in s, and the others missing.
 unfoldable pub slotsBelow : List ℕ → ℕ → List Slot

@@ -11,6 +11,7 @@ use Rattle.incoming.specs.declared.Incoming.{Incoming}
 use Rattle.incoming.specs.declared.Last.{Last}
 use Rattle.outgoing.specs.declared.Outgoing.{Outgoing}
 use Rattle.timers.specs.declared.Timer.{Timer}
+use Rattle.record_bytes.specs.declared.Decoded.{Decoded}
 use Rattle.record_bytes.specs.declared.Fields.{Fields}
 use Rattle.record_bytes.specs.Parts.{timerIn, isArmed, timerTicket, lastField, lastOf, uuidIn, clear}
 use Rattle.record_bytes.specs.Held.{slotsBytes, slotsIn, slotsReadable}
@@ -78,6 +79,17 @@ fieldsIn s = record {
   word = number 8 true s 48;
   cancel = timerIn s 66 56;
   cancels = number 4 true s 68;
+}
+
+-- The same with what a side needs to tell whether bytes are readable: what is asked on both sides, and, as they stand,
+-- the marks of the second and the third timer and the third's ticket.
+unfoldable pub decodedIn : List ℕ → Decoded
+decodedIn s = record {
+  readable = readable s;
+  second = getD s 65 0;
+  third = getD s 66 0;
+  ticket = number 8 true s 56;
+  fields = fieldsIn s;
 }
 
 -- Bytes 0 to 15: state, idempotent, two counts; fragment count, sent, acknowledged; known last, serial, operation.

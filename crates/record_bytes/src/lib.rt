@@ -1,20 +1,21 @@
 // A record of either side in 272 bytes of one layout, and back. Both sides have the same fields at the
 // same places; client_bytes and server_bytes say which of them a side's record has.
+mod decoding;
+
 use calls::Call;
+pub use decoding::decode;
 use incoming::Incoming;
 use incoming::Last;
 use incoming::Slot;
 use outgoing::Outgoing;
 use timers::Timer;
 use words::WINDOW_SIZE;
-ghost use mathlib.Core.Bool.{true};
 ghost use mathlib.Core.Path.{_≡_};
-ghost use Prim.Native.Nat.{_+_, _*_};
-ghost use Rattle.words.specs.Number.{digits, number};
+ghost use Rattle.words.specs.Number.{digits};
 ghost use Rattle.words.specs.Place.{placed};
-ghost use Rattle.record_bytes.specs.Parts.{timerWhere, timerIn, isArmed, timerTicket, lastField, lastOf, uuidIn, clear, countWhere};
-ghost use Rattle.record_bytes.specs.Held.{lengthWhere, slotBytes, slotsBytes, slotIn, slotsIn, slotReadable, slotsReadable};
-ghost use Rattle.record_bytes.specs.Layout.{lastReadable, marksReadable, sparesReadable, readable, callIn, outgoingIn, incomingIn, fieldsIn, frontBytes, numberBytes, markBytes, backBytes, laidBytes, fieldBytes};
+ghost use Rattle.record_bytes.specs.Parts.{timerWhere, isArmed, timerTicket, lastField, uuidIn, countWhere};
+ghost use Rattle.record_bytes.specs.Held.{lengthWhere, slotBytes, slotsBytes};
+ghost use Rattle.record_bytes.specs.Layout.{frontBytes, numberBytes, markBytes, backBytes, laidBytes, fieldBytes};
 
 // How many bytes a record has.
 pub const SIZE: usize = 272;
@@ -44,6 +45,17 @@ pub struct Fields {
     pub cancel: Timer,
     // The cancel number of a client, the one last seen of a server.
     pub cancels: u32,
+}
+
+// What the bytes of a record hold, with what a side needs to tell whether they are readable.
+pub struct Decoded {
+    // Whether they are, but for what is the side's own.
+    pub readable: bool,
+    // The marks of the second and the third timer, and the ticket of the third, as they stand.
+    pub second: u8,
+    pub third: u8,
+    pub ticket: u64,
+    pub fields: Fields,
 }
 
 // The timer with that ticket, where it is armed.
@@ -76,16 +88,7 @@ pub fn timer_ticket(timer: Timer) -> u64
     }
 }
 
-// The known last of its number, 65535 where none is known.
-fn last(number: u16) -> Last
-    ensures { λ r. ⌜ r ≡ lastOf number ⌝ }
-{
-    if number == 65535 {
-        return Last::Unknown;
-    }
-    Last::At(number)
-}
-
+// The number of the known last, 65535 where none is known.
 fn last_number(last: Last) -> u16
     ensures { λ r. ⌜ r ≡ lastField last ⌝ }
 {
@@ -104,25 +107,6 @@ pub fn uuid(s: &[u8], at: usize) -> [u8; 16]
     bytes
 }
 
-// Two numbers of 32 bits as one of 64, the low one first.
-fn join64(low: u32, high: u32) -> u64
-    ensures { λ r. ⌜ r ≡ low + 4294967296 * high ⌝ }
-{
-    low as u64 + 4294967296 * (high as u64)
-}
-
-// The u64 that stands in s at `at`.
-fn number64(s: &[u8], at: usize) -> u64
-    ensures { λ r. ⌜ r ≡ number 8 true (now (s .entry)) at ⌝ }
-{
-    if s.len() <= at {
-        return 0;
-    }
-    let low = words::number32(s, at, true);
-    let high = words::number32(s, at + 4, true);
-    join64(low, high)
-}
-
 // The eight bytes of a u64, the least significant first.
 fn split64(v: u64) -> [u8; 8]
     ensures { λ r. ⌜ r ≡ digits 8 v ⌝ }
@@ -139,20 +123,6 @@ fn split64(v: u64) -> [u8; 8]
     ]
 }
 
-// Whether the first n bytes of s are 0; bytes past the end count as 0.
-pub fn is_clear(s: &[u8], n: u8) -> bool
-    ensures { λ r. ⌜ r ≡ clear n (now (s .entry)) ⌝ }
-{
-    let mut all = true;
-    let mut i: u8 = 0;
-    while i < n {
-        let byte = words::byte_at(s, i as usize);
-        all = words::both(all, byte == 0);
-        i += 1;
-    }
-    all
-}
-
 // The length of a slot: 0 where the fragment is missing.
 fn length_where(held: bool, length: u16) -> u16
     ensures { λ r. ⌜ r ≡ lengthWhere held length ⌝ }
@@ -161,60 +131,6 @@ fn length_where(held: bool, length: u16) -> u16
         return length;
     }
     0
-}
-
-// Fragment f's slot: length u16, held u8 and a spare byte, four bytes a slot.
-fn slot(s: &[u8], f: u16) -> Slot
-    ensures { λ r. ⌜ r ≡ slotIn (now (s .entry)) f ⌝ }
-{
-    let at = 4 * (f as usize);
-    let held = words::byte_at(s, at + 2) == 1;
-    let length = words::number16(s, at, true);
-    Slot {
-        held,
-        length: length_where(held, length),
-    }
-}
-
-// All slots.
-fn slots(s: &[u8]) -> [Slot; WINDOW_SIZE as usize]
-    ensures { λ r. ⌜ r ≡ slotsIn (now (s .entry)) ⌝ }
-{
-    let mut all = [Slot {
-        held: false,
-        length: 0,
-    }; WINDOW_SIZE as usize];
-    let mut f: u16 = 0;
-    while f < WINDOW_SIZE {
-        let at = f as usize;
-        all[at] = slot(s, f);
-        f += 1;
-    }
-    all
-}
-
-// Whether fragment f's held byte is 0 or 1 and its spare byte 0.
-fn is_slot_readable(s: &[u8], f: u16) -> bool
-    ensures { λ r. ⌜ r ≡ slotReadable (now (s .entry)) f ⌝ }
-{
-    let at = 4 * (f as usize);
-    let held = words::byte_at(s, at + 2);
-    let spare = words::byte_at(s, at + 3);
-    words::both(held <= 1, spare == 0)
-}
-
-// Whether all slots are readable.
-fn are_slots_readable(s: &[u8]) -> bool
-    ensures { λ r. ⌜ r ≡ slotsReadable (now (s .entry)) ⌝ }
-{
-    let mut all = true;
-    let mut f: u16 = 0;
-    while f < WINDOW_SIZE {
-        let one = is_slot_readable(s, f);
-        all = words::both(all, one);
-        f += 1;
-    }
-    all
 }
 
 // The four bytes of a slot; a missing fragment has length 0.
@@ -249,122 +165,6 @@ pub fn count_where(readable: bool, count: u8) -> u8
         return count;
     }
     255
-}
-
-// Whether the known last is unknown, or fits a byte.
-fn is_last_readable(number: u16) -> bool
-    ensures { λ r. ⌜ r ≡ lastReadable number ⌝ }
-{
-    words::either(number < 256, number == 65535)
-}
-
-// Whether the marks idempotent, first, second and third armed are 0 or 1.
-fn are_marks_readable(idempotent: u8, first: u8, second: u8, third: u8) -> bool
-    ensures { λ r. ⌜ r ≡ marksReadable idempotent first second third ⌝ }
-{
-    let others = words::both(second <= 1, third <= 1);
-    words::both(idempotent <= 1, words::both(first <= 1, others))
-}
-
-// Whether the places that are spare on both sides are 0.
-fn are_spares_readable(s: &[u8]) -> bool
-    ensures { λ r. ⌜ r ≡ sparesReadable (now (s .entry)) ⌝ }
-{
-    let one = words::byte_at(s, 67);
-    let rest = is_clear(words::behind(s, 72), 24);
-    words::both(one == 0, rest)
-}
-
-// Whether bytes are readable as a record of either side, but for what is the side's own.
-pub fn is_readable(s: &[u8]) -> bool
-    ensures { λ r. ⌜ r ≡ readable (now (s .entry)) ⌝ }
-{
-    let marks = are_marks_readable(
-        words::byte_at(s, 1),
-        words::byte_at(s, 64),
-        words::byte_at(s, 65),
-        words::byte_at(s, 66),
-    );
-    let last = is_last_readable(words::number16(s, 10, true));
-    let spares = are_spares_readable(s);
-    let slots = are_slots_readable(words::behind(s, 144));
-    words::both(marks, words::both(last, words::both(spares, slots)))
-}
-
-// The call that stands in a record.
-fn call(s: &[u8]) -> Call
-    ensures { λ r. ⌜ r ≡ callIn (now (s .entry)) ⌝ }
-{
-    let object = uuid(s, 112);
-    let interface = uuid(s, 128);
-    let idempotent = words::byte_at(s, 1) == 1;
-    Call {
-        idempotent,
-        object,
-        interface,
-        version: words::number32(s, 20, true),
-        operation: words::number16(s, 14, true),
-    }
-}
-
-// The message sent.
-fn outgoing(s: &[u8]) -> Outgoing
-    ensures { λ r. ⌜ r ≡ outgoingIn (now (s .entry)) ⌝ }
-{
-    Outgoing {
-        length: words::number32(s, 24, true),
-        count: words::number16(s, 4, true),
-        sent: words::number16(s, 6, true),
-        acknowledged: words::number16(s, 8, true),
-        serial: words::number16(s, 12, true),
-    }
-}
-
-// The message received.
-fn incoming(s: &[u8]) -> Incoming
-    ensures { λ r. ⌜ r ≡ incomingIn (now (s .entry)) ⌝ }
-{
-    let slots = slots(words::behind(s, 144));
-    let last = last(words::number16(s, 10, true));
-    Incoming { slots, last }
-}
-
-// The timer whose mark and ticket stand in a record at these places.
-fn timer_at(s: &[u8], mark: usize, ticket: usize) -> Timer
-    ensures { λ r. ⌜ r ≡ timerIn (now (s .entry)) mark ticket ⌝ }
-{
-    let armed = words::byte_at(s, mark) == 1;
-    timer_where(armed, number64(s, ticket))
-}
-
-// What stands in the bytes of a record.
-pub fn decode(s: &[u8]) -> Fields
-    ensures { λ r. ⌜ r ≡ fieldsIn (now (s .entry)) ⌝ }
-{
-    let activity = uuid(s, 96);
-    let call = call(s);
-    let outgoing = outgoing(s);
-    let incoming = incoming(s);
-    let timer = timer_at(s, 64, 40);
-    let cancel = timer_at(s, 66, 56);
-    let armed = words::byte_at(s, 65) == 1;
-    Fields {
-        state: words::byte_at(s, 0),
-        count: words::byte_at(s, 2),
-        extra: words::byte_at(s, 3),
-        activity,
-        number: words::number32(s, 16, true),
-        boot: words::number32(s, 28, true),
-        call,
-        outgoing,
-        incoming,
-        tickets: number64(s, 32),
-        timer,
-        armed,
-        word: number64(s, 48),
-        cancel,
-        cancels: words::number32(s, 68, true),
-    }
 }
 
 // Bytes 0 to 15.

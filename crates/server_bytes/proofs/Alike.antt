@@ -15,7 +15,8 @@ use Rattle.words.specs.Sizes.{windowSize}
 use Rattle.record_bytes.specs.Canonical.{SharedUnjudged, SameButAt}
 use Rattle.record_bytes.specs.Parts.{clear}
 use Rattle.record_bytes.specs.Layout.{fieldsIn}
-use Rattle.record_bytes.proofs.Alike.{number-alike, clear-alike, front-alike, back-alike, shared-readable, fields-alike, put-any, first-ticket-any, slot-length-any}
+use Rattle.record_bytes.proofs.Places.{number-alike, clear-alike}
+use Rattle.record_bytes.proofs.Alike.{front-alike, back-alike, shared-readable, fields-alike, put-any, first-ticket-any, slot-length-any}
 use Rattle.server.specs.declared.records.State.{State}
 use Rattle.server.specs.declared.records.State.the-variants.{Idle as IdleState, Collect, Running, Replying, Held}
 use Rattle.server.specs.declared.records.Idle.the-variants.{Fresh, Spent, Repeatable}
@@ -44,12 +45,12 @@ state-alike n status other same =
     (held-alike (eqb n 7) status other same)
 
 module _ (b c : List ℕ) (alike : SameButAt (Unjudged b) b c) where
-  own : (i : ℕ) → Unjudged b i → SharedUnjudged b i ⊎ ((48 ≤ i) × (i < 64))
-  own i (inl u) = inl u
-  own i (inr u) = inr (u .1, omega (arith, u .2))
+  own : (i : ℕ) → i < 272 → Unjudged b i → SharedUnjudged b i ⊎ ((48 ≤ i) × (i < 64))
+  own i below (inl u) = inl u
+  own i below (inr u) = inr (u .1, omega (arith, u .2))
 
   front : (i : ℕ) → i < 40 → getD c i 0 ≡ getD b i 0
-  front = front-alike (Unjudged b) b c alike own
+  front = front-alike (Unjudged b) b c (alike .same) own
 
   -- The status is judged in HELD with fault, and the twelve bytes behind it always.
   status-alike : eqb (getD b 0 0) 7 ≡ true → number 4 true c 48 ≡ number 4 true b 48
@@ -73,21 +74,21 @@ module _ (b c : List ℕ) (alike : SameButAt (Unjudged b) b c) where
   pub server-readable-alike : readable c ≡ readable b
   unfolding readable
   server-readable-alike =
-      let back : (i : ℕ) → 64 ≤ i → i < 144 → getD c i 0 ≡ getD b i 0 = back-alike (Unjudged b) b c alike own in
+      let back : (i : ℕ) → 64 ≤ i → i < 144 → getD c i 0 ≡ getD b i 0 = back-alike (Unjudged b) b c (alike .same) own in
       rw (
         front 0 (omega arith),
         front 3 (omega arith),
         back 65 (omega arith) (omega arith),
         back 66 (omega arith) (omega arith),
         behind-status,
-        shared-readable (Unjudged b) b c alike own,
+        shared-readable (Unjudged b) b c (alike .same) own,
       )
 
   pub server-alike : serverIn c ≡ serverIn b
   unfolding serverIn serverOf fieldsIn
   server-alike =
       (λ i.
-      serverOf (server-readable-alike i) (number 4 true c 48) (fields-alike (Unjudged b) b c alike own i))
+      serverOf (server-readable-alike i) (number 4 true c 48) (fields-alike (Unjudged b) b c (alike .same) own i))
       ∙ (λ i. record {
         state = state-alike (getD b 0 0) (number 4 true c 48) (number 4 true b 48) status-alike i;
         activity = serverIn b .activity;

@@ -7,7 +7,7 @@ use server::State;
 use timers::Timer;
 ghost use mathlib.Core.Path.{_≡_};
 ghost use Rattle.words.specs.Place.{placed};
-ghost use Rattle.server_bytes.specs.Layout.{stateOf, idleNumber, heldNumber, stateNumber, heldStatus, statusOf, readable, serverOf, serverIn, fieldsOf, serverBytes};
+ghost use Rattle.server_bytes.specs.Layout.{stateOf, idleNumber, heldNumber, stateNumber, heldStatus, statusOf, serverOf, serverIn, fieldsOf, serverBytes};
 
 // The state that a number stands for, with the status of a fault; one above 7 stands for none, and
 // counts as IDLE fresh.
@@ -91,21 +91,6 @@ fn status_of(state: State) -> u32
     }
 }
 
-// Whether bytes are readable as a server's record.
-fn is_readable(s: &[u8]) -> bool
-    ensures { λ r. ⌜ r ≡ readable (now (s .entry)) ⌝ }
-{
-    let state = words::byte_at(s, 0);
-    let count = words::byte_at(s, 3);
-    let second = words::byte_at(s, 65);
-    let third = words::byte_at(s, 66);
-    let spare = record_bytes::is_clear(words::behind(s, 52), 12);
-    let shared = record_bytes::is_readable(s);
-    let unarmed = words::both(second == 0, third == 0);
-    let spares = words::both(count == 0, words::both(unarmed, spare));
-    words::both(state <= 7, words::both(spares, shared))
-}
-
 // The record of what stands in bytes.
 fn server_of(readable: bool, status: u32, f: Fields) -> Server
     ensures { λ r. ⌜ r ≡ serverOf readable status f ⌝ }
@@ -135,9 +120,14 @@ fn server_of(readable: bool, status: u32, f: Fields) -> Server
 pub fn decode(s: &[u8]) -> Server
     ensures { λ r. ⌜ r ≡ serverIn (now (s .entry)) ⌝ }
 {
-    let readable = is_readable(s);
-    let status = words::number32(s, 48, true);
-    server_of(readable, status, record_bytes::decode(s))
+    let d = record_bytes::decode(s);
+    let f = d.fields;
+    // Readable: a state that is listed, nothing that only a client has, and what both sides ask.
+    let unarmed = words::both(d.second == 0, d.third == 0);
+    let high = words::both(f.word < 4294967296, d.ticket == 0);
+    let spares = words::both(f.extra == 0, words::both(unarmed, high));
+    let readable = words::both(f.state <= 7, words::both(spares, d.readable));
+    server_of(readable, (f.word % 4294967296) as u32, f)
 }
 
 // What the bytes of a record hold.
