@@ -51,7 +51,7 @@ pub enum Answer {
 }
 
 // The number of a refusal, 1 to 20.
-pub fn refusal_number(refusal: Refusal) -> u8
+fn refusal_number(refusal: Refusal) -> u8
     ensures { λ r. ⌜ r ≡ refusalNumber refusal ⌝ }
 {
     match refusal {

@@ -4,8 +4,8 @@ use answers::Refusal;
 use words::PDU_SIZE;
 ghost use mathlib.Core.Path.{_≡_};
 ghost use Rattle.bodies.specs.Fack.{fackMalformed, fackOf, blankFack, fackReading, fackBytes, fackSent};
-ghost use Rattle.bodies.specs.Status.{statusMalformed, statusReading, statusBytes};
-ghost use Rattle.bodies.specs.Cancel.{cancelMalformed, cancelReading, cancelBytes};
+ghost use Rattle.bodies.specs.Status.{statusMalformed, statusIn, statusReading, statusBytes};
+ghost use Rattle.bodies.specs.Cancel.{cancelMalformed, cancelNumberIn, cancelReading, cancelBytes};
 ghost use Rattle.bodies.specs.Cancel.{cancelAckMalformed, cancelAckReading, cancelAckBytes};
 
 // A fack's body, with its first mask.
@@ -137,17 +137,24 @@ pub fn write_fack(serial: u16, mask: u32) -> [u8; 20]
 }
 
 // Whether the body of a fault or reject is malformed: under 4 bytes, in either order.
-pub fn is_status_malformed(body: &[u8], little: bool) -> bool
-    ensures { λ r. ⌜ r ≡ statusMalformed little (now (body .entry)) ⌝ }
+pub fn is_status_malformed(body: &[u8]) -> bool
+    ensures { λ r. ⌜ r ≡ statusMalformed (now (body .entry)) ⌝ }
 {
     body.len() < 4
+}
+
+// The status that stands first in the body of a fault or reject.
+pub fn status(body: &[u8], little: bool) -> u32
+    ensures { λ r. ⌜ r ≡ statusIn little (now (body .entry)) ⌝ }
+{
+    words::number32(body, 0, little)
 }
 
 // Reads the status of a fault or reject in the sender's order.
 pub fn read_status(body: &[u8], little: bool) -> StatusReading
     ensures { λ r. ⌜ r ≡ statusReading little (now (body .entry)) ⌝ }
 {
-    let malformed = is_status_malformed(body, little);
+    let malformed = is_status_malformed(body);
     if malformed {
         return StatusReading {
             answer: Answer::Refused(Refusal::MalformedBody),
@@ -156,7 +163,7 @@ pub fn read_status(body: &[u8], little: bool) -> StatusReading
     }
     StatusReading {
         answer: Answer::Done,
-        status: words::number32(body, 0, little),
+        status: status(body, little),
     }
 }
 
@@ -178,6 +185,13 @@ pub fn is_cancel_malformed(body: &[u8], little: bool) -> bool
     version != 0
 }
 
+// The number in the body of a cancel or cancel_ack, behind the version.
+pub fn cancel_number(body: &[u8], little: bool) -> u32
+    ensures { λ r. ⌜ r ≡ cancelNumberIn little (now (body .entry)) ⌝ }
+{
+    words::number32(body, 4, little)
+}
+
 // Reads a cancel's body in the sender's order.
 pub fn read_cancel(body: &[u8], little: bool) -> CancelReading
     ensures { λ r. ⌜ r ≡ cancelReading little (now (body .entry)) ⌝ }
@@ -191,7 +205,7 @@ pub fn read_cancel(body: &[u8], little: bool) -> CancelReading
     }
     CancelReading {
         answer: Answer::Done,
-        number: words::number32(body, 4, little),
+        number: cancel_number(body, little),
     }
 }
 
@@ -230,7 +244,7 @@ pub fn read_cancel_ack(body: &[u8], little: bool) -> CancelAckReading
             accepts: false,
         };
     }
-    let number = words::number32(body, 4, little);
+    let number = cancel_number(body, little);
     let accepts = words::number32(body, 8, little);
     CancelAckReading {
         answer: Answer::Done,

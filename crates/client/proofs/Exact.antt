@@ -98,14 +98,10 @@ module _ (c : Client) (datagram slots out : List ℕ) (told : arriving c datagra
   pub fack-acknowledges : h .kind ≡ 9
       → arriving c datagram slots out .outcome .client .outgoing .acknowledged
       ≡ max (c .outgoing .acknowledged) (choose (eqb (h .fragment) 65535) 0 (h .fragment + 1))
-  unfolding acted sending done acknowledgedBy stepOf going acknowledged withOutgoing
+  unfolding acted sending done acknowledgedBy stepOf going acknowledged withOutgoing acknowledgedTo
   fack-acknowledges typed =
       let a = fack-accepted c datagram slots out told typed in
-      let can = a .taken .judged .can in
-      let parts = untimed-told c (a .taken .judged .kept) (active-state (c .state) (can .row)) in
       ap (λ (x : Arrival Outcome). x .outcome .client .outgoing .acknowledged) (a .does)
-      ∙ acknowledged-larger (c .outgoing) (acknowledgedBy (h .fragment)) (can .fits)
-      (message-count-range (c .outgoing) (parts .message) .1)
 
   -- After a response, type 2, its slot has the length of its body,
   pub response-length : h .kind ≡ 2

@@ -169,12 +169,11 @@ module _ (c : Client) (kept : sound c ≡ true) where
   acknowledged-sound count active fits =
       let r = rules-told c kept in
       let parts = untimed-told c kept (active-state (c .state) active) in
-      let most = message-count-range (c .outgoing) (parts .message) .1 in
       rules-hold (acknowledged c count)
       (record {
         counts = r .counts;
         outgoing =
-            both-hold _ _ (acknowledged-bounded (c .outgoing) count (parts .bound) fits most)
+            both-hold _ _ (acknowledged-bounded (c .outgoing) count (parts .bound) fits)
             (both-true (bounded (c .outgoing)) _ (r .outgoing) .1);
         incoming = r .incoming;
         timers = r .timers;

@@ -4,7 +4,7 @@ use incoming::Slot;
 use words::WINDOW_SIZE;
 ghost use mathlib.Core.Path.{_≡_};
 ghost use lib.ListN.{drop};
-ghost use Rattle.facks.specs.Mask.{lastContiguous, acknowledgedBy, acknowledgesMore, heldBit, heldWord, maskFrom};
+ghost use Rattle.facks.specs.Mask.{lastContiguous, acknowledgedBy, heldBit, heldWord, maskFrom};
 
 // The number of a fack for a contiguous count: the count less 1, or 65535 for none.
 pub fn number(count: u16) -> u16
@@ -24,13 +24,6 @@ pub fn acknowledged_by(g: u16) -> u16
         return 0;
     }
     g + 1
-}
-
-// Whether a fack acknowledges more than the `count` fragments of the message.
-pub fn acknowledges_more(count: u16, g: u16) -> bool
-    ensures { λ r. ⌜ r ≡ acknowledgesMore count g ⌝ }
-{
-    count < acknowledged_by(g)
 }
 
 fn bit_of(held: bool) -> u32

@@ -37,7 +37,7 @@ pub fn is_last(flags1: u8) -> bool
 }
 
 // Whether what is put is answered by a fack: a fragment whose sender did not ask for none.
-pub fn wants_fack(flags1: u8) -> bool
+fn wants_fack(flags1: u8) -> bool
     ensures { λ r. ⌜ r ≡ wantsFack flags1 ⌝ }
 {
     let unwanted = flags::has_no_fack(flags1);
@@ -159,7 +159,7 @@ fn has_place(size: usize, body: usize) -> bool
 
 // Puts a fragment's bytes into their place of the slot buffer. A body that is too long, a number beyond the window and
 // a buffer of another length leave it as it was.
-pub fn fill(buffer: &mut [u8], f: u16, body: &[u8])
+fn fill(buffer: &mut [u8], f: u16, body: &[u8])
     ensures { λ _. ⌜ now (buffer .exit) ≡ filled f (now (body .entry)) (now (buffer .entry)) ⌝ }
 {
     if has_place(buffer.len(), body.len()) {
@@ -212,7 +212,7 @@ fn is_handed_up(m: Incoming, f: u16, size: usize) -> bool
 }
 
 // The part of the slot buffer that is fragment f, where f is handed up; else an empty part.
-pub fn hand_up(m: Incoming, f: u16, buffer: &[u8]) -> &[u8]
+fn hand_up(m: Incoming, f: u16, buffer: &[u8]) -> &[u8]
     ensures { λ r. ⌜ now r ≡ handedUp m f (now (buffer .entry)) ⌝ }
 {
     let slots = m.slots;

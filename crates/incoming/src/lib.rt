@@ -3,7 +3,7 @@ use words::BODY_SIZE;
 use words::LAST_NUMBER;
 use words::WINDOW_SIZE;
 ghost use mathlib.Core.Path.{_≡_};
-ghost use Rattle.incoming.specs.Slots.{within, heldSound, soundFrom, lastSound, sound, contiguousFrom, contiguous, allTo, complete, progressOf, cleared, slotsWith, lastWith, stored};
+ghost use Rattle.incoming.specs.Slots.{within, heldSound, soundFrom, lastSound, sound, contiguousFrom, contiguous, allTo, progressOf, cleared, slotsWith, lastWith, stored};
 
 // A fragment's place: held or missing, and its length where it is held.
 pub struct Slot {
@@ -119,14 +119,6 @@ fn reaches(last: Last, held: u16) -> bool
         Last::Unknown => false,
         Last::At(number) => number < held,
     }
-}
-
-// Whether all to the last are held.
-pub fn is_complete(m: Incoming) -> bool
-    ensures { λ r. ⌜ r ≡ complete m ⌝ }
-{
-    let last = m.last;
-    reaches(last, count(m))
 }
 
 // How far a message has come.

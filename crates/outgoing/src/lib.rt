@@ -20,7 +20,7 @@ pub struct Outgoing {
 }
 
 // How many fragments a message of this length has.
-pub fn fragments(length: u32) -> u32
+fn fragments(length: u32) -> u32
     ensures { λ r. ⌜ r ≡ fragments length ⌝ }
 {
     if length == 0 {
@@ -56,7 +56,7 @@ pub fn flags(count: u16, f: u16) -> u8
 }
 
 // The serial of the next request, response or ping.
-pub fn next_serial(serial: u16) -> u16
+fn next_serial(serial: u16) -> u16
     ensures { λ r. ⌜ r ≡ nextSerial serial ⌝ }
 {
     std::num::wrapping_add_u16(serial, 1)
@@ -115,7 +115,7 @@ fn larger(a: u16, b: u16) -> u16
 pub fn acknowledge(o: Outgoing, count: u16) -> Outgoing
     ensures { λ r. ⌜ r ≡ acknowledgedTo o count ⌝ }
 {
-    let acknowledged = larger(o.acknowledged, counted(count as u32));
+    let acknowledged = larger(o.acknowledged, count);
     let mut next = o;
     next.acknowledged = acknowledged;
     next

@@ -73,13 +73,13 @@ module _ (o : Outgoing) (fits : FitsOutgoing o) where
   }
 
   -- an acknowledgement
-  pub acknowledged-fits : (number : ℕ) → FitsOutgoing (acknowledgedTo o number)
+  pub acknowledged-fits : (number : ℕ) → number ≤ o .count → FitsOutgoing (acknowledgedTo o number)
   unfolding acknowledgedTo
-  acknowledged-fits number = record {
+  acknowledged-fits number most = record {
     length = fits .length;
     count = fits .count;
     sent = fits .sent;
-    acknowledged = omega (arith, fits .acknowledged, field-fits number);
+    acknowledged = omega (arith, fits .acknowledged, fits .count);
     serial = fits .serial;
   }
 

@@ -90,16 +90,13 @@ module _ (s : Server) (datagram slots out : List ℕ) where
   -- After a fack, type 9, acknowledged is the larger of itself and what the fack acknowledges.
   pub fack-acknowledges : arriving s datagram slots out .outcome .answer ≡ Done → h .kind ≡ 9
       → after .outgoing .acknowledged ≡ max (s .outgoing .acknowledged) (choose (eqb (h .fragment) 65535) 0 (h .fragment + 1))
-  unfolding acted sending done stepOf going acknowledged withOutgoing acknowledgedBy
+  unfolding acted sending done stepOf going acknowledged withOutgoing acknowledgedTo acknowledgedBy
   fack-acknowledges is typed =
       let a = arrive-accepted s datagram slots out is in
       let j = known (a .row) (a .is) in
       let row = fack-row s h (reading datagram .little) (bodyOf datagram) (a .row) typed (j .is) in
-      let can = subst (λ (r : Row). CanTake r s h) row (j .judged .can) in
       ap (λ (x : Arrival Outcome). x .outcome .server .outgoing .acknowledged) (arrive-is s (a .row) datagram slots out (a .is))
       ∙ ap (λ (r : Row). stepOf r s h .server .outgoing .acknowledged) row
-      ∙ acknowledged-larger (s .outgoing) (acknowledgedBy (h .fragment)) (can .fits)
-      (count-most (s .outgoing) (s .state) (rules-told s (j .judged .kept) .outgoing))
 
   -- What is held after a row is taken,
   held-then : (row : Row) → Taken row → after .incoming ≡ stepOf row s h .server .incoming

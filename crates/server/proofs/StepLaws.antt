@@ -177,11 +177,10 @@ module _ (s : Server) (kept : sound s ≡ true) where
   fack-sound count fits =
       let r = rules-told s kept in
       let told = out-told (s .outgoing) (s .state) (r .outgoing) in
-      let most = count-most (s .outgoing) (s .state) (r .outgoing) in
       rules-hold (acknowledged s count)
       (record {
         count = r .count;
-        outgoing = out-holds _ (s .state) (acknowledged-bounded (s .outgoing) count (told .0) fits most) (told .1);
+        outgoing = out-holds _ (s .state) (acknowledged-bounded (s .outgoing) count (told .0) fits) (told .1);
         incoming = r .incoming;
         timer = r .timer;
       })

@@ -76,7 +76,7 @@ pub fn is_off(timer: Timer) -> bool
 }
 
 // Whether the timer is off or its ticket at most the counter.
-pub fn is_sound(timer: Timer, counter: u64) -> bool
+fn is_sound(timer: Timer, counter: u64) -> bool
     ensures { λ r. ⌜ r ≡ sound timer counter ⌝ }
 {
     match timer {

@@ -7,7 +7,7 @@ use Rattle.bodies.proofs.read_cancel.Tie as tie
 
 returns-2 : tie.Need-returns-2
 unfolding cancelReading
-returns-2 c = rw (c .number32 .ensures, ← c .before .before .is-cancel-malformed .ensures) (search tests)
+returns-2 c = rw (c .cancel-number .ensures, ← c .before .before .is-cancel-malformed .ensures) (search tests)
 
 pub read-cancel-spec : {M : Type 1} → statement M
 unfolding cancelReading

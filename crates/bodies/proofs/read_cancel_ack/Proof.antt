@@ -7,7 +7,7 @@ use Rattle.bodies.proofs.read_cancel_ack.Tie as tie
 
 returns-2 : tie.Need-returns-2
 unfolding cancelAckReading
-returns-2 c = rw (c .before .number32 .ensures, c .number322 .ensures, ← c .before .before .before .is-cancel-ack-malformed .ensures) (search tests)
+returns-2 c = rw (c .before .cancel-number .ensures, c .number32 .ensures, ← c .before .before .before .is-cancel-ack-malformed .ensures) (search tests)
 
 pub read-cancel-ack-spec : {M : Type 1} → statement M
 unfolding cancelAckReading

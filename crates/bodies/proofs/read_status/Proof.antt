@@ -13,4 +13,4 @@ read-status-spec =
     (λ c κs. search needs)
     (λ c. rw (← c .before .is-status-malformed .ensures) (search tests))
     (λ c κs. search needs)
-    (λ c. rw (c .number32 .ensures, ← c .before .before .is-status-malformed .ensures) (search tests)))
+    (λ c. rw (c .status .ensures, ← c .before .before .is-status-malformed .ensures) (search tests)))
