@@ -1,13 +1,14 @@
 -- Laws of tables of refusals: what a table gives, and what is known where it lets something pass.
 use Prim.Native.Nat.{ℕ, _≤_, _<_}
-use mathlib.Core.Bool.{Bool, true, false}
+use mathlib.Core.Bool.{Bool, true, false, true≢false}
 use mathlib.Core.List.{List, [], _∷_, _++_}
-use mathlib.Core.Path.{_≡_, refl, ap, _∙_}
+use mathlib.Core.Path.{_≡_, refl, sym, ap, subst, _∙_}
 use native.Mathlib.Omega.{arith}
 use borrow.Author.Tests.{ltb-true}
 use Rattle.words.specs.Choice.{choose}
 use Rattle.words.proofs.Tests.{both-true}
 use Rattle.answers.specs.declared.Refusal.{Refusal}
+use Rattle.answers.specs.declared.Answer.{Answer}
 use Rattle.answers.specs.declared.Answer.the-variants.{Done, Refused}
 use Rattle.answers.specs.Number.{refusalNumber}
 use Rattle.answers.specs.Table.{Line, firstOf, answerOf, behindAnswer, risesFrom}
@@ -128,3 +129,30 @@ lowest-decides n (other ∷ more) rises line (later s) holds behind =
         let low = above (refusalNumber (other .refusal)) more (both-true _ _ rises .1) line s in
         rw (decides refusalNumber other more behind e) (omega arith)
     by-test false e least = rw (passed-over refusalNumber other more behind e) least
+
+-- Refused with a number at most that of a line.
+pub record RefusedAtMost (a : Answer) (most : Refusal) : Type 0 where
+  pub refusal : Refusal
+  pub is : a ≡ Refused refusal
+  pub low : refusalNumber refusal ≤ refusalNumber most
+
+-- So is an event whose answer tells what a table gives, where the test of a line holds.
+pub lowest : {A : Type 0} (refuse : Refusal → A) (answer : A → Answer) → ((r : Refusal) → answer (refuse r) ≡ Refused r)
+    → (table : List Line) (behind : A) → risesFrom 0 table ≡ true → (line : Line) → Stands line table
+    → line .test ≡ true
+    → RefusedAtMost (answer (firstOf refuse table behind)) (line .refusal)
+unfolding behindAnswer
+lowest {A} refuse answer told table behind rises line stands holds = by-case (answerOf table) refl
+  where
+    least : firstOf refusalNumber table 0 ≤ refusalNumber (line .refusal)
+    least = lowest-decides 0 table rises line stands holds 0
+
+    by-case : (a : Answer) → answerOf table ≡ a → RefusedAtMost (answer (firstOf refuse table behind)) (line .refusal)
+    by-case Done e = absurd (true≢false (sym holds ∙ passed-line table (answer-done table e) line stands))
+    by-case (Refused r) e = record {
+      refusal = r;
+      is = ap answer (by-answer refuse table behind ∙ ap (behindAnswer refuse behind) e) ∙ told r;
+      low =
+          subst (λ (n : ℕ). n ≤ refusalNumber (line .refusal))
+          (by-answer refusalNumber table 0 ∙ ap (behindAnswer refusalNumber 0) e) least;
+    }

@@ -3,7 +3,7 @@ use answers::Answer;
 use answers::Refusal;
 use words::PDU_SIZE;
 ghost use mathlib.Core.Path.{_≡_};
-ghost use Rattle.bodies.specs.Fack.{fackMalformed, fackOf, blankFack, fackReading, fackBytes, fackSent};
+ghost use Rattle.bodies.specs.Fack.{fackMalformed, fackOf, blankFack, fackReading, fackBytes, fackFields};
 ghost use Rattle.bodies.specs.Status.{statusMalformed, statusIn, statusReading, statusBytes};
 ghost use Rattle.bodies.specs.Cancel.{cancelMalformed, cancelNumberIn, cancelReading, cancelBytes};
 ghost use Rattle.bodies.specs.Cancel.{cancelAckMalformed, cancelAckReading, cancelAckBytes};
@@ -107,7 +107,7 @@ pub fn read_fack(body: &[u8], little: bool) -> FackReading
 
 // The body of a fack as we write it: the serial answered and one mask.
 pub fn write_fack(serial: u16, mask: u32) -> [u8; 20]
-    ensures { λ r. ⌜ r ≡ fackBytes (fackSent serial mask) ⌝ }
+    ensures { λ r. ⌜ r ≡ fackBytes (fackFields serial mask) ⌝ }
 {
     let answered = words::split16(serial);
     let held = words::split32(mask);

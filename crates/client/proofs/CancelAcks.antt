@@ -40,7 +40,7 @@ use Rattle.client.specs.declared.Outcome.{Outcome}
 use Rattle.client.specs.records.States.{isQueued}
 use Rattle.client.specs.records.Rules.{sound}
 use Rattle.client.specs.records.Record.{cancelDisarmed}
-use Rattle.client.specs.judge.Rows.{rowIn, isRow, isCurrent, isForClient, arrivalRow, arms, armsTimer}
+use Rattle.client.specs.judge.Rows.{cellIn, isRow, isCurrent, isForClient, arrivalCell, arms, armsTimer}
 use Rattle.client.specs.judge.Refusals.{isResponse, isOld, isMalformed, isContradiction, pduRefusals, pduVerdict, arrivalRefusals, arrivalVerdict}
 use Rattle.client.specs.step.Plan.{going}
 use Rattle.client.specs.step.Steps.{stepOf}
@@ -60,21 +60,21 @@ abbrev ackVerdict : Client → Header → Bool → List ℕ → Verdict
 ackVerdict c h little body =
     choose (isOld (c .state) (c .number) (h .number)) (Refuse OldCall)
     (choose (cancelAckMalformed little body) (Refuse MalformedBody)
-    (rowIn (isCurrent (c .cancel) (c .cancels) (cancelNumberIn little body)) CancelAck))
+    (cellIn (isCurrent (c .cancel) (c .cancels) (cancelNumberIn little body)) CancelAck))
 
 -- Where the table has no row there is 15, and a cancel_ack's arms nothing.
 row-behind : (c : Client) (current : Bool)
-    → choose (not (isRow (rowIn current CancelAck))) (Refuse NoRow)
-    (choose (both (armsTimer c (rowIn current CancelAck)) (usedUp (c .tickets))) (Refuse TicketsUsedUp)
-    (rowIn current CancelAck))
-    ≡ rowIn current CancelAck
-unfolding rowIn isRow armsTimer arms both choose
+    → choose (not (isRow (cellIn current CancelAck))) (Refuse NoRow)
+    (choose (both (armsTimer c (cellIn current CancelAck)) (usedUp (c .tickets))) (Refuse TicketsUsedUp)
+    (cellIn current CancelAck))
+    ≡ cellIn current CancelAck
+unfolding cellIn isRow armsTimer arms both choose
 row-behind c true = refl
 row-behind c false = refl
 
 ack-judged : (c : Client) (h : Header) (little : Bool) (body : List ℕ) → h .kind ≡ 10
     → pduVerdict c h little body ≡ ackVerdict c h little body
-unfolding pduVerdict pduRefusals firstOf isForClient isResponse isMalformed isContradiction arrivalRow both either choose
+unfolding pduVerdict pduRefusals firstOf isForClient isResponse isMalformed isContradiction arrivalCell both either choose
 ack-judged c h little body typed =
     rw typed
     (ap
@@ -221,7 +221,7 @@ module _ (c : Client) (datagram slots out : List ℕ) where
     -- Of the record's own call
     module _ (own : c .number ≡ h .number) (started : c .state ≡ Queued → ⊥) where
       owned : verdict ≡ choose (cancelAckMalformed (little datagram) (body datagram)) (Refuse MalformedBody)
-          (rowIn (isCurrent (c .cancel) (c .cancels) (cancelNumber datagram)) CancelAck)
+          (cellIn (isCurrent (c .cancel) (c .cancels) (cancelNumber datagram)) CancelAck)
       unfolding isOld either
       owned =
           judged
@@ -234,12 +234,12 @@ module _ (c : Client) (datagram slots out : List ℕ) where
 
       module _ (f : WellFormed datagram) where
         tabled : (current : Bool) → isCurrent (c .cancel) (c .cancels) (cancelNumber datagram) ≡ current
-            → verdict ≡ rowIn current CancelAck
+            → verdict ≡ cellIn current CancelAck
         tabled current e =
-            owned ∙ choose-false _ _ _ (formed-passes datagram f) ∙ ap (λ (t : Bool). rowIn t CancelAck) e
+            owned ∙ choose-false _ _ _ (formed-passes datagram f) ∙ ap (λ (t : Bool). cellIn t CancelAck) e
 
         stray : isCurrent (c .cancel) (c .cancels) (cancelNumber datagram) ≡ false → told ≡ Refused NoRow
-        unfolding rowIn choose
+        unfolding cellIn choose
         stray none = told-by (Refuse NoRow) (tabled false none)
 
         -- else 15 where CANCEL is not armed
@@ -260,7 +260,7 @@ module _ (c : Client) (datagram slots out : List ℕ) where
         -- and else it is taken:
         module _ (ticket : ℕ) (armed : c .cancel ≡ Armed ticket) (last : c .cancels ≡ cancelNumber datagram) where
           taken : verdict ≡ Go CancelAck
-          unfolding rowIn isCurrent off choose
+          unfolding cellIn isCurrent off choose
           taken =
               tabled true
               (both-hold _ _ (ap (λ (t : Timer). not (off t)) armed) (eq-eqb (c .cancels) (cancelNumber datagram) last))

@@ -31,7 +31,7 @@ use Rattle.client.specs.declared.judge.Verdict.the-variants.{Refuse, Go}
 use Rattle.client.specs.declared.Outcome.{Outcome}
 use Rattle.client.specs.records.Rules.{sound}
 use Rattle.client.specs.records.Record.{unarmed}
-use Rattle.client.specs.records.Arming.{namedTimer, namedBy}
+use Rattle.client.specs.records.Named.{namedTimer, namedBy}
 use Rattle.client.specs.judge.Rows.{timerRow, arms}
 use Rattle.client.specs.judge.Refusals.{timerRefusals, timerVerdict}
 use Rattle.client.specs.step.Plan.{going, failed}

@@ -34,7 +34,7 @@ use Rattle.client.specs.declared.judge.Verdict.the-variants.{Refuse, Go}
 use Rattle.client.specs.declared.Outcome.{Outcome}
 use Rattle.client.specs.records.States.{mayStart, isActive}
 use Rattle.client.specs.records.Rules.{sound}
-use Rattle.client.specs.records.Record.{waiting, sending as sendsAgain, ackPending, unarmed, cancelArmed, cancelDisarmed, withOutgoing, withIncoming, withWaits, withResends, withCancels}
+use Rattle.client.specs.records.Record.{waiting, sendingAgain, ackPending, unarmed, cancelArmed, cancelDisarmed, withOutgoing, withIncoming, withWaits, withResends, withCancels}
 use Rattle.client.specs.judge.Rows.{transmitRow, timerRow, cancelRow}
 use Rattle.client.specs.judge.Refusals.{isMalformed, arrivalVerdict}
 use Rattle.client.specs.step.Plan.{going, failed}
@@ -151,7 +151,7 @@ module _ (c : Client) (ticket : ℕ) (armed : c .cancel ≡ Armed ticket) where
 
   row-stays : (slots out : ℕ) (datagram : List ℕ) (row : Row) → ArrivalTaken c slots out datagram row
       → (row ≡ CancelAck) ⊎ StaysAfter row
-  unfolding Stays stepOf going failed workingPlan resent acknowledged withWaits withOutgoing withResends waiting sendsAgain unarmed isActive
+  unfolding Stays stepOf going failed workingPlan resent acknowledged withWaits withOutgoing withResends waiting sendingAgain unarmed isActive
   row-stays slots out datagram row taken =
       arrival-rows c (reading datagram .header) (reading datagram .little) (bodyOf datagram)
       (λ r. (r ≡ CancelAck) ⊎ StaysAfter r)
@@ -238,7 +238,7 @@ module _ (c : Client) where
 
   arrived-leaves : (slots out : ℕ) (datagram : List ℕ) (row : Row) → ArrivalTaken c slots out datagram row
       → Leaves row
-  unfolding stepOf going failed workingPlan resent acknowledged cancelDisarmed withWaits withOutgoing withResends waiting sendsAgain unarmed
+  unfolding stepOf going failed workingPlan resent acknowledged cancelDisarmed withWaits withOutgoing withResends waiting sendingAgain unarmed
   arrived-leaves slots out datagram row taken =
       arrival-rows c (reading datagram .header) (reading datagram .little) (bodyOf datagram) Leaves
       (λ p a. response-leaves p)

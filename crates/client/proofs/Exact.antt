@@ -24,9 +24,8 @@ use Rattle.fragments.proofs.PutLaws.{stored-held}
 use Rattle.incoming.specs.declared.Incoming.{Incoming}
 use Rattle.incoming.specs.Slots.{stored}
 use Rattle.outgoing.specs.Message.{fragments}
-use Rattle.outgoing.specs.Sending.{started as startedMessage}
+use Rattle.outgoing.specs.Sending.{acknowledgedTo, startedMessage}
 use Rattle.outgoing.proofs.OutgoingLaws.{message-count}
-use Rattle.outgoing.proofs.SendLaws.{message-count-range, acknowledged-larger}
 use Rattle.pdu.specs.declared.Header.{Header}
 use Rattle.pdu.specs.Header.{bodyOf}
 use Rattle.reader.specs.Reading.{reading}
@@ -40,8 +39,6 @@ use Rattle.client.specs.judge.Rows.{transmitRow, cancelRow}
 use Rattle.client.specs.step.Plan.{going}
 use Rattle.client.specs.step.Steps.{started, cancelled, responsePlan, acknowledged, stepOf}
 use Rattle.client.specs.Machine.{done, starting, sending, transmitting, cancelling, acted, arriving}
-use Rattle.client.proofs.StateLaws.{active-state}
-use Rattle.client.proofs.RecordLaws.{untimed-told}
 use Rattle.client.proofs.RuleLaws.{rules-told}
 use Rattle.client.proofs.Judging.{Judged}
 use Rattle.client.proofs.StepLaws.{next-number, next-cancel, transmitted-one-more}

@@ -7,7 +7,7 @@ use mathlib.Core.Path.{_≡_, refl, sym, ap, _∙_}
 use Rattle.words.specs.Bit.{bit}
 use Rattle.words.specs.Choice.{choose}
 use Rattle.answers.specs.declared.Answer.the-variants.{Done}
-use Rattle.bodies.specs.Fack.{fackBytes, fackSent as fackFields}
+use Rattle.bodies.specs.Fack.{fackBytes, fackFields}
 use Rattle.calls.specs.declared.Sent.{Sent}
 use Rattle.calls.specs.declared.Sent.the-variants.{Nothing as Unsent}
 use Rattle.calls.specs.Events.{Arrival}

@@ -11,7 +11,7 @@ use Rattle.client.specs.declared.judge.Row.{Row}
 use Rattle.client.specs.declared.judge.Row.the-variants.{Transmit, Ping, SendAck, Cancel, Response, Fault, Reject, Working, Resend, GiveUp, Fack, CancelAck}
 use Rattle.client.specs.declared.step.Send.{Send}
 use Rattle.client.specs.declared.step.Send.the-variants.{Nothing, Request, Ping as SendPing, Ack as AckPdu, Fack as SendFack, Cancel as SendCancel}
-use Rattle.client.specs.records.Record.{waiting, sending as sendsAgain, unarmed, cancelArmed, cancelDisarmed, withOutgoing, withIncoming, withWaits, withResends, withCancels}
+use Rattle.client.specs.records.Record.{waiting, sendingAgain, unarmed, cancelArmed, cancelDisarmed, withOutgoing, withIncoming, withWaits, withResends, withCancels}
 use Rattle.client.specs.judge.Rows.{transmitRow, timerRow, cancelRow}
 use Rattle.client.specs.step.Plan.{going, failed}
 use Rattle.client.specs.step.Steps.{transmitted, pinged, cancelled, responsePlan, workingPlan, resent, acknowledged, stepOf}
@@ -48,7 +48,7 @@ pub record PutsNone (row : Row) (c : Client) : Type 0 where
   pub unfacked : isFack (stepOf row c .send) ≡ false
 
 pub puts-none : (row : Row) (c : Client) → puts row ≡ false → PutsNone row c
-unfolding stepOf going failed workingPlan transmitted pinged cancelled resent acknowledged withOutgoing withWaits withResends withCancels waiting sendsAgain unarmed cancelArmed cancelDisarmed choose
+unfolding stepOf going failed workingPlan transmitted pinged cancelled resent acknowledged withOutgoing withWaits withResends withCancels waiting sendingAgain unarmed cancelArmed cancelDisarmed choose
 puts-none (Transmit true) c none = record { held = refl; stored = refl; unfacked = refl }
 puts-none (Transmit false) c none = record { held = refl; stored = refl; unfacked = refl }
 puts-none (Ping waits) c none = record { held = refl; stored = refl; unfacked = refl }

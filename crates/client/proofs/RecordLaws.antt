@@ -19,7 +19,7 @@ use Rattle.client.specs.declared.records.State.the-variants.{Queued, Sen
 use Rattle.client.specs.declared.records.Client.{Client}
 use Rattle.client.specs.records.States.{isQueued, isSending, isActive, isWaiting, isAckPending}
 use Rattle.client.specs.records.Rules.{countsSound, messageRule, outgoingSound, timersSound, sound}
-use Rattle.client.specs.records.Record.{fresh, waiting, sending, ackPending, unarmed, cancelArmed, cancelDisarmed}
+use Rattle.client.specs.records.Record.{fresh, waiting, sendingAgain, ackPending, unarmed, cancelArmed, cancelDisarmed}
 use Rattle.client.proofs.StateLaws.{waiting-state, waiting-active}
 use Rattle.client.proofs.RuleLaws.{rules-told, rules-hold, message-told, message-holds, unsent-holds, timers-hold, timers-kept}
 
@@ -111,10 +111,10 @@ module _ (c : Client) (b : Untimed (c .waits) (c .resends) (c .outgoing) (c .inc
       })
 
   -- To SEND_FRAGS with WAIT off, where a fragment is left to send; CANCEL was right in the active call.
-  pub sending-sound : c .outgoing .sent < c .outgoing .count → timerSound true (c .cancel) (c .tickets) ≡ true → sound (sending c) ≡ true
-  unfolding sending isWaiting isAckPending isActive
+  pub sending-sound : c .outgoing .sent < c .outgoing .count → timerSound true (c .cancel) (c .tickets) ≡ true → sound (sendingAgain c) ≡ true
+  unfolding sendingAgain isWaiting isAckPending isActive
   sending-sound h right =
-      rules-hold (sending c)
+      rules-hold (sendingAgain c)
       (record {
         counts = b .counts;
         outgoing = unsent-holds (c .outgoing) (b .bound) (b .message) h;

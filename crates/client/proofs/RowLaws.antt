@@ -27,7 +27,7 @@ use Rattle.client.specs.declared.judge.Row.the-variants.{Transmit, Ping,
 use Rattle.client.specs.declared.judge.Verdict.{Verdict}
 use Rattle.client.specs.declared.judge.Verdict.the-variants.{Refuse, Go}
 use Rattle.client.specs.records.States.{isActive, isDispatched}
-use Rattle.client.specs.judge.Rows.{rowIn, isRow, waitRow, timerRow, nocallRow, isCurrent, arrivalRow}
+use Rattle.client.specs.judge.Rows.{cellIn, isRow, waitRow, timerRow, nocallRow, isCurrent, arrivalCell}
 
 -- A refusal is no row.
 pub unrowed : (row : Row) (r : Refusal) → Refuse r ≡ Go row → ⊥
@@ -101,8 +101,8 @@ unfolding choose
 chosen true a b v e = inl (refl, e)
 chosen false a b v e = inr e
 
-row-in : (has : Bool) (row taken : Row) → rowIn has row ≡ Go taken → (has ≡ true) × (row ≡ taken)
-unfolding rowIn choose
+row-in : (has : Bool) (row taken : Row) → cellIn has row ≡ Go taken → (has ≡ true) × (row ≡ taken)
+unfolding cellIn choose
 row-in true row taken e = (refl, same-row row taken e)
 row-in false row taken e = absurd (unrowed taken _ e)
 
@@ -136,18 +136,18 @@ module _ (c : Client) (h : Header) (little : Bool) (body : List ℕ) where
   -- A type whose row it is, or one of those behind it.
   of-type : (kind : ℕ) (has : Bool) (own taken : Row) (rest : Verdict)
       → (h .kind ≡ kind → has ≡ true → ArrivesAs own) → (rest ≡ Go taken → ArrivesAs taken)
-      → choose (eqb (h .kind) kind) (rowIn has own) rest ≡ Go taken → ArrivesAs taken
+      → choose (eqb (h .kind) kind) (cellIn has own) rest ≡ Go taken → ArrivesAs taken
   of-type kind has own taken rest here behind e =
-      by-choice (chosen (eqb (h .kind) kind) (rowIn has own) rest (Go taken) e)
+      by-choice (chosen (eqb (h .kind) kind) (cellIn has own) rest (Go taken) e)
     where
-      by-choice : ((eqb (h .kind) kind ≡ true) × (rowIn has own ≡ Go taken)) ⊎ (rest ≡ Go taken) → ArrivesAs taken
+      by-choice : ((eqb (h .kind) kind ≡ true) × (cellIn has own ≡ Go taken)) ⊎ (rest ≡ Go taken) → ArrivesAs taken
       by-choice (inl f) =
           let row = row-in has own taken (f .1) in
           subst ArrivesAs (row .1) (here (eqb-true (h .kind) kind (f .0)) (row .0))
       by-choice (inr f) = behind f
 
-  pub row-arrives : (row : Row) → arrivalRow c h little body ≡ Go row → ArrivesAs row
-  unfolding arrivalRow
+  pub row-arrives : (row : Row) → arrivalCell c h little body ≡ Go row → ArrivesAs row
+  unfolding arrivalCell
   row-arrives row =
       of-type 2 _ _ row _ (λ t r. record { typed = t; row = r; put = refl })
       (of-type 3 _ _ row _ (λ t r. record { typed = t; row = r; status = refl })
@@ -159,22 +159,22 @@ module _ (c : Client) (h : Header) (little : Bool) (body : List ℕ) where
       (λ e. absurd (unrowed row WrongSide e))))))))
 
   -- A response, working, a fack and a cancel_ack have their row by their type.
-  pub response-typed : h .kind ≡ 2 → (row : Row) → arrivalRow c h little body ≡ Go row
+  pub response-typed : h .kind ≡ 2 → (row : Row) → arrivalCell c h little body ≡ Go row
       → row ≡ Response (putOf (c .incoming) (h .flags1) (h .serial) (h .fragment) (bodyLength body))
-  unfolding arrivalRow choose
+  unfolding arrivalCell choose
   response-typed typed row e = sym (row-in (isActive (c .state)) _ row (rw typed at e) .1)
 
-  pub working-typed : h .kind ≡ 4 → (row : Row) → arrivalRow c h little body ≡ Go row → row ≡ Working
-  unfolding arrivalRow choose
+  pub working-typed : h .kind ≡ 4 → (row : Row) → arrivalCell c h little body ≡ Go row → row ≡ Working
+  unfolding arrivalCell choose
   working-typed typed row e = sym (row-in (isDispatched (c .state)) Working row (rw typed at e) .1)
 
-  pub fack-typed : h .kind ≡ 9 → (row : Row) → arrivalRow c h little body ≡ Go row
+  pub fack-typed : h .kind ≡ 9 → (row : Row) → arrivalCell c h little body ≡ Go row
       → row ≡ Fack (acknowledgedBy (h .fragment))
-  unfolding arrivalRow choose
+  unfolding arrivalCell choose
   fack-typed typed row e = sym (row-in (isActive (c .state)) _ row (rw typed at e) .1)
 
-  pub cancel-ack-typed : h .kind ≡ 10 → (row : Row) → arrivalRow c h little body ≡ Go row → row ≡ CancelAck
-  unfolding arrivalRow choose
+  pub cancel-ack-typed : h .kind ≡ 10 → (row : Row) → arrivalCell c h little body ≡ Go row → row ≡ CancelAck
+  unfolding arrivalCell choose
   cancel-ack-typed typed row e =
       sym (row-in (isCurrent (c .cancel) (c .cancels) (cancelNumberIn little body)) CancelAck row (rw typed at e) .1)
 

@@ -13,7 +13,7 @@ use Rattle.fragments.specs.declared.Fragment.{Fragment}
 use Rattle.fragments.specs.Put.{putInto}
 use Rattle.incoming.specs.declared.Incoming.{Incoming}
 use Rattle.incoming.specs.Slots.{slotSound, cleared, sound as incomingSound}
-use Rattle.outgoing.specs.Sending.{bounded, hasMessage, hasNothing, nextSerial, started as startedMessage, afterSend, afterPing, sendsLast, acknowledgedTo, rewound}
+use Rattle.outgoing.specs.Sending.{bounded, hasMessage, hasNothing, nextSerial, startedMessage, afterSend, afterPing, sendsLast, acknowledgedTo, rewound}
 use Rattle.outgoing.proofs.SendLaws.{message-count-range, started-bounded, started-message, started-below, sent-more, sent-bounded, sent-message, serial-message, serial-bounded, acknowledged-bounded, rewound-below, rewound-bounded, rewound-message}
 use Rattle.timers.specs.Tickets.{usedUp, off, timerSound}
 use Rattle.client.specs.declared.records.State.{State}
@@ -21,7 +21,7 @@ use Rattle.client.specs.declared.records.State.the-variants.{SendFrags, 
 use Rattle.client.specs.declared.records.Client.{Client}
 use Rattle.client.specs.records.States.{isQueued, isSending, isActive, isDispatched, isWaiting, isAckPending}
 use Rattle.client.specs.records.Rules.{outgoingSound, sound}
-use Rattle.client.specs.records.Record.{waiting, sending, ackPending, unarmed, cancelArmed, withOutgoing, withIncoming, withWaits, withResends, withCancels}
+use Rattle.client.specs.records.Record.{waiting, sendingAgain, ackPending, unarmed, cancelArmed, withOutgoing, withIncoming, withWaits, withResends, withCancels}
 use Rattle.client.specs.judge.Rows.{oneMore, nextNumber}
 use Rattle.client.specs.step.Plan.{going, failed}
 use Rattle.client.specs.step.Steps.{started, transmitted, pinged, cancelled, putRecord, received, responsePlan, workingPlan, resent, acknowledged}
@@ -232,7 +232,7 @@ module _ (c : Client) (kept : sound c ≡ true) where
   -- Nocall with a count within the limit: the message goes out again.
   pub resent-sound : (resends : ℕ) → isDispatched (c .state) ≡ true → resends ≤ retryLimit
       → sound (resent c resends) ≡ true
-  unfolding resent withResends withOutgoing sending isQueued
+  unfolding resent withResends withOutgoing sendingAgain isQueued
   resent-sound resends dispatched few =
       let old = untimed-told c kept (ap isQueued (dispatched-state (c .state) dispatched)) in
       let counts = counts-told (c .waits) (c .resends) (old .counts) in

@@ -261,13 +261,13 @@ fn failure(c: Client, h: Header, little: bool, body: &[u8]) -> Verdict
     if is_old(state, c.number, h.number) {
         return Verdict::Refuse(Refusal::OldCall);
     }
-    if bodies::is_status_malformed(body, little) {
+    if bodies::is_status_malformed(body) {
         return Verdict::Refuse(Refusal::MalformedBody);
     }
     if !records::is_active(state) {
         return Verdict::Refuse(Refusal::NoRow);
     }
-    let status = words::number32(body, 0, little);
+    let status = bodies::status(body, little);
     if h.kind == 3 {
         return Verdict::Go(Row::Fault(status));
     }
@@ -358,13 +358,13 @@ fn cancel_ack(c: Client, h: Header, little: bool, body: &[u8]) -> Verdict
     if bodies::is_cancel_ack_malformed(body, little) {
         return Verdict::Refuse(Refusal::MalformedBody);
     }
-    if !is_current(cancel, c.cancels, words::number32(body, 4, little)) {
+    if !is_current(cancel, c.cancels, bodies::cancel_number(body, little)) {
         return Verdict::Refuse(Refusal::NoRow);
     }
     Verdict::Go(Row::CancelAck)
 }
 
-// 13 to 20, of what the server answers a call with: types 2 to 6.
+// 12 to 20, of what the server answers a call with: types 2 to 6.
 fn answer(c: Client, h: Header, little: bool, body: &[u8]) -> Verdict
     requires { ⌜ (2 ≤ h .kind) × (h .kind ≤ 6) ⌝ }
     ensures { λ r. ⌜ r ≡ pduVerdict c h little (now (body .entry)) ⌝ }

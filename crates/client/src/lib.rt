@@ -26,7 +26,7 @@ ghost use mathlib.Core.List.{[]};
 ghost use Rattle.calls.specs.Sent.{Posted};
 ghost use Rattle.client.specs.Sending.{pduHeader, requestSent, emptySent, fackSent, cancelSent, sentOut};
 ghost use Rattle.calls.specs.Events.{Stepped, Arrived};
-ghost use Rattle.client.specs.Machine.{refused as refusedOutcome, done as doneOutcome, startBy, starting, sending, stepBy, transmitting, timing, cancelling, acted, arriving, handedUpOf};
+ghost use Rattle.client.specs.Machine.{refused as refusedOutcome, done as doneOutcome, starting, sending, stepBy, transmitting, timing, cancelling, acted, arriving, handedUpOf};
 
 // What an event gives back.
 pub struct Outcome {

@@ -8,8 +8,8 @@ use words::RETRY_LIMIT;
 ghost use mathlib.Core.Path.{_≡_};
 ghost use Rattle.client.specs.records.States.{mayStart, isQueued, isSending, isActive, isDispatched, isWaiting, isAckPending};
 ghost use Rattle.client.specs.records.Rules.{countsSound, messageRule, outgoingSound, timersSound, sound};
-ghost use Rattle.client.specs.records.Record.{fresh as freshRecord, timed, waiting, sending, ackPending, unarmed, cancelArmed, cancelDisarmed, withOutgoing, withIncoming, withWaits, withResends, withCancels, withCall};
-ghost use Rattle.client.specs.records.Arming.{namedTimer, namedBy};
+ghost use Rattle.client.specs.records.Record.{fresh as freshRecord, timed, waiting, sendingAgain, ackPending, unarmed, cancelArmed, cancelDisarmed, withOutgoing, withIncoming, withWaits, withResends, withCancels, withCall};
+ghost use Rattle.client.specs.records.Named.{namedTimer, namedBy};
 
 pub enum State {
     Queued,
@@ -282,7 +282,7 @@ pub fn to_waiting(c: Client, state: State) -> Client
 
 // To SEND_FRAGS, WAIT disarmed; CANCEL stays as it is.
 pub fn to_sending(c: Client) -> Client
-    ensures { λ r. ⌜ r ≡ sending c ⌝ }
+    ensures { λ r. ⌜ r ≡ sendingAgain c ⌝ }
 {
     let cancel = c.cancel;
     with_timers(

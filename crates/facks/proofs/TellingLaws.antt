@@ -20,7 +20,7 @@ use Rattle.reader.specs.Reading.{reading}
 use Rattle.writer.proofs.Returns.{Sized}
 use Rattle.writer.proofs.RoundTrip.{Fits, read-written, kind-written, body-written}
 use Rattle.bodies.specs.declared.FackReading.{FackReading}
-use Rattle.bodies.specs.Fack.{fackBytes, fackSent, fackReading}
+use Rattle.bodies.specs.Fack.{fackBytes, fackFields, fackReading}
 use Rattle.bodies.proofs.RoundTrip.{read-written-fack}
 use Rattle.calls.specs.Sent.{Posting, sentBytes}
 use Rattle.calls.proofs.PostLaws.{whole, whole-bytes}
@@ -62,7 +62,7 @@ mask-small m long =
     lt-of-lt-of-le (word-below (drop (contiguous m) (m .slots))) (pow-mono size)
 
 -- The body of a fack is short.
-pub fack-short : (serial mask : ℕ) → length (fackBytes (fackSent serial mask)) ≤ bodySize
+pub fack-short : (serial mask : ℕ) → length (fackBytes (fackFields serial mask)) ≤ bodySize
 unfolding fackBytes
 fack-short serial mask = omega arith
 
@@ -71,7 +71,7 @@ module _ (h : Header) (m : Incoming) (answered : ℕ) (fits : Fits h) (typed : h
     (plain : h .authentication ≡ 0) (named : h .fragment ≡ lastContiguous (contiguous m)) (small : answered < 65536)
     (long : length (m .slots) ≡ windowSize) where
   abbrev body : List ℕ
-  body = fackBytes (fackSent answered (maskOf m))
+  body = fackBytes (fackFields answered (maskOf m))
 
   abbrev pdu : List ℕ
   pdu = datagram h body
@@ -88,7 +88,7 @@ module _ (h : Header) (m : Incoming) (answered : ℕ) (fits : Fits h) (typed : h
       ∙ count-acknowledged (contiguous m) (omega (arith, count-small m long))
 
   -- and reads the mask and the serial answered.
-  body-told : bodyIn pdu ≡ record { answer = Done; fack = fackSent answered (maskOf m) }
+  body-told : bodyIn pdu ≡ record { answer = Done; fack = fackFields answered (maskOf m) }
   body-told =
       ap (λ (r : Reading). fackReading (r .little) (bodyOf pdu)) taken
       ∙ ap (fackReading true) (body-written h body (fits .sized))

@@ -26,7 +26,7 @@ use Rattle.server.specs.declared.judge.Row.{Row}
 use Rattle.server.specs.declared.judge.Row.the-variants.{Reply as ReplyRow, TransmitMore, TransmitRepeatable, TransmitHeld, FaultRepeatable, FaultHeld, ResendData, ResendFault, Spend, Begin, Put, Working, Nocall, Rewind, RepeatFault, Acknowledge, HearCancel, AcceptCancel, DeclineCancel}
 use Rattle.server.specs.declared.judge.Verdict.{Verdict}
 use Rattle.server.specs.declared.judge.Verdict.the-variants.{Go}
-use Rattle.server.specs.judge.Rows.{timerRow}
+use Rattle.server.specs.judge.Rows.{timerCell}
 use Rattle.server.specs.step.Plan.{going}
 use Rattle.server.specs.step.Steps.{answered, transmitted, repeatable, rewinding, stepOf}
 use Rattle.server.specs.Machine.{done as doneWith, replyBy, sending, stepBy, replying, transmitting, faulting, timing}
@@ -152,7 +152,7 @@ timer-past s ticket out done =
     let known = timer-taken s ticket (length out) (taken .row) (taken .is) in
     step-past _ s _ out (taken .row) (taken .is) (known .judged .can) (timer-row (taken .row) (known .is))
   where
-    timer-row : (row : Row) → timerRow (s .state) (s .resends) ≡ Go row → arrives row ≡ false
+    timer-row : (row : Row) → timerCell (s .state) (s .resends) ≡ Go row → arrives row ≡ false
     timer-row row =
         timer-rows s (λ (v : Verdict). v ≡ Go row → arrives row ≡ false)
         (λ none is. absurd (refusal-no-row NoRow row is)) (λ held below is. ap arrives (sym (same-row _ row is)))

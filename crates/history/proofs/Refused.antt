@@ -25,7 +25,7 @@ use Rattle.client.proofs.Accepting.{timer-accepted as client-timer-accepted}
 use Rattle.client.proofs.Refusals.{StepUntouched as ClientStepUntouched, start-refused, transmit-refused as client-transmit-refused, timer-refused as client-timer-refused, cancel-refused, arrive-refused as client-arrive-refused}
 use Rattle.calls.specs.Events.{Step}
 use Rattle.client.specs.declared.records.Client.{Client}
-use Rattle.client.specs.records.Arming.{namedTimer}
+use Rattle.client.specs.records.Named.{namedTimer}
 use Rattle.client.specs.declared.Outcome.{Outcome as ClientOutcome}
 use Rattle.server.specs.declared.records.Server.{Server}
 use Rattle.server.specs.declared.Outcome.{Outcome as ServerOutcome}

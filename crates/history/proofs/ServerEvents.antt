@@ -28,8 +28,8 @@ use Rattle.server.specs.declared.step.Send.the-variants.{Response as SendRespon
 use Rattle.server.specs.records.States.{isFresh, isReplying}
 use Rattle.server.specs.records.Rules.{sound}
 use Rattle.server.specs.records.Record.{holding, unarmed, withOutgoing, withResends}
-use Rattle.server.specs.records.Arming.{runsAgain}
-use Rattle.server.specs.judge.Rows.{transmitRow, faultRow, timerRow}
+use Rattle.server.specs.records.Repeatable.{runsAgain}
+use Rattle.server.specs.judge.Rows.{transmitRow, faultRow, timerCell}
 use Rattle.server.specs.step.Plan.{going}
 use Rattle.server.specs.step.Steps.{answered, transmitted, repeatable, rewinding, stepOf}
 use Rattle.server.specs.Machine.{done, replyBy, replying, sending, stepBy, transmitting, timing, faulting}
@@ -188,7 +188,7 @@ module _ (w : World) (inv : Inv w) (out : List ℕ) (room : length out ≡ pduSi
   AfterTimer v =
       Inv (serverStep w (stepBy v (w .server .machine) [] out .outcome) (stepBy v (w .server .machine) [] out .out) (w .server .slots) (ofRecord w))
 
-  timer-rows-inv : (row : Row) → timerRow (w .server .machine .state) (w .server .machine .resends) ≡ Go row
+  timer-rows-inv : (row : Row) → timerCell (w .server .machine .state) (w .server .machine .resends) ≡ Go row
       → Judged (w .server .machine) blank row → AfterTimer (Go row)
   unfolding stepOf going isFresh withResends
   timer-rows-inv row =

@@ -11,7 +11,7 @@ use borrow.Author.Tests.{eqb-true, eqb-false}
 use Rattle.words.specs.Choice.{choose}
 use Rattle.words.specs.Sizes.{pduSize}
 use Rattle.words.proofs.Tests.{both-true}
-use Rattle.bodies.specs.Fack.{fackBytes, fackSent as fackFields}
+use Rattle.bodies.specs.Fack.{fackBytes, fackFields}
 use Rattle.bodies.specs.Cancel.{cancelAckBytes}
 use Rattle.bodies.specs.Status.{statusBytes}
 use Rattle.calls.specs.declared.Notice.{Notice}
@@ -30,7 +30,7 @@ use Rattle.server.specs.declared.records.State.{State}
 use Rattle.server.specs.declared.records.Server.{Server}
 use Rattle.server.specs.records.States.{isReplying}
 use Rattle.server.specs.records.Rules.{sound, outgoingSound}
-use Rattle.server.specs.records.Arming.{runsAgain}
+use Rattle.server.specs.records.Repeatable.{runsAgain}
 use Rattle.server.proofs.StateLaws.{replying-state}
 use Rattle.server.proofs.RuleLaws.{rules-told, replying-told}
 use Rattle.server.specs.declared.step.Send.{Send}

@@ -9,7 +9,7 @@ use lib.ListN.{length, length-append}
 use Rattle.words.specs.Choice.{choose}
 use Rattle.answers.specs.declared.Answer.the-variants.{Done}
 use Rattle.calls.specs.declared.Call.{Call}
-use Rattle.outgoing.specs.Sending.{started as startedMessage, messageOf}
+use Rattle.outgoing.specs.Sending.{startedMessage, messageOf}
 use Rattle.pdu.specs.declared.Header.{Header}
 use Rattle.client.specs.declared.records.Client.{Client}
 use Rattle.client.specs.records.States.{isQueued, isActive}

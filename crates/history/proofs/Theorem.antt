@@ -15,7 +15,7 @@ use Rattle.client.specs.declared.records.State.the-variants.{Queued, SendFrags,
 use Rattle.client.specs.records.States.{isQueued, isWaiting, isAckPending}
 use Rattle.client.proofs.RuleLaws.{rules-told, wait-off, ack-off, cancel-off}
 use Rattle.client.specs.declared.records.TimerKind.the-variants.{Wait, Ack, Cancel}
-use Rattle.client.specs.records.Arming.{namedTimer}
+use Rattle.client.specs.records.Named.{namedTimer}
 use Rattle.client.proofs.Growing.{hands-joined}
 use Rattle.client.proofs.TicketLaws.{old-most as client-most}
 use Rattle.server.specs.declared.records.Idle.the-variants.{Fresh as NeverCalled, Spent, Repeatable}

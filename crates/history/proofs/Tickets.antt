@@ -11,7 +11,7 @@ use Rattle.timers.specs.declared.Timer.the-variants.{Armed}
 use Rattle.timers.proofs.TimerLaws.{Moved, stays-moved}
 use Rattle.client.specs.declared.records.Client.{Client}
 use Rattle.client.specs.declared.records.TimerKind.the-variants.{Wait, Ack, Cancel}
-use Rattle.client.specs.records.Arming.{namedTimer}
+use Rattle.client.specs.records.Named.{namedTimer}
 use Rattle.client.proofs.TicketLaws.{ClientMoved, start-moves, transmit-moves as client-transmit-moves, timer-moves as client-timer-moves, cancel-moves, arrive-moves as client-arrive-moves, timer-spends as client-timer-spends, Renewing, arrive-spends}
 use Rattle.server.specs.declared.records.Server.{Server}
 use Rattle.server.proofs.TicketLaws.{ServerMoved, reply-moves, transmit-moves as server-transmit-moves, fault-moves, timer-moves as server-timer-moves, arrive-moves as server-arrive-moves, timer-spends as server-timer-spends}

@@ -10,7 +10,7 @@ use Rattle.timers.specs.Tickets.{nextTicket, armedAfresh, armedIfOff, ticketsIf
 use Rattle.client.specs.declared.records.State.{State}
 use Rattle.client.specs.declared.records.State.the-variants.{SendFrags, AckPending}
 use Rattle.client.specs.declared.records.Client.{Client}
-use Rattle.client.specs.records.Record.{fresh, timed, waiting, sending, ackPending, unarmed, cancelArmed, cancelDisarmed, withOutgoing, withWaits, withIncoming, withResends, withCancels}
+use Rattle.client.specs.records.Record.{fresh, timed, waiting, sendingAgain, ackPending, unarmed, cancelArmed, cancelDisarmed, withOutgoing, withWaits, withIncoming, withResends, withCancels}
 use Rattle.client.specs.step.Steps.{received}
 use Rattle.record_bytes.specs.Fits.{Uuid, FitsOutgoing, FitsIncoming, FitsTimer}
 use Rattle.record_bytes.proofs.Keeping.{no-message-fits, cleared-fits, next-ticket-fits, armed-fits, armed-if-off-fits, tickets-if-off-fits, blank-call-fits}
@@ -61,8 +61,8 @@ module _ (c : Client) (fits : FitsClient c) where
       timed-fits state (nextTicket (c .tickets)) (armedAfresh (c .tickets)) Off (c .cancel)
       (next-ticket-fits (c .tickets) (fits .tickets)) (armed-fits (c .tickets) (fits .tickets)) tt (fits .cancel)
 
-  pub sending-fits : FitsClient (sending c)
-  unfolding sending
+  pub sending-fits : FitsClient (sendingAgain c)
+  unfolding sendingAgain
   sending-fits = timed-fits SendFrags (c .tickets) Off Off (c .cancel) (fits .tickets) tt tt (fits .cancel)
 
   pub ack-pending-fits : FitsClient (ackPending c)

@@ -28,7 +28,7 @@ use Rattle.client.specs.records.States.{isSending}
 use Rattle.client.specs.judge.Rows.{isRow}
 use Rattle.client.specs.judge.Refusals.{startRefusals, startVerdict, transmitRefusals, transmitVerdict, timerRefusals, timerVerdict, cancelRefusals, cancelVerdict, pduRefusals, arrivalRefusals, arrivalVerdict}
 use Rattle.client.specs.Machine.{refused, done, startBy, starting, sending, stepBy, transmitting, timing, cancelling, acted, arrivalBy, arriving}
-use Rattle.client.proofs.TableLaws.{start-rise, transmit-rise, timer-rise, cancel-rise, arrive-rise}
+use Rattle.client.proofs.Lowest.{start-rise, transmit-rise, timer-rise, cancel-rise, arrival-rise}
 use Rattle.client_bytes.specs.Layout.{clientIn}
 use Rattle.history.specs.World.{Side}
 use Rattle.morphelai.specs.Export.{sized}
@@ -84,7 +84,7 @@ module _ (c : Client) where
   arrive-so datagram slots out =
       table-first Refuse (λ (v : Verdict). arrivalBy v c (bodyOf datagram) slots out .outcome .answer) (λ r. refl)
       (behindTwo (arrivalRefusals c (length slots) (length out) datagram)) _
-      (arrive-rise c (length slots) (length out) datagram)
+      (arrival-rise c (length slots) (length out) datagram)
       (λ passed.
       row-other _ c (bodyOf datagram) slots out
       (not-false _ (passed-parts (readRefusals datagram) _ passed .1 .1 .1 .1 .1 .1 .0)))

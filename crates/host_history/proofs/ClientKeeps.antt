@@ -114,7 +114,7 @@ module _ (c : Client) (fits : FitsClient c) where
   row-fits (Resend resends) can = resend-fits resends can
   row-fits (GiveUp cause) can = failed-fits (Cause cause)
   row-fits (Fack count) can =
-      outgoing-fits c fits (acknowledgedTo (c .outgoing) count) 
+      outgoing-fits c fits (acknowledgedTo (c .outgoing) count)
       (acknowledged-fits (c .outgoing) (fits .outgoing) count (can .fits))
   row-fits CancelAck can = cancel-disarmed-fits c fits
 

@@ -19,7 +19,7 @@ use Rattle.server.specs.declared.judge.Verdict.{Verdict}
 use Rattle.server.specs.declared.judge.Verdict.the-variants.{Refuse}
 use Rattle.server.specs.records.Rules.{sound}
 use Rattle.server.specs.records.States.{isReplying}
-use Rattle.server.specs.judge.Rows.{timerRow}
+use Rattle.server.specs.judge.Rows.{timerCell}
 use Rattle.server.specs.judge.Refusals.{replyRefusals, replyVerdict, transmitRefusals, transmitVerdict, timerRefusals, timerVerdict, faultRefusals, faultVerdict, arrivalRefusals, arrivalVerdict}
 use Rattle.server.specs.Machine.{refused, done, replyBy, replying, sending, stepBy, transmitting, timing, faulting, acted, arrivalBy, arriving}
 use Rattle.server.proofs.Lowest.{reply-rise, transmit-rise, timer-rise, fault-rise, arrival-rise}
@@ -59,7 +59,7 @@ module _ (s : Server) where
   unfolding timing timerVerdict timerRefusals stepBy sending refused done both choose
   timer-so ticket out =
       table-first Refuse (answered [] out) (λ r. refl) _ _
-      (timer-rise s ticket (length out) (timerRow (s .state) (s .resends)))
+      (timer-rise s ticket (length out) (timerCell (s .state) (s .resends)))
       (λ passed.
       timer-rows s (λ (v : Verdict). isOne (answered [] out v) ≡ false) (λ other. refl) (λ held below. refl)
       (λ status held below. refl) (λ held limit. refl))

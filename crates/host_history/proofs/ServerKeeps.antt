@@ -136,7 +136,7 @@ module _ (s : Server) (fits : FitsServer s) (h : Header) where
   row-fits Rewind can carried = rewinding-fits s fits
   row-fits (RepeatFault status) can carried = fits
   row-fits (Acknowledge count) can carried =
-      outgoing-fits s fits (acknowledgedTo (s .outgoing) count) 
+      outgoing-fits s fits (acknowledgedTo (s .outgoing) count)
       (acknowledged-fits (s .outgoing) (fits .outgoing) count (can .fits))
   row-fits (HearCancel n) can carried = seen-fits s fits n carried
   row-fits (AcceptCancel n) can carried = fits

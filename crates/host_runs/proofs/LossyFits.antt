@@ -7,7 +7,7 @@ use lib.Dec.{eqb}
 use Rattle.words.specs.Choice.{choose}
 use Rattle.flags.specs.Flags.{withFlag}
 use Rattle.pdu.specs.Header.{datagram}
-use Rattle.bodies.specs.Fack.{fackBytes, fackSent}
+use Rattle.bodies.specs.Fack.{fackBytes, fackFields}
 use Rattle.calls.specs.Sent.{sentHeader}
 use Rattle.outgoing.specs.Message.{fragmentOf, flagsOf}
 use Rattle.record_bytes.specs.Fits.{Octets, FitsCall}
@@ -50,10 +50,10 @@ empty-octets kind serial boot named =
     pdu-octets kind 0 serial activity boot 0 called 0 [] named (omega arith) (omega arith) called-fits tt
 
 fack-octets : (serial boot g mask answered : ℕ)
-    → Octets (datagram (sentHeader 9 0 serial activity boot 0 called g) (fackBytes (fackSent answered mask)))
+    → Octets (datagram (sentHeader 9 0 serial activity boot 0 called g) (fackBytes (fackFields answered mask)))
 unfolding fackBytes
 fack-octets serial boot g mask answered =
-    pdu-octets 9 0 serial activity boot 0 called g (fackBytes (fackSent answered mask)) (omega arith) (omega arith)
+    pdu-octets 9 0 serial activity boot 0 called g (fackBytes (fackFields answered mask)) (omega arith) (omega arith)
     (omega arith) called-fits (omega arith)
 
 part-octets : (kind boot : ℕ) (message : List ℕ) (f serial : ℕ) → kind < 256 → Octets message

@@ -8,7 +8,7 @@ ghost use mathlib.Core.Path.{_≡_};
 ghost use Prim.Native.Nat.{max};
 ghost use Rattle.outgoing.specs.Message.{fragments, fragmentOf, flagsOf};
 ghost use Rattle.outgoing.specs.Lent.{sameMessage, transmitLent};
-ghost use Rattle.outgoing.specs.Sending.{nextSerial, oneMore, inField, afterSend, sendsLast, afterPing, acknowledgedTo, firstToSend, rewound, messageOf, started, replied, noMessage, bounded, hasMessage, hasNothing};
+ghost use Rattle.outgoing.specs.Sending.{nextSerial, sentMore, inField, afterSend, sendsLast, afterPing, acknowledgedTo, firstToSend, rewound, messageOf, startedMessage, replied, noMessage, bounded, hasMessage, hasNothing};
 
 // Length and fragment count of the message; sent is the next fragment to send, so also how many are sent.
 pub struct Outgoing {
@@ -63,8 +63,8 @@ fn next_serial(serial: u16) -> u16
 }
 
 // One more is sent; 65535, which no sound record has, stays.
-fn one_more(sent: u16) -> u16
-    ensures { λ r. ⌜ r ≡ oneMore sent ⌝ }
+fn sent_more(sent: u16) -> u16
+    ensures { λ r. ⌜ r ≡ sentMore sent ⌝ }
 {
     if sent < 65535 {
         return sent + 1;
@@ -76,7 +76,7 @@ fn one_more(sent: u16) -> u16
 pub fn after_send(o: Outgoing) -> Outgoing
     ensures { λ r. ⌜ r ≡ afterSend o ⌝ }
 {
-    let sent = one_more(o.sent);
+    let sent = sent_more(o.sent);
     let serial = next_serial(o.serial);
     let mut next = o;
     next.sent = sent;
@@ -167,7 +167,7 @@ fn message_of(length: u32, serial: u16) -> Outgoing
 
 // A call starts: its serial starts at 0.
 pub fn start(length: u32) -> Outgoing
-    ensures { λ r. ⌜ r ≡ started length ⌝ }
+    ensures { λ r. ⌜ r ≡ startedMessage length ⌝ }
 {
     message_of(length, 0)
 }

@@ -1,5 +1,5 @@
 -- What the machines make of a record's parts keeps their widths.
-use Prim.Native.Nat.{ℕ, zero, suc, _+_, _<_}
+use Prim.Native.Nat.{ℕ, zero, suc, _+_, _≤_, _<_}
 use mathlib.Core.Bool.{Bool, true, false}
 use mathlib.Core.List.{List, [], _∷_}
 use mathlib.Core.Path.{_≡_, refl, _∙_}
@@ -15,7 +15,7 @@ use Rattle.incoming.specs.declared.Incoming.{Incoming}
 use Rattle.incoming.specs.Slots.{cleared, slotsWith, lastWith, stored}
 use Rattle.outgoing.specs.declared.Outgoing.{Outgoing}
 use Rattle.outgoing.specs.Message.{fragments}
-use Rattle.outgoing.specs.Sending.{nextSerial, oneMore, afterSend, afterPing, inField, acknowledgedTo, firstToSend, rewound, messageOf, started, replied, noMessage}
+use Rattle.outgoing.specs.Sending.{nextSerial, sentMore, afterSend, afterPing, inField, acknowledgedTo, firstToSend, rewound, messageOf, startedMessage, replied, noMessage}
 use Rattle.timers.specs.declared.Timer.{Timer}
 use Rattle.timers.specs.declared.Timer.the-variants.{Off, Armed}
 use Rattle.timers.specs.Tickets.{usedUp, nextTicket, armedAfresh, armedIfOff, ticketsIfOff}
@@ -37,8 +37,8 @@ serial-fits : (serial : ℕ) → nextSerial serial < 65536
 unfolding nextSerial
 serial-fits serial = omega arith
 
-more-fits : (sent : ℕ) → sent < 65536 → oneMore sent < 65536
-unfolding oneMore
+more-fits : (sent : ℕ) → sent < 65536 → sentMore sent < 65536
+unfolding sentMore
 more-fits sent h =
     choice-by (λ (n : ℕ). n < 65536) (ltb sent 65535) (sent + 1) sent
     (λ (e : ltb sent 65535 ≡ true). omega (arith, ltb-true sent 65535 e)) (λ (e : ltb sent 65535 ≡ false). h)
@@ -107,8 +107,8 @@ message-fits n serial short small = record {
   serial = small;
 }
 
-pub started-fits : (n : ℕ) → n < 4294967296 → FitsOutgoing (started n)
-unfolding started
+pub started-fits : (n : ℕ) → n < 4294967296 → FitsOutgoing (startedMessage n)
+unfolding startedMessage
 started-fits n short = message-fits n 0 short (omega arith)
 
 -- of a reply; and none.

@@ -13,7 +13,7 @@ use Rattle.timers.specs.Tickets
 use Rattle.client.specs.records.States as ClientStates
 use Rattle.client.specs.records.Rules as ClientRules
 use Rattle.client.specs.records.Record as ClientRecord
-use Rattle.client.specs.records.Arming as ClientArming
+use Rattle.client.specs.records.Named as ClientNamed
 use Rattle.client.specs.judge.Rows as ClientRows
 use Rattle.client.specs.judge.Refusals as ClientRefusals
 use Rattle.client.specs.Machine as ClientMachine
@@ -31,7 +31,7 @@ unfolding Choice.choose Choice.both Choice.either
     Slots.slotSound Slots.sound Slots.contiguous Slots.cleared Slots.slotsWith Slots.stored
     Mask.lastContiguous Mask.maskFrom Mask.maskOf
     Message.fragments
-    Sending.nextSerial Sending.oneMore Sending.afterSend Sending.inField Sending.messageOf Sending.started Sending.noMessage
+    Sending.nextSerial Sending.sentMore Sending.afterSend Sending.inField Sending.messageOf Sending.startedMessage Sending.noMessage
     Sending.bounded Sending.hasMessage Sending.hasNothing
     Tickets.usedUp Tickets.armedWith Tickets.off Tickets.sound Tickets.timerSound
 shared = tt
@@ -50,7 +50,7 @@ unfolding shared
     ClientStates.mayStart ClientStates.isQueued ClientStates.isActive ClientStates.isWaiting ClientStates.isAckPending
     ClientRules.countsSound ClientRules.messageRule ClientRules.outgoingSound ClientRules.timersSound ClientRules.sound
     ClientRecord.fresh ClientRecord.withOutgoing
-    ClientArming.namedTimer ClientArming.namedBy
+    ClientNamed.namedTimer ClientNamed.namedBy
     ClientRows.waitRow ClientRows.timerRow ClientRows.arms
     ClientRefusals.startRefusals ClientRefusals.startVerdict ClientRefusals.timerRefusals ClientRefusals.timerVerdict
     ClientMachine.refused ClientMachine.done ClientMachine.startBy ClientMachine.starting ClientMachine.sending
@@ -63,7 +63,7 @@ unfolding shared
     ServerStates.isRunning ServerStates.isHeld
     ServerRules.heldRule ServerRules.messageRule ServerRules.outgoingSound ServerRules.sound
     ServerRecord.fresh ServerRecord.unarmed ServerRecord.withOutgoing
-    ServerRows.isRow ServerRows.resendHeld ServerRows.resendRow ServerRows.timerRow ServerRows.arms ServerRows.armsTimer
+    ServerRows.isRow ServerRows.resendHeld ServerRows.resendRow ServerRows.timerCell ServerRows.arms ServerRows.armsTimer
     ServerRefusals.replyRefusals ServerRefusals.replyVerdict ServerRefusals.timerRefusals ServerRefusals.timerVerdict
     ServerMachine.refused ServerMachine.done ServerMachine.replyBy ServerMachine.replying ServerMachine.sending
     ServerMachine.stepBy ServerMachine.timing

@@ -6,7 +6,7 @@ use Rattle.words.specs.Sizes.{bodySize}
 use Rattle.incoming.specs.declared.Incoming.{Incoming}
 use Rattle.incoming.specs.Slots.{cleared, stored}
 use Rattle.outgoing.specs.declared.Outgoing.{Outgoing}
-use Rattle.outgoing.specs.Sending.{started, afterSend}
+use Rattle.outgoing.specs.Sending.{startedMessage, afterSend}
 use Rattle.timers.specs.declared.Timer.the-variants.{Off, Armed}
 use Rattle.client.specs.declared.records.Client.{Client}
 use Rattle.client.specs.declared.records.State.the-variants.{SendFrags, Dispatched, AckPending}
@@ -24,7 +24,7 @@ holding (f ∷ fs) = stored (holding fs) f bodySize false
 
 -- An empty message, sent: its one fragment is out.
 abbrev pub sent : Outgoing
-sent = afterSend (started 0)
+sent = afterSend (startedMessage 0)
 
 -- A fresh client and a fresh server.
 abbrev pub client : Client
@@ -43,7 +43,7 @@ ackPending ticket = timedClient (clientWith client sent) AckPending ticket Off (
 
 -- The client has cancelled a call whose request it still sends: SEND_FRAGS, CANCEL armed with the ticket.
 abbrev pub cancelled : ℕ → Client
-cancelled ticket = timedClient (clientWith client (started 0)) SendFrags ticket Off Off (Armed ticket)
+cancelled ticket = timedClient (clientWith client (startedMessage 0)) SendFrags ticket Off Off (Armed ticket)
 
 -- The server runs a call: RUNNING.
 abbrev pub running : Server

@@ -27,7 +27,7 @@ use Rattle.client.specs.declared.records.TimerKind.{TimerKind}
 use Rattle.client.specs.records.Rules.{sound}
 use Rattle.client.specs.declared.judge.Verdict.{Verdict}
 use Rattle.client.specs.declared.judge.Verdict.the-variants.{Refuse, Go}
-use Rattle.client.specs.judge.Rows.{arrivalRow}
+use Rattle.client.specs.judge.Rows.{arrivalCell}
 use Rattle.client.specs.judge.Refusals.{transmitVerdict, timerVerdict, cancelVerdict, pduRefusals, arrivalRefusals, arrivalVerdict}
 use Rattle.client.specs.declared.step.Send.the-variants.{Nothing}
 use Rattle.client.specs.declared.step.Plan.{Plan}
@@ -100,8 +100,8 @@ arrivalAs c r body =
     firstOf Refuse
     (BrokenRecord when not (sound c)
     ∷ OtherActivity when not (same (c .activity) (r .header .activity))
-    ∷ pduRefusals c (r .header) (r .little) body (arrivalRow c (r .header) (r .little) body))
-    (arrivalRow c (r .header) (r .little) body)
+    ∷ pduRefusals c (r .header) (r .little) body (arrivalCell c (r .header) (r .little) body))
+    (arrivalCell c (r .header) (r .little) body)
 
 -- on one as it was written,
 abbrev clientArrival : Client → Header → List ℕ → Verdict
@@ -115,7 +115,7 @@ arrival-judged c slots out h body k whole room =
     let d = datagram h body in
     let read = carried-read h body k in
     let rest = carried-body h body k in
-    let row = arrivalRow c (reading d .header) (reading d .little) (bodyOf d) in
+    let row = arrivalCell c (reading d .header) (reading d .little) (bodyOf d) in
     read-on Refuse (WrongLength when not (lentRight (length slots) (length out))) (BrokenRecord when not (sound c))
     (readRefusals d)
     (OtherActivity when not (same (c .activity) (reading d .header .activity))

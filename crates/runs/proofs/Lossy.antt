@@ -6,7 +6,7 @@ use native.Mathlib.Omega.{arith}
 use lib.ListN.{length, take}
 use Rattle.words.specs.Number.{number}
 use Rattle.words.specs.Sizes.{bodySize, pduSize, slotsSize}
-use Rattle.bodies.specs.Fack.{fackBytes, fackSent}
+use Rattle.bodies.specs.Fack.{fackBytes, fackFields}
 use Rattle.calls.specs.declared.Notice.the-variants.{Count, Last, Dispatch as DispatchTold}
 use Rattle.calls.specs.Sent.{sentHeader}
 use Rattle.incoming.specs.declared.Last.the-variants.{Unknown, At}
@@ -60,10 +60,10 @@ fragment-came boot kind message f serial small =
 
 -- a fack,
 fack-came : (boot serial g mask answered : ℕ) → (boot < 65536) × (g < 65536) × (serial < 65536)
-    → Carried (sentHeader 9 0 serial activity boot 0 called g) (fackBytes (fackSent answered mask))
+    → Carried (sentHeader 9 0 serial activity boot 0 called g) (fackBytes (fackFields answered mask))
 unfolding fackBytes
 fack-came boot serial g mask answered small =
-    carried 9 0 serial activity boot 0 called g (fackBytes (fackSent answered mask)) typed refl (omega arith) (omega arith)
+    carried 9 0 serial activity boot 0 called g (fackBytes (fackFields answered mask)) typed refl (omega arith) (omega arith)
 
 -- and one without a body.
 empty-came : (boot kind serial : ℕ) → (boot < 65536) × (kind ≤ 10) × (serial < 65536) → Carried (sentHeader kind 0 serial activity boot 0 called 0) []

@@ -18,7 +18,7 @@ use Rattle.calls.specs.Sent
 use Rattle.client.specs.records.States as ClientStates
 use Rattle.client.specs.records.Rules as ClientRules
 use Rattle.client.specs.records.Record as ClientRecord
-use Rattle.client.specs.records.Arming as ClientArming
+use Rattle.client.specs.records.Named as ClientNamed
 use Rattle.client.specs.judge.Rows as ClientRows
 use Rattle.client.specs.judge.Refusals as ClientRefusals
 use Rattle.client.specs.step.Plan as ClientPlan
@@ -28,7 +28,7 @@ use Rattle.client.specs.Machine as ClientMachine
 use Rattle.server.specs.records.States as ServerStates
 use Rattle.server.specs.records.Rules as ServerRules
 use Rattle.server.specs.records.Record as ServerRecord
-use Rattle.server.specs.records.Arming as ServerArming
+use Rattle.server.specs.records.Repeatable as ServerRepeatable
 use Rattle.server.specs.judge.Rows as ServerRows
 use Rattle.server.specs.judge.Refusals as ServerRefusals
 use Rattle.server.specs.step.Plan as ServerPlan
@@ -48,8 +48,8 @@ unfolding Choice.choose Choice.both Choice.either Choice.markOf
     Slots.slotSound Slots.sound Slots.contiguous Slots.complete Slots.cleared Slots.slotsWith Slots.lastWith Slots.stored
     Lent.sameMessage Lent.transmitLent
     Message.fragments Message.flagsOf
-    Sending.nextSerial Sending.oneMore Sending.afterSend Sending.sendsLast Sending.afterPing Sending.acknowledgedTo Sending.firstToSend
-    Sending.rewound Sending.inField Sending.messageOf Sending.started Sending.replied Sending.noMessage Sending.bounded Sending.hasMessage
+    Sending.nextSerial Sending.sentMore Sending.afterSend Sending.sendsLast Sending.afterPing Sending.acknowledgedTo Sending.firstToSend
+    Sending.rewound Sending.inField Sending.messageOf Sending.startedMessage Sending.replied Sending.noMessage Sending.bounded Sending.hasMessage
     Sending.hasNothing
     Fragment.lentRight Fragment.isLast Fragment.wantsFack Fragment.wrongFragment
     Judgement.held Judgement.heldAbove Judgement.aboveLast Judgement.otherLast Judgement.lastBelowHeld Judgement.contradicts
@@ -67,9 +67,9 @@ unfolding ClientStates.mayStart ClientStates.isQueued ClientStates.isSending Cli
     ClientRecord.fresh ClientRecord.waiting ClientRecord.sending ClientRecord.ackPending ClientRecord.unarmed ClientRecord.cancelArmed
     ClientRecord.cancelDisarmed ClientRecord.withOutgoing ClientRecord.withWaits ClientRecord.withIncoming ClientRecord.withResends
     ClientRecord.withCancels
-    ClientArming.namedTimer ClientArming.namedBy
-    ClientRows.rowIn ClientRows.isRow ClientRows.nextNumber ClientRows.transmitRow ClientRows.waitRow ClientRows.timerRow ClientRows.cancelRow
-    ClientRows.nocallRow ClientRows.isCurrent ClientRows.isForClient ClientRows.arrivalRow ClientRows.arms ClientRows.armsTimer
+    ClientNamed.namedTimer ClientNamed.namedBy
+    ClientRows.cellIn ClientRows.isRow ClientRows.nextNumber ClientRows.transmitRow ClientRows.waitRow ClientRows.timerRow ClientRows.cancelRow
+    ClientRows.nocallRow ClientRows.isCurrent ClientRows.isForClient ClientRows.arrivalCell ClientRows.arms ClientRows.armsTimer
     ClientRefusals.startRefusals ClientRefusals.startVerdict ClientRefusals.transmitRefusals ClientRefusals.transmitVerdict
     ClientRefusals.timerRefusals ClientRefusals.timerVerdict ClientRefusals.mayCancel ClientRefusals.cancelRefusals
     ClientRefusals.cancelVerdict ClientRefusals.isResponse ClientRefusals.isOld ClientRefusals.isMalformed ClientRefusals.isContradiction
@@ -85,12 +85,12 @@ unfolding ServerStates.neverCalled ServerStates.isFresh ServerStates.isRunning S
     ServerRules.idleRule ServerRules.heldRule ServerRules.messageRule ServerRules.outgoingSound ServerRules.sound
     ServerRecord.fresh ServerRecord.holding ServerRecord.unarmed
     ServerRecord.withOutgoing ServerRecord.withIncoming ServerRecord.withSeen
-    ServerArming.runsAgain
+    ServerRepeatable.runsAgain
     ServerRows.isRow ServerRows.says ServerRows.orderBy ServerRows.orderOf ServerRows.orderFor ServerRows.replayRow ServerRows.requestNewer
-    ServerRows.requestAgain ServerRows.requestIdle ServerRows.requestEqual ServerRows.requestRow ServerRows.pingEqual ServerRows.pingRow
-    ServerRows.whereReplied ServerRows.acknowledgementRow ServerRows.ackRow ServerRows.runningCancel ServerRows.cancelEqual
-    ServerRows.cancelRow ServerRows.requestPut ServerRows.isForServer ServerRows.arrivalRow ServerRows.transmitRow ServerRows.faultRow
-    ServerRows.timerRow ServerRows.arms
+    ServerRows.requestAgain ServerRows.requestIdle ServerRows.requestEqual ServerRows.requestCell ServerRows.pingEqual ServerRows.pingCell
+    ServerRows.whereReplied ServerRows.acknowledgementCell ServerRows.ackCell ServerRows.runningCancel ServerRows.cancelEqual
+    ServerRows.cancelCell ServerRows.requestPut ServerRows.isForServer ServerRows.arrivalCell ServerRows.transmitRow ServerRows.faultRow
+    ServerRows.timerCell ServerRows.arms
     ServerRefusals.replyRefusals ServerRefusals.replyVerdict ServerRefusals.transmitRefusals ServerRefusals.transmitVerdict
     ServerRefusals.faultRefusals ServerRefusals.faultVerdict ServerRefusals.timerRefusals ServerRefusals.timerVerdict
     ServerRefusals.isRequest ServerRefusals.isMaybeOrBroadcast ServerRefusals.isMalformed ServerRefusals.puts ServerRefusals.slotsFor

@@ -29,7 +29,7 @@ use Rattle.server.specs.declared.records.Server.{Server}
 use Rattle.server.specs.records.Rules.{sound}
 use Rattle.server.specs.declared.judge.Verdict.{Verdict}
 use Rattle.server.specs.declared.judge.Verdict.the-variants.{Refuse, Go}
-use Rattle.server.specs.judge.Rows.{arrivalRow}
+use Rattle.server.specs.judge.Rows.{arrivalCell}
 use Rattle.server.specs.judge.Refusals.{transmitVerdict, timerVerdict, faultVerdict, pduRefusals, arrivalRefusals, arrivalVerdict}
 use Rattle.server.specs.declared.step.Send.the-variants.{Nothing}
 use Rattle.server.specs.declared.step.Plan.{Plan}
@@ -120,8 +120,8 @@ arrivalAs s r body =
     firstOf Refuse
     (BrokenRecord when not (sound s)
     ∷ OtherActivity when not (same (s .activity) (r .header .activity))
-    ∷ pduRefusals s (r .header) (r .little) body (arrivalRow s (r .header) (r .little) body))
-    (arrivalRow s (r .header) (r .little) body)
+    ∷ pduRefusals s (r .header) (r .little) body (arrivalCell s (r .header) (r .little) body))
+    (arrivalCell s (r .header) (r .little) body)
 
 -- on one as it was written,
 abbrev serverArrival : Server → Header → List ℕ → Verdict
@@ -135,7 +135,7 @@ arrival-judged s slots out h body k whole room =
     let d = datagram h body in
     let read = carried-read h body k in
     let rest = carried-body h body k in
-    let row = arrivalRow s (reading d .header) (reading d .little) (bodyOf d) in
+    let row = arrivalCell s (reading d .header) (reading d .little) (bodyOf d) in
     read-on Refuse (WrongLength when not (lentRight (length slots) (length out))) (BrokenRecord when not (sound s))
     (readRefusals d)
     (OtherActivity when not (same (s .activity) (reading d .header .activity))

@@ -42,7 +42,7 @@ use Rattle.server.specs.declared.judge.Row.{Row}
 use Rattle.server.specs.declared.judge.Row.the-variants.{Reply as ReplyRow, TransmitMore, TransmitRepeatable, TransmitHeld, FaultRepeatable, FaultHeld, ResendData, ResendFault, Spend, Begin, Put, Working, Nocall, Rewind, RepeatFault, Acknowledge, HearCancel, AcceptCancel, DeclineCancel}
 use Rattle.server.specs.declared.judge.Verdict.{Verdict}
 use Rattle.server.specs.declared.judge.Verdict.the-variants.{Refuse, Go}
-use Rattle.server.specs.judge.Rows.{says, orderFor, requestPut, arrivalRow}
+use Rattle.server.specs.judge.Rows.{says, orderFor, requestPut, arrivalCell}
 use Rattle.server.specs.judge.Refusals.{isRequest, isMaybeOrBroadcast, isMalformed, puts, slotsFor, isHeldAlready, sameCall, isOtherCall, isContradiction, pduRefusals, pduVerdict, arrivalRefusals, arrivalVerdict}
 use Rattle.server.proofs.TableLaws.{Begins, RowTells, Stops, row-tells, table-stops}
 use Rattle.server.proofs.Judging.{CanBegin, CanCollect, CanTake, Judged, Takes, table-passed, second-fails}
@@ -57,7 +57,7 @@ pub record RequestPassed (s : Server) (h : Header) : Type 0 where
 
 -- A PDU of whose table no test holds.
 module _ (s : Server) (h : Header) (little : Bool) (body : List ℕ)
-    (passed : AllPassed (pduRefusals s h little body (arrivalRow s h little body))) where
+    (passed : AllPassed (pduRefusals s h little body (arrivalCell s h little body))) where
   -- A request is so,
   pub request-passed : h .kind ≡ 0 → RequestPassed s h
   unfolding pduRefusals isRequest isContradiction isOtherCall
@@ -96,18 +96,18 @@ module _ (s : Server) (h : Header) (little : Bool) (body : List ℕ)
   body-formed = passed .1 .1 .1 .1 .0
 
   -- and a row stands behind the table.
-  pub row-stands : Takes (arrivalRow s h little body)
+  pub row-stands : Takes (arrivalCell s h little body)
   unfolding pduRefusals
-  row-stands = by-verdict (arrivalRow s h little body) refl
+  row-stands = by-verdict (arrivalCell s h little body) refl
     where
-      stopped : (r : Refusal) → arrivalRow s h little body ≡ Refuse r → Stops h (Refuse r) → ⊥
+      stopped : (r : Refusal) → arrivalCell s h little body ≡ Refuse r → Stops h (Refuse r) → ⊥
       stopped r is (inl old) = false≢true (sym (passed .1 .1 .1 .0) ∙ ap (says OldCall) is ∙ old)
       stopped r is (inr (inl none)) = false≢true (sym (passed .1 .1 .1 .1 .1 .0) ∙ ap (says NoRow) is ∙ none)
       stopped r is (inr (inr (inl again))) =
           false≢true (sym (either-false _ _ (passed .1 .1 .1 .1 .1 .1 .0) .0) ∙ ap (says Repeated) is ∙ again)
       stopped r is (inr (inr (inr foreign))) = false≢true (sym foreign ∙ not-false _ (passed .0))
 
-      by-verdict : (v : Verdict) → arrivalRow s h little body ≡ v → Takes (arrivalRow s h little body)
+      by-verdict : (v : Verdict) → arrivalCell s h little body ≡ v → Takes (arrivalCell s h little body)
       by-verdict (Refuse r) is = absurd (stopped r is (table-stops s h little body r is))
       by-verdict (Go row) is = record { row = row; is = is }
 
@@ -179,7 +179,7 @@ pub record ArriveTaken (s : Server) (slots out : ℕ) (d : List ℕ) (row : Row)
   pub read : reading d .answer ≡ Done
   pub short : length (bodyOf d) ≤ bodySize
   pub activity : s .activity ≡ reading d .header .activity
-  pub is : arrivalRow s (reading d .header) (reading d .little) (bodyOf d) ≡ Go row
+  pub is : arrivalCell s (reading d .header) (reading d .little) (bodyOf d) ≡ Go row
   pub formed : isMalformed (reading d .header .kind) (reading d .little) (bodyOf d) ≡ false
   pub request : reading d .header .kind ≡ 0 → RequestPassed s (reading d .header)
   pub told : RowTells row s (reading d .header) (reading d .little) (bodyOf d)
@@ -192,7 +192,7 @@ arrive-taken s slots out d row e =
     let h = reading d .header in
     let little = reading d .little in
     let body = bodyOf d in
-    let told = table-passed (arrivalRefusals s slots out d) (arrivalRow s h little body) row e in
+    let told = table-passed (arrivalRefusals s slots out d) (arrivalCell s h little body) row e in
     let parts = passed-parts (readRefusals d) _ (told .0 .1 .1) in
     let pdu = parts .1 .1 in
     let lent = lent-right slots out (not-false _ (told .0 .0)) in
@@ -220,7 +220,7 @@ pub entered-judged : (s : Server) (slots out : ℕ) (d : List ℕ) → slots ≡
 unfolding arrivalVerdict arrivalRefusals pduVerdict firstOf lentRight
 entered-judged s slots out d room buffer kept read own =
     let h = reading d .header in
-    let row = arrivalRow s h (reading d .little) (bodyOf d) in
+    let row = arrivalCell s h (reading d .little) (bodyOf d) in
     let lent = both-hold _ _ (eq-eqb slots slotsSize room) (eq-eqb out pduSize buffer) in
     let named = ap (same (s .activity)) (sym own) ∙ same-self (s .activity) in
     choose-false (not (both (eqb slots slotsSize) (eqb out pduSize))) _ _ (ap not lent)

@@ -33,7 +33,7 @@ use Rattle.server.specs.declared.judge.Row.{Row}
 use Rattle.server.specs.declared.judge.Row.the-variants.{HearCancel, AcceptCancel, DeclineCancel}
 use Rattle.server.specs.declared.judge.Verdict.{Verdict}
 use Rattle.server.specs.declared.judge.Verdict.the-variants.{Refuse, Go}
-use Rattle.server.specs.judge.Rows.{says, orderOf, orderFor, runningCancel, cancelEqual, cancelRow, isForServer}
+use Rattle.server.specs.judge.Rows.{says, orderOf, orderFor, runningCancel, cancelEqual, cancelCell, isForServer}
 use Rattle.server.specs.judge.Refusals.{isRequest, isMalformed, isContradiction, pduRefusals, pduVerdict, arrivalVerdict}
 use Rattle.server.specs.Machine.{refused, arrivalBy, arriving}
 use Rattle.server.proofs.TableLaws.{choice-by, newer-ordered, equal-ordered, below-ordered, cancel-arrives}
@@ -115,8 +115,8 @@ idle-row (Held reply) seen n e = absurd (false≢true e)
 pub cancel-rows : (s : Server) (order : Order) (n : ℕ) (P : Verdict → Type 0) → P (Refuse OldCall) → P (Refuse NoRow)
     → (s .state ≡ Running → s .seen < n → P (Go (HearCancel n)))
     → (s .state ≡ Running → n ≤ s .seen → P (Go (AcceptCancel n)))
-    → (isRunning (s .state) ≡ false → P (Go (DeclineCancel n))) → P (cancelRow order (s .state) (s .seen) n)
-unfolding cancelRow cancelEqual runningCancel isRunning
+    → (isRunning (s .state) ≡ false → P (Go (DeclineCancel n))) → P (cancelCell order (s .state) (s .seen) n)
+unfolding cancelCell cancelEqual runningCancel isRunning
 cancel-rows s order n P old none hear accept decline = by-order order
   where
     by-state : (state : State) → s .state ≡ state → P (cancelEqual state (s .seen) n)
@@ -128,17 +128,17 @@ cancel-rows s order n P old none hear accept decline = by-order order
     by-state Replying is = decline (ap isRunning is)
     by-state (Held reply) is = decline (ap isRunning is)
 
-    by-order : (o : Order) → P (cancelRow o (s .state) (s .seen) n)
+    by-order : (o : Order) → P (cancelCell o (s .state) (s .seen) n)
     by-order Below = old
     by-order Equal = by-state (s .state) refl
     by-order Newer = none
 
 -- Only a number below is old.
 unold : (s : Server) (order : Order) (n : ℕ) → (order ≡ Newer) ⊎ (order ≡ Equal)
-    → says OldCall (cancelRow order (s .state) (s .seen) n) ≡ false
-unfolding cancelRow says
-unold s order n (inl e) = ap (λ (x : Order). says OldCall (cancelRow x (s .state) (s .seen) n)) e
-unold s order n (inr e) = ap (λ (x : Order). says OldCall (cancelRow x (s .state) (s .seen) n)) e ∙ by-state (s .state)
+    → says OldCall (cancelCell order (s .state) (s .seen) n) ≡ false
+unfolding cancelCell says
+unold s order n (inl e) = ap (λ (x : Order). says OldCall (cancelCell x (s .state) (s .seen) n)) e
+unold s order n (inr e) = ap (λ (x : Order). says OldCall (cancelCell x (s .state) (s .seen) n)) e ∙ by-state (s .state)
   where
     by-state : (x : State) → says OldCall (cancelEqual x (s .seen) n) ≡ false
     by-state (IdleState idle) = unfold cancelEqual says in refl
@@ -161,7 +161,7 @@ not-below false mine theirs (inr most) = by-order (ltb mine theirs) refl
 -- Of a PDU of type 8 nothing is judged but 13, 14 and 15: 13 first, then its body, then what the table says.
 module _ (s : Server) (h : Header) (little : Bool) (body : List ℕ) (typed : h .kind ≡ 8) where
   abbrev says-of : Verdict
-  says-of = cancelRow (orderFor s h) (s .state) (s .seen) (cancelNumberIn little body)
+  says-of = cancelCell (orderFor s h) (s .state) (s .seen) (cancelNumberIn little body)
 
   abbrev inOrder : Verdict → Verdict
   inOrder v = choose (says OldCall v) (Refuse OldCall) (choose (cancelMalformed little body) (Refuse MalformedBody) v)
@@ -208,7 +208,7 @@ module _ (s : Server) (datagram slots out : List ℕ) where
 
   module _ (c : CancelComes s datagram slots out) where
     abbrev row : Verdict
-    row = cancelRow (orderFor s h) (s .state) (s .seen) (cancelNumber datagram)
+    row = cancelCell (orderFor s h) (s .state) (s .seen) (cancelNumber datagram)
 
     judged : verdict
         ≡ choose (says OldCall row) (Refuse OldCall)
@@ -223,9 +223,9 @@ module _ (s : Server) (datagram slots out : List ℕ) where
 
     -- A cancel of a call below the server's is 13, whatever its body is.
     pub old-cancel : isFresh (s .state) ≡ false → h .number < s .number → answer ≡ Refused OldCall
-    unfolding orderFor cancelRow says
+    unfolding orderFor cancelCell says
     old-cancel known below =
-        let is = ap (λ (x : Order). cancelRow x (s .state) (s .seen) (cancelNumber datagram))
+        let is = ap (λ (x : Order). cancelCell x (s .state) (s .seen) (cancelNumber datagram))
         (below-ordered (isFresh (s .state)) (s .number) (h .number) known below) in
         answered-by OldCall (judged ∙ choose-true (says OldCall row) _ _ (ap (says OldCall) is))
 
@@ -251,31 +251,31 @@ module _ (s : Server) (datagram slots out : List ℕ) where
 
       -- one of a newer call, or to a fresh server, is 15,
       pub newer-cancel : (isFresh (s .state) ≡ true) ⊎ (s .number < h .number) → answer ≡ Refused NoRow
-      unfolding orderFor cancelRow
+      unfolding orderFor cancelCell
       newer-cancel newer =
-          rowless (ap (λ (x : Order). cancelRow x (s .state) (s .seen) (cancelNumber datagram))
+          rowless (ap (λ (x : Order). cancelCell x (s .state) (s .seen) (cancelNumber datagram))
           (newer-ordered (isFresh (s .state)) (s .number) (h .number) newer))
 
       -- one of the record's own call is 15 in IDLE,
       pub idle-cancel : s .number ≡ h .number → isIdle (s .state) ≡ true → answer ≡ Refused NoRow
-      unfolding orderFor cancelRow
+      unfolding orderFor cancelCell
       idle-cancel equal idle = by-fresh (isFresh (s .state)) refl
         where
           by-fresh : (t : Bool) → isFresh (s .state) ≡ t → answer ≡ Refused NoRow
           by-fresh true e = newer-cancel (inl e)
           by-fresh false e =
               rowless
-              (ap (λ (x : Order). cancelRow x (s .state) (s .seen) (cancelNumber datagram))
+              (ap (λ (x : Order). cancelCell x (s .state) (s .seen) (cancelNumber datagram))
               (equal-ordered (isFresh (s .state)) (s .number) (h .number) e equal)
               ∙ idle-row (s .state) (s .seen) (cancelNumber datagram) idle)
 
       -- and elsewhere it takes its row.
       pub own-cancel-taken : s .number ≡ h .number → isIdle (s .state) ≡ false
           → verdict ≡ Go (choose (isRunning (s .state)) (runningCancel (s .seen) (cancelNumber datagram)) (DeclineCancel (cancelNumber datagram)))
-      unfolding orderFor cancelRow says
+      unfolding orderFor cancelCell says
       own-cancel-taken equal busy =
           formed-judged (Go _)
-          (ap (λ (x : Order). cancelRow x (s .state) (s .seen) (cancelNumber datagram))
+          (ap (λ (x : Order). cancelCell x (s .state) (s .seen) (cancelNumber datagram))
           (equal-ordered (isFresh (s .state)) (s .number) (h .number) (busy-unfresh (s .state) busy) equal)
           ∙ busy-row (s .state) (s .seen) (cancelNumber datagram) busy)
           refl

@@ -36,7 +36,7 @@ use Rattle.server.specs.declared.judge.Row.{Row}
 use Rattle.server.specs.declared.judge.Row.the-variants.{HearCancel, AcceptCancel, DeclineCancel}
 use Rattle.server.specs.declared.judge.Verdict.{Verdict}
 use Rattle.server.specs.declared.judge.Verdict.the-variants.{Go}
-use Rattle.server.specs.judge.Rows.{orderFor, runningCancel, cancelRow}
+use Rattle.server.specs.judge.Rows.{orderFor, runningCancel, cancelCell}
 use Rattle.server.specs.declared.step.Send.{Send}
 use Rattle.server.specs.declared.step.Send.the-variants.{CancelAck}
 use Rattle.server.specs.step.Plan.{going}
@@ -249,7 +249,7 @@ module _ (s : Server) (datagram slots out : List ℕ) where
       Q : Row → Type 0
       Q row = P (acted (stepOf row s h) h (bodyOf datagram) slots out)
 
-      by-row : (row : Row) → cancelRow (orderFor s h) (s .state) (s .seen) (cancelNumber datagram) ≡ Go row → Q row
+      by-row : (row : Row) → cancelCell (orderFor s h) (s .state) (s .seen) (cancelNumber datagram) ≡ Go row → Q row
       by-row row =
           cancel-rows s (orderFor s h) (cancelNumber datagram) (λ (v : Verdict). v ≡ Go row → Q row)
           (λ is. absurd (refusal-no-row OldCall row is)) (λ is. absurd (refusal-no-row NoRow row is))

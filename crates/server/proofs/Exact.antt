@@ -27,9 +27,8 @@ use Rattle.incoming.specs.declared.Incoming.{Incoming}
 use Rattle.incoming.specs.Slots.{cleared, stored}
 use Rattle.incoming.proofs.SlotLaws.{cleared-sound}
 use Rattle.outgoing.specs.Message.{fragments}
-use Rattle.outgoing.specs.Sending.{replied}
+use Rattle.outgoing.specs.Sending.{acknowledgedTo, replied}
 use Rattle.outgoing.proofs.OutgoingLaws.{message-count}
-use Rattle.outgoing.proofs.SendLaws.{acknowledged-larger}
 use Rattle.pdu.specs.declared.Header.{Header}
 use Rattle.pdu.specs.Header.{bodyOf, blank}
 use Rattle.reader.specs.Reading.{reading}
@@ -44,10 +43,10 @@ use Rattle.server.specs.step.Plan.{going}
 use Rattle.server.specs.step.Steps.{answered, repeatable, putPlan, acknowledged, stepOf}
 use Rattle.server.specs.declared.Outcome.{Outcome}
 use Rattle.server.specs.Machine.{done, replying, sending, transmitting, acted, arriving}
-use Rattle.server.proofs.RuleLaws.{rules-told, count-most}
+use Rattle.server.proofs.RuleLaws.{rules-told}
 use Rattle.server.proofs.TableLaws.{fack-row}
 use Rattle.server.proofs.StepLaws.{transmitted-one-more, begin-held, put-held}
-use Rattle.server.proofs.Judging.{CanTake, transmit-rows, reply-taken, transmit-taken}
+use Rattle.server.proofs.Judging.{transmit-rows, reply-taken, transmit-taken}
 use Rattle.server.proofs.Arriving.{ArriveTaken, arrive-taken}
 use Rattle.server.proofs.Accepting.{reply-accepted, transmit-accepted, arrive-accepted, reply-is, transmit-is, arrive-is}
 

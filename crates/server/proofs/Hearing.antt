@@ -26,7 +26,7 @@ use Rattle.server.specs.declared.judge.Row.{Row}
 use Rattle.server.specs.declared.judge.Row.the-variants.{Begin, HearCancel}
 use Rattle.server.specs.declared.judge.Verdict.{Verdict}
 use Rattle.server.specs.declared.judge.Verdict.the-variants.{Go}
-use Rattle.server.specs.judge.Rows.{orderFor, requestPut, arrivalRow}
+use Rattle.server.specs.judge.Rows.{orderFor, requestPut, arrivalCell}
 use Rattle.server.specs.judge.Refusals.{arrivalVerdict}
 use Rattle.server.specs.step.Plan.{going}
 use Rattle.server.specs.step.Steps.{answered, transmitted, repeatable, rewinding, begun, putNotice, putPlan, heardPlan, stepOf}
@@ -182,7 +182,7 @@ module _ (s : Server) (datagram slots out : List ℕ) where
   pub request-begins : h .kind ≡ 0
       → (((isFresh (s .state) ≡ true) ⊎ (s .number < h .number)) × (isRunning (s .state) ≡ false))
       ⊎ ((s .state ≡ IdleState Repeatable) × (s .number ≡ h .number) × (hasFlag idempotent (h .flags1) ≡ true))
-      → arrivalRow s h (reading datagram .little) (bodyOf datagram) ≡ Go (Begin (requestPut cleared h (bodyOf datagram)))
+      → arrivalCell s h (reading datagram .little) (bodyOf datagram) ≡ Go (Begin (requestPut cleared h (bodyOf datagram)))
   unfolding orderFor isFresh neverCalled
   request-begins typed (inl newer) =
       newer-begins s h (reading datagram .little) (bodyOf datagram) typed
@@ -193,7 +193,7 @@ module _ (s : Server) (datagram slots out : List ℕ) where
 
   -- A request that is taken and begins a call leaves 0 as the number last seen,
   pub begin-forgets-seen : (p : Fragment) → arriving s datagram slots out .outcome .answer ≡ Done
-      → arrivalRow s h (reading datagram .little) (bodyOf datagram) ≡ Go (Begin p) → after .seen ≡ 0
+      → arrivalCell s h (reading datagram .little) (bodyOf datagram) ≡ Go (Begin p) → after .seen ≡ 0
   unfolding acted sending done stepOf putPlan begun withIncoming unarmed
   begin-forgets-seen p is has =
       ap (λ (x : Arrival Outcome). x .outcome .server .seen)

@@ -1,18 +1,14 @@
 -- The numbers of each table of refusals rise, so the lowest position decides: where the test of a line holds, the event is
 -- refused with a number at most that line's; where none does, it takes a row.
-use Prim.Native.Nat.{ℕ, _≤_}
-use mathlib.Core.Bool.{true, true≢false, false≢true}
+use Prim.Native.Nat.{ℕ}
+use mathlib.Core.Bool.{true, false≢true}
 use mathlib.Core.List.{List, []}
-use mathlib.Core.Path.{_≡_, refl, sym, ap, subst, _∙_}
+use mathlib.Core.Path.{_≡_, refl, _∙_}
 use lib.ListN.{length}
 use borrow.Author.Tests.{not-false}
 use Rattle.words.specs.Choice.{choose, both}
-use Rattle.answers.specs.declared.Refusal.{Refusal}
-use Rattle.answers.specs.declared.Answer.{Answer}
-use Rattle.answers.specs.declared.Answer.the-variants.{Done, Refused}
-use Rattle.answers.specs.Number.{refusalNumber}
-use Rattle.answers.specs.Table.{Line, firstOf, answerOf, behindAnswer, risesFrom}
-use Rattle.answers.proofs.TableLaws.{by-answer, AllPassed, all-behind, answer-done, passed-parts, Stands, passed-line, lowest-decides}
+use Rattle.answers.specs.Table.{Line, risesFrom}
+use Rattle.answers.proofs.TableLaws.{AllPassed, all-behind, passed-parts, Stands, RefusedAtMost, lowest}
 use Rattle.outgoing.specs.Message.{fragmentOf}
 use Rattle.pdu.specs.Header.{bodyOf}
 use Rattle.reader.specs.Reading.{readerRefusals, readRefusals, reading}
@@ -20,39 +16,11 @@ use Rattle.server.specs.declared.records.Server.{Server}
 use Rattle.server.specs.declared.judge.Row.the-variants.{Reply as ReplyRow}
 use Rattle.server.specs.declared.judge.Verdict.{Verdict}
 use Rattle.server.specs.declared.judge.Verdict.the-variants.{Refuse, Go}
-use Rattle.server.specs.judge.Rows.{isRow, arrivalRow, transmitRow, faultRow, timerRow}
+use Rattle.server.specs.judge.Rows.{isRow, arrivalCell, transmitRow, faultRow, timerCell}
 use Rattle.server.specs.judge.Refusals.{replyRefusals, replyVerdict, transmitRefusals, transmitVerdict, faultRefusals, faultVerdict, timerRefusals, timerVerdict, pduRefusals, arrivalRefusals, arrivalVerdict}
 use Rattle.server.specs.Machine.{refused, replyBy, replying, stepBy, transmitting, timing, faulting, arrivalBy, arriving}
 use Rattle.server.proofs.Judging.{Takes}
 use Rattle.server.proofs.Arriving.{row-stands}
-
--- Refused with a number at most that of a line.
-pub record RefusedAtMost (a : Answer) (most : Refusal) : Type 0 where
-  pub refusal : Refusal
-  pub is : a ≡ Refused refusal
-  pub low : refusalNumber refusal ≤ refusalNumber most
-
--- What a table gives where the test of one of its lines holds, told by the answer to what it gives.
-lowest : (answer : Verdict → Answer) → ((r : Refusal) → answer (Refuse r) ≡ Refused r)
-    → (table : List Line) (behind : Verdict)
-    → risesFrom 0 table ≡ true → (line : Line) → Stands line table → line .test ≡ true
-    → RefusedAtMost (answer (firstOf Refuse table behind)) (line .refusal)
-unfolding behindAnswer
-lowest answer told table behind rises line stands holds = by-answered (answerOf table) refl
-  where
-    least : firstOf refusalNumber table 0 ≤ refusalNumber (line .refusal)
-    least = lowest-decides 0 table rises line stands holds 0
-
-    by-answered : (a : Answer) → answerOf table ≡ a
-        → RefusedAtMost (answer (firstOf Refuse table behind)) (line .refusal)
-    by-answered Done e = absurd (true≢false (sym holds ∙ passed-line table (answer-done table e) line stands))
-    by-answered (Refused r) e = record {
-      refusal = r;
-      is = ap answer (by-answer Refuse table behind ∙ ap (behindAnswer Refuse behind) e) ∙ told r;
-      low =
-          subst (λ (n : ℕ). n ≤ refusalNumber (line .refusal)) (by-answer refusalNumber table 0 ∙ ap (behindAnswer refusalNumber 0) e)
-          least;
-    }
 
 module _ (s : Server) where
   -- Reply,
@@ -63,7 +31,7 @@ module _ (s : Server) where
   pub reply-lowest : (n : ℕ) (line : Line) → Stands line (replyRefusals s n) → line .test ≡ true
       → RefusedAtMost (replying s n .answer) (line .refusal)
   unfolding replying replyVerdict replyBy refused
-  reply-lowest n = lowest (λ v. replyBy v s .answer) (λ r. refl) (replyRefusals s n) _ (reply-rise n)
+  reply-lowest n = lowest Refuse (λ v. replyBy v s .answer) (λ r. refl) (replyRefusals s n) _ (reply-rise n)
 
   -- transmit,
   pub transmit-rise : (message out : ℕ) → risesFrom 0 (transmitRefusals s message out) ≡ true
@@ -75,7 +43,7 @@ module _ (s : Server) where
       → line .test ≡ true → RefusedAtMost (transmitting s message out .outcome .answer) (line .refusal)
   unfolding transmitting transmitVerdict stepBy refused
   transmit-lowest message out =
-      lowest (λ v. stepBy v s (fragmentOf message (s .outgoing .sent)) out .outcome .answer) (λ r. refl)
+      lowest Refuse (λ v. stepBy v s (fragmentOf message (s .outgoing .sent)) out .outcome .answer) (λ r. refl)
       (transmitRefusals s (length message) (length out)) _ (transmit-rise (length message) (length out))
 
   -- fault,
@@ -88,21 +56,21 @@ module _ (s : Server) where
       → RefusedAtMost (faulting s status out .outcome .answer) (line .refusal)
   unfolding faulting faultVerdict stepBy refused
   fault-lowest status out =
-      lowest (λ v. stepBy v s [] out .outcome .answer) (λ r. refl) (faultRefusals s status (length out)) _ (fault-rise status (length out))
+      lowest Refuse (λ v. stepBy v s [] out .outcome .answer) (λ r. refl) (faultRefusals s status (length out)) _ (fault-rise status (length out))
 
   -- the timer,
-  pub timer-rise : (ticket out : ℕ) (row : Verdict) → risesFrom 0 (timerRefusals s ticket out row) ≡ true
+  pub timer-rise : (ticket out : ℕ) (cell : Verdict) → risesFrom 0 (timerRefusals s ticket out cell) ≡ true
   unfolding timerRefusals both choose
-  timer-rise ticket out row = refl
+  timer-rise ticket out cell = refl
 
   pub timer-lowest : (ticket : ℕ) (out : List ℕ) (line : Line)
-      → Stands line (timerRefusals s ticket (length out) (timerRow (s .state) (s .resends))) → line .test ≡ true
+      → Stands line (timerRefusals s ticket (length out) (timerCell (s .state) (s .resends))) → line .test ≡ true
       → RefusedAtMost (timing s ticket out .outcome .answer) (line .refusal)
   unfolding timing timerVerdict stepBy refused
   timer-lowest ticket out =
-      lowest (λ v. stepBy v s [] out .outcome .answer) (λ r. refl)
-      (timerRefusals s ticket (length out) (timerRow (s .state) (s .resends))) _
-      (timer-rise ticket (length out) (timerRow (s .state) (s .resends)))
+      lowest Refuse (λ v. stepBy v s [] out .outcome .answer) (λ r. refl)
+      (timerRefusals s ticket (length out) (timerCell (s .state) (s .resends))) _
+      (timer-rise ticket (length out) (timerCell (s .state) (s .resends)))
 
   -- and an arriving datagram.
   pub arrival-rise : (slots out : ℕ) (d : List ℕ) → risesFrom 0 (arrivalRefusals s slots out d) ≡ true
@@ -114,9 +82,9 @@ module _ (s : Server) where
       → line .test ≡ true → RefusedAtMost (arriving s datagram slots out .outcome .answer) (line .refusal)
   unfolding arriving arrivalVerdict arrivalBy refused
   arrival-lowest datagram slots out =
-      lowest (λ v. arrivalBy v s (reading datagram .header) (bodyOf datagram) slots out .outcome .answer) (λ r. refl)
+      lowest Refuse (λ v. arrivalBy v s (reading datagram .header) (bodyOf datagram) slots out .outcome .answer) (λ r. refl)
       (arrivalRefusals s (length slots) (length out) datagram)
-      (arrivalRow s (reading datagram .header) (reading datagram .little) (bodyOf datagram)) (arrival-rise (length slots) (length out) datagram)
+      (arrivalCell s (reading datagram .header) (reading datagram .little) (bodyOf datagram)) (arrival-rise (length slots) (length out) datagram)
 
 -- Where no test of its table holds, a reply takes a row,
 module _ (s : Server) where
@@ -142,11 +110,11 @@ module _ (s : Server) where
   row-of (Refuse r) e = absurd (false≢true e)
   row-of (Go row) e = record { row = row; is = refl }
 
-  pub timer-goes : (ticket out : ℕ) → AllPassed (timerRefusals s ticket out (timerRow (s .state) (s .resends)))
+  pub timer-goes : (ticket out : ℕ) → AllPassed (timerRefusals s ticket out (timerCell (s .state) (s .resends)))
       → Takes (timerVerdict s ticket out)
   unfolding timerVerdict timerRefusals
   timer-goes ticket out passed =
-      let v = timerRow (s .state) (s .resends) in
+      let v = timerCell (s .state) (s .resends) in
       let has = row-of v (not-false (isRow v) (passed .1 .1 .0)) in
       record { row = has .row; is = all-behind Refuse (timerRefusals s ticket out v) v passed ∙ has .is }
 
@@ -155,6 +123,6 @@ module _ (s : Server) where
   unfolding arrivalVerdict arrivalRefusals
   arrival-goes slots out d passed =
       let h = reading d .header in
-      let v = arrivalRow s h (reading d .little) (bodyOf d) in
+      let v = arrivalCell s h (reading d .little) (bodyOf d) in
       let has = row-stands s h (reading d .little) (bodyOf d) (passed-parts (readRefusals d) _ (passed .1 .1) .1 .1) in
       record { row = has .row; is = all-behind Refuse (arrivalRefusals s slots out d) v passed ∙ has .is }

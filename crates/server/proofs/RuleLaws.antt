@@ -1,17 +1,15 @@
 -- What a record that keeps its rules is known to be.
-use Prim.Native.Nat.{ℕ, _+_, _≤_, _<_}
+use Prim.Native.Nat.{ℕ, _<_}
 use mathlib.Core.Bool.{Bool, true, false, false≢true}
 use mathlib.Core.Path.{_≡_, refl, subst}
-use native.Mathlib.Omega.{arith}
 use lib.Dec.{ltb, leb}
-use borrow.Author.Tests.{ltb-true, lt-ltb, eqb-true}
+use borrow.Author.Tests.{ltb-true, lt-ltb}
 use Rattle.words.specs.Choice.{choose, both, either}
-use Rattle.words.specs.Sizes.{lastNumber, retryLimit}
+use Rattle.words.specs.Sizes.{retryLimit}
 use Rattle.words.proofs.Tests.{both-true, both-hold}
 use Rattle.incoming.specs.Slots.{sound as incomingSound}
 use Rattle.outgoing.specs.declared.Outgoing.{Outgoing}
 use Rattle.outgoing.specs.Sending.{bounded, hasMessage, hasNothing}
-use Rattle.outgoing.proofs.SendLaws.{message-count-range}
 use Rattle.timers.specs.declared.Timer.the-variants.{Off}
 use Rattle.timers.specs.Tickets.{timerSound}
 use Rattle.timers.proofs.TimerLaws.{unnamed-off}
@@ -121,19 +119,10 @@ module _ (o : Outgoing) where
   unfolding messageRule idleRule
   spent-holds state e = out-holds (IdleState Spent) (out-told state e .0) (one-told state (out-told state e .1))
 
-  -- in IDLE repeatable too,
+  -- and in IDLE repeatable.
   pub repeatable-holds : (state : State) → outgoingSound state o ≡ true → outgoingSound (IdleState Repeatable) o ≡ true
   unfolding messageRule idleRule
   repeatable-holds state e = out-holds (IdleState Repeatable) (out-told state e .0) (one-told state (out-told state e .1))
-
-  -- and it has at most 32 fragments.
-  pub count-most : (state : State) → outgoingSound state o ≡ true → o .count ≤ lastNumber + 1
-  unfolding either choose hasNothing
-  count-most state e = by-nothing (hasNothing o) refl (one-told state (out-told state e .1))
-    where
-      by-nothing : (t : Bool) → hasNothing o ≡ t → choose t true (hasMessage o) ≡ true → o .count ≤ lastNumber + 1
-      by-nothing true none one = let zero-count : o .count ≡ 0 = eqb-true (o .count) 0 none in omega arith
-      by-nothing false none one = message-count-range o one .1
 
 -- In a sound record RESEND is off where the state does not name it.
 module _ (s : Server) (kept : sound s ≡ true) where

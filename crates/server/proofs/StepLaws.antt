@@ -34,7 +34,7 @@ use Rattle.server.specs.declared.step.Send.the-variants.{Nothing, Respon
 use Rattle.server.specs.step.Plan.{going}
 use Rattle.server.specs.step.Steps.{answered, transmitted, repeatable, rewinding, begun, putState, putPlan, acknowledged, heardPlan, stepOf}
 use Rattle.server.proofs.StateLaws.{running-state, replying-state}
-use Rattle.server.proofs.RuleLaws.{rules-told, rules-hold, out-told, out-holds, collect-told, running-told, data-told, replying-told, replying-holds, repeatable-holds, count-most}
+use Rattle.server.proofs.RuleLaws.{rules-told, rules-hold, out-told, out-holds, collect-told, running-told, data-told, replying-told, replying-holds, repeatable-holds}
 use Rattle.server.proofs.RecordLaws.{Untimed, untimed-told, holding-sound, unarmed-sound, spent-sound}
 use Rattle.server.proofs.Judging.{CanTransmitMore, Judged}
 

@@ -29,7 +29,7 @@ use Rattle.server.specs.declared.judge.Row.{Row}
 use Rattle.server.specs.declared.judge.Row.the-variants.{Reply as ReplyRow, TransmitMore, TransmitRepeatable, TransmitHeld, FaultRepeatable, FaultHeld, ResendData, ResendFault, Spend, Begin, Put, Working, Nocall, Rewind, RepeatFault, Acknowledge, HearCancel, AcceptCancel, DeclineCancel}
 use Rattle.server.specs.declared.judge.Verdict.{Verdict}
 use Rattle.server.specs.declared.judge.Verdict.the-variants.{Refuse, Go}
-use Rattle.server.specs.judge.Rows.{isRow, says, orderBy, orderOf, orderFor, replayRow, requestNewer, requestAgain, requestIdle, requestEqual, requestRow, pingEqual, pingRow, whereReplied, acknowledgementRow, ackRow, runningCancel, cancelEqual, cancelRow, requestPut, isForServer, arrivalRow}
+use Rattle.server.specs.judge.Rows.{isRow, says, orderBy, orderOf, orderFor, replayRow, requestNewer, requestAgain, requestIdle, requestEqual, requestCell, pingEqual, pingCell, whereReplied, acknowledgementCell, ackCell, runningCancel, cancelEqual, cancelCell, requestPut, isForServer, arrivalCell}
 
 -- What is known of both ways of a choice, by its test, is known of it.
 pub choice-by : {A : Type 0} (P : A → Type 0) (t : Bool) (a b : A) → (t ≡ true → P a) → (t ≡ false → P b)
@@ -165,9 +165,9 @@ Tells s h little body (Refuse r) = Stops h (Refuse r)
 Tells s h little body (Go row) = RowTells row s h little body
 
 -- What stands in REPLYING and HELD alone is what it is, where it has a row.
-replied-row : (order : Order) (state : State) (v : Verdict) (row : Row) → acknowledgementRow order state v ≡ Go row
+replied-row : (order : Order) (state : State) (v : Verdict) (row : Row) → acknowledgementCell order state v ≡ Go row
     → v ≡ Go row
-unfolding acknowledgementRow whereReplied
+unfolding acknowledgementCell whereReplied
 replied-row Below state v row e = absurd (refusal-no-row OldCall row e)
 replied-row Equal (IdleState idle) v row e = absurd (refusal-no-row NoRow row e)
 replied-row Equal Collect v row e = absurd (refusal-no-row NoRow row e)
@@ -217,8 +217,8 @@ module _ (s : Server) (h : Header) (little : Bool) (body : List ℕ) where
   -- or any;
   request-tells : (order : Order) → h .kind ≡ 0 → orderFor s h ≡ order
       → Tells s h little body
-      (requestRow order (s .state) (hasFlag idempotent (h .flags1)) (requestPut cleared h body) (requestPut (s .incoming) h body))
-  unfolding requestRow says
+      (requestCell order (s .state) (hasFlag idempotent (h .flags1)) (requestPut cleared h body) (requestPut (s .incoming) h body))
+  unfolding requestCell says
   request-tells Below k o = inl refl
   request-tells Equal k o = request-equal-tells (s .state) k o refl
   request-tells Newer k o = request-newer-tells (s .state) k o refl
@@ -233,8 +233,8 @@ module _ (s : Server) (h : Header) (little : Bool) (body : List ℕ) where
   ping-equal-tells Replying k o t = inr (inr (inl refl))
   ping-equal-tells (Held reply) k o t = replay-tells reply (inr k) o t
 
-  ping-tells : (order : Order) → h .kind ≡ 1 → orderFor s h ≡ order → Tells s h little body (pingRow order (s .state))
-  unfolding pingRow says
+  ping-tells : (order : Order) → h .kind ≡ 1 → orderFor s h ≡ order → Tells s h little body (pingCell order (s .state))
+  unfolding pingCell says
   ping-tells Below k o = inl refl
   ping-tells Equal k o = ping-equal-tells (s .state) k o refl
   ping-tells Newer k o = (k, inl o)
@@ -251,16 +251,16 @@ module _ (s : Server) (h : Header) (little : Bool) (body : List ℕ) where
 
   acknowledgement-tells : (v : Verdict) (order : Order) → orderFor s h ≡ order
       → (orderFor s h ≡ Equal → Replied (s .state) → Tells s h little body v)
-      → Tells s h little body (acknowledgementRow order (s .state) v)
-  unfolding acknowledgementRow says
+      → Tells s h little body (acknowledgementCell order (s .state) v)
+  unfolding acknowledgementCell says
   acknowledgement-tells v Below o told = inl refl
   acknowledgement-tells v Equal o told = replied-tells v (s .state) refl (told o)
   acknowledgement-tells v Newer o told = inr (inl refl)
 
   -- of these an ack
   ack-tells : (mark : Bool) → h .kind ≡ 7 → s .call .idempotent ≡ mark → orderFor s h ≡ Equal → Replied (s .state)
-      → Tells s h little body (ackRow mark)
-  unfolding ackRow says choose
+      → Tells s h little body (ackCell mark)
+  unfolding ackCell says choose
   ack-tells true k m o replied = inr (inl refl)
   ack-tells false k m o replied = (k, o, replied, m)
 
@@ -287,21 +287,21 @@ module _ (s : Server) (h : Header) (little : Bool) (body : List ℕ) where
   cancel-equal-tells (Held reply) k o t = (k, o, ap isIdle t, ap isRunning t, refl)
 
   cancel-tells : (order : Order) → h .kind ≡ 8 → orderFor s h ≡ order
-      → Tells s h little body (cancelRow order (s .state) (s .seen) (cancelNumberIn little body))
-  unfolding cancelRow says
+      → Tells s h little body (cancelCell order (s .state) (s .seen) (cancelNumberIn little body))
+  unfolding cancelCell says
   cancel-tells Below k o = inl refl
   cancel-tells Equal k o = cancel-equal-tells (s .state) k o refl
   cancel-tells Newer k o = inr (inl refl)
 
   -- and so of every type.
-  arrival-tells : Tells s h little body (arrivalRow s h little body)
-  unfolding arrivalRow isForServer either
+  arrival-tells : Tells s h little body (arrivalCell s h little body)
+  unfolding arrivalCell isForServer either
   arrival-tells =
       choice-by (Tells s h little body) (eqb (h .kind) 0) _ _ (λ e. request-tells (orderFor s h) (eqb-true (h .kind) 0 e) refl) (λ other-0.
       choice-by (Tells s h little body) (eqb (h .kind) 1) _ _ (λ e. ping-tells (orderFor s h) (eqb-true (h .kind) 1 e) refl) (λ other-1.
       choice-by (Tells s h little body) (eqb (h .kind) 7) _ _
       (λ e.
-      acknowledgement-tells (ackRow (s .call .idempotent)) (orderFor s h) refl
+      acknowledgement-tells (ackCell (s .call .idempotent)) (orderFor s h) refl
       (ack-tells (s .call .idempotent) (eqb-true (h .kind) 7 e) refl))
       (λ other-7.
       choice-by (Tells s h little body) (eqb (h .kind) 8) _ _ (λ e. cancel-tells (orderFor s h) (eqb-true (h .kind) 8 e) refl) (λ other-8.
@@ -314,51 +314,51 @@ module _ (s : Server) (h : Header) (little : Bool) (body : List ℕ) where
       (choose-false _ _ _ other-0 ∙ choose-false _ _ _ other-1 ∙ choose-false _ _ _ other-7 ∙ choose-false _ _ _ other-8 ∙ other-9))))))))
 
   -- So a row tells of its PDU,
-  pub row-tells : (row : Row) → arrivalRow s h little body ≡ Go row → RowTells row s h little body
+  pub row-tells : (row : Row) → arrivalCell s h little body ≡ Go row → RowTells row s h little body
   row-tells row is = subst (Tells s h little body) is arrival-tells
 
   -- and where the table has none, one of its refusals stands there.
-  pub table-stops : (r : Refusal) → arrivalRow s h little body ≡ Refuse r → Stops h (Refuse r)
+  pub table-stops : (r : Refusal) → arrivalCell s h little body ≡ Refuse r → Stops h (Refuse r)
   table-stops r is = subst (Tells s h little body) is arrival-tells
 
   -- What the table says of a PDU, by its type: a request,
   pub request-arrives : h .kind ≡ 0
-      → arrivalRow s h little body
-      ≡ requestRow (orderFor s h) (s .state) (hasFlag idempotent (h .flags1)) (requestPut cleared h body) (requestPut (s .incoming) h body)
-  unfolding arrivalRow choose
+      → arrivalCell s h little body
+      ≡ requestCell (orderFor s h) (s .state) (hasFlag idempotent (h .flags1)) (requestPut cleared h body) (requestPut (s .incoming) h body)
+  unfolding arrivalCell choose
   request-arrives k = rw k
 
   -- a ping,
-  pub ping-arrives : h .kind ≡ 1 → arrivalRow s h little body ≡ pingRow (orderFor s h) (s .state)
-  unfolding arrivalRow choose
+  pub ping-arrives : h .kind ≡ 1 → arrivalCell s h little body ≡ pingCell (orderFor s h) (s .state)
+  unfolding arrivalCell choose
   ping-arrives k = rw k
 
   -- an ack,
   pub ack-arrives : h .kind ≡ 7
-      → arrivalRow s h little body ≡ acknowledgementRow (orderFor s h) (s .state) (ackRow (s .call .idempotent))
-  unfolding arrivalRow choose
+      → arrivalCell s h little body ≡ acknowledgementCell (orderFor s h) (s .state) (ackCell (s .call .idempotent))
+  unfolding arrivalCell choose
   ack-arrives k = rw k
 
   -- a cancel
   pub cancel-arrives : h .kind ≡ 8
-      → arrivalRow s h little body ≡ cancelRow (orderFor s h) (s .state) (s .seen) (cancelNumberIn little body)
-  unfolding arrivalRow choose
+      → arrivalCell s h little body ≡ cancelCell (orderFor s h) (s .state) (s .seen) (cancelNumberIn little body)
+  unfolding arrivalCell choose
   cancel-arrives k = rw k
 
   -- and a fack.
   pub fack-arrives : h .kind ≡ 9
-      → arrivalRow s h little body
-      ≡ acknowledgementRow (orderFor s h) (s .state) (Go (Acknowledge (acknowledgedBy (h .fragment))))
-  unfolding arrivalRow choose
+      → arrivalCell s h little body
+      ≡ acknowledgementCell (orderFor s h) (s .state) (Go (Acknowledge (acknowledgedBy (h .fragment))))
+  unfolding arrivalCell choose
   fack-arrives k = rw k
 
   -- A newer request begins but in RUNNING,
   pub newer-begins : h .kind ≡ 0 → orderFor s h ≡ Newer → isRunning (s .state) ≡ false
-      → arrivalRow s h little body ≡ Go (Begin (requestPut cleared h body))
-  unfolding requestRow requestNewer isRunning
+      → arrivalCell s h little body ≡ Go (Begin (requestPut cleared h body))
+  unfolding requestCell requestNewer isRunning
   newer-begins k newer idle =
       request-arrives k
-      ∙ ap (λ (o : Order). requestRow o (s .state) (hasFlag idempotent (h .flags1)) (requestPut cleared h body) (requestPut (s .incoming) h body)) newer
+      ∙ ap (λ (o : Order). requestCell o (s .state) (hasFlag idempotent (h .flags1)) (requestPut cleared h body) (requestPut (s .incoming) h body)) newer
       ∙ by-state (s .state) idle
     where
       by-state : (state : State) → isRunning state ≡ false
@@ -372,13 +372,13 @@ module _ (s : Server) (h : Header) (little : Bool) (body : List ℕ) where
   -- and one of an equal number with the bit set does in IDLE repeatable.
   pub again-begins : h .kind ≡ 0 → orderFor s h ≡ Equal → s .state ≡ IdleState Repeatable
       → hasFlag idempotent (h .flags1) ≡ true
-      → arrivalRow s h little body ≡ Go (Begin (requestPut cleared h body))
-  unfolding requestRow requestEqual requestIdle requestAgain choose
+      → arrivalCell s h little body ≡ Go (Begin (requestPut cleared h body))
+  unfolding requestCell requestEqual requestIdle requestAgain choose
   again-begins k equal state bit =
       request-arrives k
-      ∙ (λ i. requestRow (equal i) (state i) (bit i) (requestPut cleared h body) (requestPut (s .incoming) h body))
+      ∙ (λ i. requestCell (equal i) (state i) (bit i) (requestPut cleared h body) (requestPut (s .incoming) h body))
 
   -- A fack that has a row acknowledges.
-  pub fack-row : (row : Row) → h .kind ≡ 9 → arrivalRow s h little body ≡ Go row
+  pub fack-row : (row : Row) → h .kind ≡ 9 → arrivalCell s h little body ≡ Go row
       → row ≡ Acknowledge (acknowledgedBy (h .fragment))
   fack-row row k is = sym (same-row _ row (replied-row (orderFor s h) (s .state) _ row (sym (fack-arrives k) ∙ is)))

@@ -447,7 +447,7 @@ fn cancel(s: Server, h: Header, little: bool, body: &[u8]) -> Verdict
     let Order::Equal = order else {
         return Verdict::Refuse(Refusal::NoRow);
     };
-    cancel_equal(state, s.seen, words::number32(body, 4, little))
+    cancel_equal(state, s.seen, bodies::cancel_number(body, little))
 }
 
 // A fack: 13, 14, 15, 17.

@@ -9,7 +9,7 @@ ghost use mathlib.Core.Path.{_≡_};
 ghost use Rattle.server.specs.records.States.{neverCalled, isFresh, isRunning, isReplying, isHeld};
 ghost use Rattle.server.specs.records.Rules.{idleRule, heldRule, messageRule, outgoingSound, sound};
 ghost use Rattle.server.specs.records.Record.{fresh as freshRecord, timed, holding, unarmed, withOutgoing, withIncoming, withResends, withSeen, withCall};
-ghost use Rattle.server.specs.records.Arming.{runsAgain};
+ghost use Rattle.server.specs.records.Repeatable.{runsAgain};
 
 // What became of the last call.
 pub enum Idle {

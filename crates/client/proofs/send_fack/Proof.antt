@@ -2,7 +2,7 @@
 use Prim.Native.Nat.{ℕ}
 use mathlib.Core.Path.{ap, _∙_}
 use borrow.Author.Needs.{needs}
-use Rattle.bodies.specs.Fack.{fackBytes, fackSent as fackFields}
+use Rattle.bodies.specs.Fack.{fackBytes, fackFields}
 use Rattle.calls.proofs.PostLaws.{posted-as}
 use Rattle.client.specs.Sending.{pduHeader, fackSent}
 use Rattle.client.proofs.send_fack.Statement.{statement}

@@ -28,8 +28,8 @@ use Rattle.client.specs.declared.judge.StartVerdict.{StartVerdict}
 use Rattle.client.specs.declared.judge.StartVerdict.the-variants.{Refuse as RefuseStart, Go as GoStart}
 use Rattle.client.specs.records.States.{mayStart, isQueued, isSending, isActive}
 use Rattle.client.specs.records.Rules.{sound}
-use Rattle.client.specs.records.Arming.{namedTimer, namedBy}
-use Rattle.client.specs.judge.Rows.{isRow, nextNumber, transmitRow, timerRow, cancelRow, isForClient, arrivalRow, arms, armsTimer}
+use Rattle.client.specs.records.Named.{namedTimer, namedBy}
+use Rattle.client.specs.judge.Rows.{isRow, nextNumber, transmitRow, timerRow, cancelRow, isForClient, arrivalCell, arms, armsTimer}
 
 -- The last call number, and the last cancel number.
 abbrev pub lastCallNumber : ℕ
@@ -102,7 +102,7 @@ isOld state mine theirs = either (isQueued state) (not (eqb mine theirs))
 -- A malformed body of a fault 3, reject 6, fack 9 or cancel_ack 10.
 unfoldable pub isMalformed : ℕ → Bool → List ℕ → Bool
 isMalformed kind little body =
-    choose (either (eqb kind 3) (eqb kind 6)) (statusMalformed little body)
+    choose (either (eqb kind 3) (eqb kind 6)) (statusMalformed body)
     (choose (eqb kind 9) (fackMalformed little body)
     (both (eqb kind 10) (cancelAckMalformed little body)))
 
@@ -112,28 +112,31 @@ isContradiction c h =
     choose (isResponse (h .kind)) (contradicts (c .incoming) (h .fragment) (isLast (h .flags1)))
     (both (eqb (h .kind) 9) (acknowledgesMore (c .outgoing .count) (h .fragment)))
 
--- 10 to 20, of a header and a body that were read; row is what the table says of them. 11, 18 and 19 are not of an
--- arriving PDU here.
+-- 10 to 20, of a header and a body that were read, with their cell of the table. 11, 18 and 19 are not of an arriving
+-- PDU here.
 unfoldable pub pduRefusals : Client → Header → Bool → List ℕ → Verdict → List Line
-pduRefusals c h little body row =
+pduRefusals c h little body cell =
     WrongSide when not (isForClient (h .kind))
     ∷ WrongFragment when both (isResponse (h .kind)) (wrongFragment (h .flags1) (h .fragment))
     ∷ OldCall when isOld (c .state) (c .number) (h .number)
     ∷ MalformedBody when isMalformed (h .kind) little body
-    ∷ NoRow when not (isRow row)
+    ∷ NoRow when not (isRow cell)
     ∷ Repeated when both (isResponse (h .kind)) (held (c .incoming) (h .fragment))
     ∷ Contradiction when isContradiction c h
-    ∷ TicketsUsedUp when both (armsTimer c row) (usedUp (c .tickets))
+    ∷ TicketsUsedUp when both (armsTimer c cell) (usedUp (c .tickets))
     ∷ []
 
 unfoldable pub pduVerdict : Client → Header → Bool → List ℕ → Verdict
-pduVerdict c h little body = firstOf Refuse (pduRefusals c h little body (arrivalRow c h little body)) (arrivalRow c h little body)
+pduVerdict c h little body = firstOf Refuse (pduRefusals c h little body (arrivalCell c h little body)) (arrivalCell c h little body)
 
 -- The same with 9 in front.
+abbrev pub activityRefusals : Client → Header → Bool → List ℕ → List Line
+activityRefusals c h little body =
+    OtherActivity when not (same (c .activity) (h .activity))
+    ∷ pduRefusals c h little body (arrivalCell c h little body)
+
 unfoldable pub activityVerdict : Client → Header → Bool → List ℕ → Verdict
-activityVerdict c h little body =
-    firstOf Refuse (OtherActivity when not (same (c .activity) (h .activity)) ∷ pduRefusals c h little body (arrivalRow c h little body))
-    (arrivalRow c h little body)
+activityVerdict c h little body = firstOf Refuse (activityRefusals c h little body) (arrivalCell c h little body)
 
 -- An arriving datagram, by the lengths of what is lent: 1, 2, those of the reader, 9, those of the PDU.
 unfoldable pub arrivalRefusals : Client → ℕ → ℕ → List ℕ → List Line
@@ -141,9 +144,8 @@ arrivalRefusals c slots out d =
     WrongLength when not (lentRight slots out)
     ∷ BrokenRecord when not (sound c)
     ∷ readRefusals d
-    ++ (OtherActivity when not (same (c .activity) (reading d .header .activity))
-    ∷ pduRefusals c (reading d .header) (reading d .little) (bodyOf d) (arrivalRow c (reading d .header) (reading d .little) (bodyOf d)))
+    ++ activityRefusals c (reading d .header) (reading d .little) (bodyOf d)
 
 unfoldable pub arrivalVerdict : Client → ℕ → ℕ → List ℕ → Verdict
 arrivalVerdict c slots out d =
-    firstOf Refuse (arrivalRefusals c slots out d) (arrivalRow c (reading d .header) (reading d .little) (bodyOf d))
+    firstOf Refuse (arrivalRefusals c slots out d) (arrivalCell c (reading d .header) (reading d .little) (bodyOf d))

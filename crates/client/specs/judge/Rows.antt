@@ -1,4 +1,5 @@
--- The client's table: which row an event has, by the state. Where it has none, the table says so.
+-- The client's table: which row an event has, by the state. A cell of the table is that row, or the refusal that stands
+-- there.
 use Prim.Native.Nat.{ℕ, _+_, _%_}
 use mathlib.Core.Bool.{Bool, true, false, not}
 use mathlib.Core.List.{List}
@@ -15,7 +16,6 @@ use Rattle.outgoing.specs.Sending.{sendsLast}
 use Rattle.pdu.specs.declared.Header.{Header}
 use Rattle.timers.specs.declared.Timer.{Timer}
 use Rattle.timers.specs.Tickets.{off}
-use Rattle.client.specs.declared.records.State.{State}
 use Rattle.client.specs.declared.records.Client.{Client}
 use Rattle.client.specs.declared.records.TimerKind.{TimerKind}
 use Rattle.client.specs.declared.records.TimerKind.the-variants.{Wait, Ack, Cancel as CancelKind}
@@ -25,11 +25,11 @@ use Rattle.client.specs.declared.judge.Verdict.{Verdict}
 use Rattle.client.specs.declared.judge.Verdict.the-variants.{Refuse, Go}
 use Rattle.client.specs.records.States.{isActive, isDispatched}
 
--- A row in the states that have it, elsewhere none: 15.
-unfoldable pub rowIn : Bool → Row → Verdict
-rowIn has row = choose has (Go row) (Refuse NoRow)
+-- A cell has its row in the states that have it, elsewhere none: 15.
+unfoldable pub cellIn : Bool → Row → Verdict
+cellIn has row = choose has (Go row) (Refuse NoRow)
 
--- The table has a row for the event.
+-- The cell has a row.
 unfoldable pub isRow : Verdict → Bool
 isRow (Refuse r) = false
 isRow (Go row) = true
@@ -76,16 +76,16 @@ isForClient kind =
 
 -- What arrives, by its type. Response 2, fault 3, reject 6 and fack 9 have a row in the three active states, working 4 and
 -- nocall 5 in DISPATCHED, a cancel_ack 10 where it is the current one.
-unfoldable pub arrivalRow : Client → Header → Bool → List ℕ → Verdict
-arrivalRow c h little body =
+unfoldable pub arrivalCell : Client → Header → Bool → List ℕ → Verdict
+arrivalCell c h little body =
     choose (eqb (h .kind) 2)
-    (rowIn (isActive (c .state)) (Response (putOf (c .incoming) (h .flags1) (h .serial) (h .fragment) (bodyLength body))))
-    (choose (eqb (h .kind) 3) (rowIn (isActive (c .state)) (Fault (statusIn little body)))
-    (choose (eqb (h .kind) 4) (rowIn (isDispatched (c .state)) Working)
-    (choose (eqb (h .kind) 5) (rowIn (isDispatched (c .state)) (nocallRow (c .resends)))
-    (choose (eqb (h .kind) 6) (rowIn (isActive (c .state)) (Reject (statusIn little body)))
-    (choose (eqb (h .kind) 9) (rowIn (isActive (c .state)) (Fack (acknowledgedBy (h .fragment))))
-    (choose (eqb (h .kind) 10) (rowIn (isCurrent (c .cancel) (c .cancels) (cancelNumberIn little body)) CancelAck)
+    (cellIn (isActive (c .state)) (Response (putOf (c .incoming) (h .flags1) (h .serial) (h .fragment) (bodyLength body))))
+    (choose (eqb (h .kind) 3) (cellIn (isActive (c .state)) (Fault (statusIn little body)))
+    (choose (eqb (h .kind) 4) (cellIn (isDispatched (c .state)) Working)
+    (choose (eqb (h .kind) 5) (cellIn (isDispatched (c .state)) (nocallRow (c .resends)))
+    (choose (eqb (h .kind) 6) (cellIn (isActive (c .state)) (Reject (statusIn little body)))
+    (choose (eqb (h .kind) 9) (cellIn (isActive (c .state)) (Fack (acknowledgedBy (h .fragment))))
+    (choose (eqb (h .kind) 10) (cellIn (isCurrent (c .cancel) (c .cancels) (cancelNumberIn little body)) CancelAck)
     (Refuse WrongSide)))))))
 
 -- Rows that arm a timer: the last fragment sent, a ping, a cancel where CANCEL is off, a response unless it completes an
@@ -104,7 +104,7 @@ arms c (GiveUp cause) = false
 arms c (Fack count) = false
 arms c CancelAck = false
 
--- The same of what the table says of an event: no row arms nothing.
+-- The same of a cell: where it has no row, nothing is armed.
 unfoldable pub armsTimer : Client → Verdict → Bool
 armsTimer c (Refuse r) = false
 armsTimer c (Go row) = arms c row

@@ -55,8 +55,8 @@ unfoldable pub waiting : Client → State → Client
 waiting c state = timed c state (nextTicket (c .tickets)) (armedAfresh (c .tickets)) Off (c .cancel)
 
 -- To SEND_FRAGS, WAIT disarmed; CANCEL stays as it is.
-unfoldable pub sending : Client → Client
-sending c = timed c SendFrags (c .tickets) Off Off (c .cancel)
+unfoldable pub sendingAgain : Client → Client
+sendingAgain c = timed c SendFrags (c .tickets) Off Off (c .cancel)
 
 -- To ACK_PENDING with only ACK armed.
 unfoldable pub ackPending : Client → Client

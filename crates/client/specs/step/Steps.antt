@@ -9,10 +9,10 @@ use Rattle.fragments.specs.declared.Fragment.{Fragment}
 use Rattle.fragments.specs.declared.Stored.the-variants.{At}
 use Rattle.fragments.specs.Put.{putInto}
 use Rattle.incoming.specs.declared.Incoming.{Incoming}
-use Rattle.outgoing.specs.Sending.{started as startedMessage, afterSend, afterPing, acknowledgedTo, rewound}
+use Rattle.outgoing.specs.Sending.{startedMessage, afterSend, afterPing, acknowledgedTo, rewound}
 use Rattle.client.specs.declared.records.State.the-variants.{SendFrags, Dispatched, ReceiveFrags, Complete}
 use Rattle.client.specs.declared.records.Client.{Client}
-use Rattle.client.specs.records.Record.{waiting, sending, ackPending, unarmed, cancelArmed, cancelDisarmed, withOutgoing, withIncoming, withWaits, withResends, withCancels, withCall}
+use Rattle.client.specs.records.Record.{waiting, sendingAgain, ackPending, unarmed, cancelArmed, cancelDisarmed, withOutgoing, withIncoming, withWaits, withResends, withCancels, withCall}
 use Rattle.client.specs.declared.judge.Row.{Row}
 use Rattle.client.specs.declared.judge.Row.the-variants.{Transmit, Ping, SendAck, Cancel, Response, Fault, Reject, Working, Resend, GiveUp, Fack, CancelAck}
 use Rattle.client.specs.declared.step.Send.{Send}
@@ -68,7 +68,7 @@ workingPlan c = going (waiting (withWaits c 0) Dispatched) Nothing Untold
 
 -- Nocall below the limit: resends as told, to SEND_FRAGS at the first unacknowledged fragment, or 0 if none.
 unfoldable pub resent : Client → ℕ → Client
-resent c resends = withResends (sending (withOutgoing c (rewound (c .outgoing)))) resends
+resent c resends = withResends (sendingAgain (withOutgoing c (rewound (c .outgoing)))) resends
 
 -- Fack: acknowledged becomes the larger of itself and the count told.
 unfoldable pub acknowledged : Client → ℕ → Client

@@ -17,7 +17,7 @@ use Rattle.server.specs.declared.records.Server.{Server}
 use Rattle.server.specs.declared.judge.Order.{Order}
 use Rattle.server.specs.declared.judge.Order.the-variants.{Below, Equal, Newer}
 use Rattle.server.specs.declared.judge.Verdict.the-variants.{Refuse}
-use Rattle.server.specs.judge.Rows.{timerRow}
+use Rattle.server.specs.judge.Rows.{timerCell}
 use Rattle.server.specs.judge.Refusals.{pduVerdict}
 use Rattle.server.specs.judge.Parts.{RequestIn}
 use Rattle.server.proofs.records.Idle.{the-type as idle-type}
@@ -53,8 +53,8 @@ not-repeatable s h little body Repeatable (inr e) at = absurd (omega arith)
 
 -- A state other than HELD has no row for the timer.
 pub not-held : (state : State) (resends : ℕ) → OneOf (0 ∷ (1 ∷ (2 ∷ (3 ∷ [])))) (tagOf state-type state)
-    → timerRow state resends ≡ Refuse NoRow
-unfolding timerRow
+    → timerCell state resends ≡ Refuse NoRow
+unfolding timerCell
 not-held (IdleState idle) resends told = refl
 not-held Collect resends told = refl
 not-held Running resends told = refl

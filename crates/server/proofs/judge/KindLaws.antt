@@ -34,7 +34,7 @@ use Rattle.server.specs.declared.judge.Verdict.{Verdict}
 use Rattle.server.specs.declared.judge.Verdict.the-variants.{Refuse, Go}
 use Rattle.server.specs.records.States.{isRunning, isReplying, isHeld}
 use Rattle.server.specs.records.Rules.{sound}
-use Rattle.server.specs.judge.Rows.{isForServer, says, orderFor, replayRow, requestNewer, requestAgain, requestIdle, requestEqual, requestRow, pingEqual, pingRow, whereReplied, acknowledgementRow, ackRow, cancelEqual, cancelRow, requestPut, arrivalRow}
+use Rattle.server.specs.judge.Rows.{isForServer, says, orderFor, replayRow, requestNewer, requestAgain, requestIdle, requestEqual, requestCell, pingEqual, pingCell, whereReplied, acknowledgementCell, ackCell, cancelEqual, cancelCell, requestPut, arrivalCell}
 use Rattle.server.specs.judge.Refusals.{isRequest, isMaybeOrBroadcast, isMalformed, puts, slotsFor, isHeldAlready, sameCall, isOtherCall, isContradiction, pduRefusals, pduVerdict, activityVerdict, arrivalRefusals, arrivalVerdict}
 use Rattle.server.specs.judge.Parts.{RequestIn, contradictsCall, entryAnswer, readVerdict}
 
@@ -78,8 +78,8 @@ rowLeft malformed again clash row =
     ∷ []
     ) row
 
-ping-left : (order : Order) (state : State) → rowLeft false false false (pingRow order state) ≡ pingRow order state
-unfolding rowLeft firstOf says pingRow pingEqual either choose
+ping-left : (order : Order) (state : State) → rowLeft false false false (pingCell order state) ≡ pingCell order state
+unfolding rowLeft firstOf says pingCell pingEqual either choose
 ping-left Below state = refl
 ping-left Equal (IdleState idle) = refl
 ping-left Equal Collect = refl
@@ -89,9 +89,9 @@ ping-left Equal (Held reply) = refl
 ping-left Newer state = refl
 
 ack-left : (order : Order) (state : State) (mark : Bool)
-    → rowLeft false false false (acknowledgementRow order state (ackRow mark))
-    ≡ acknowledgementRow order state (ackRow mark)
-unfolding rowLeft firstOf says acknowledgementRow whereReplied ackRow either choose
+    → rowLeft false false false (acknowledgementCell order state (ackCell mark))
+    ≡ acknowledgementCell order state (ackCell mark)
+unfolding rowLeft firstOf says acknowledgementCell whereReplied ackCell either choose
 ack-left Below state mark = refl
 ack-left Equal (IdleState idle) mark = refl
 ack-left Equal Collect mark = refl
@@ -103,9 +103,9 @@ ack-left Equal (Held reply) false = refl
 ack-left Newer state mark = refl
 
 cancel-left : (order : Order) (state : State) (seen n : ℕ) (malformed : Bool)
-    → rowLeft malformed false false (cancelRow order state seen n) ≡
-    choose (isBelow order) (Refuse OldCall) (choose malformed (Refuse MalformedBody) (cancelRow order state seen n))
-unfolding rowLeft firstOf isBelow says cancelRow cancelEqual either choose
+    → rowLeft malformed false false (cancelCell order state seen n) ≡
+    choose (isBelow order) (Refuse OldCall) (choose malformed (Refuse MalformedBody) (cancelCell order state seen n))
+unfolding rowLeft firstOf isBelow says cancelCell cancelEqual either choose
 cancel-left Below state seen n malformed = refl
 cancel-left Equal (IdleState idle) seen n malformed = refl
 cancel-left Equal Collect seen n malformed = refl
@@ -115,11 +115,11 @@ cancel-left Equal (Held reply) seen n malformed = refl
 cancel-left Newer state seen n malformed = refl
 
 fack-left : (order : Order) (state : State) (malformed more : Bool) (count : ℕ)
-    → rowLeft malformed false more (acknowledgementRow order state (Go (Acknowledge count))) ≡
+    → rowLeft malformed false more (acknowledgementCell order state (Go (Acknowledge count))) ≡
     choose (isBelow order) (Refuse OldCall)
     (choose malformed (Refuse MalformedBody)
-    (acknowledgementRow order state (choose more (Refuse Contradiction) (Go (Acknowledge count)))))
-unfolding rowLeft firstOf isBelow says acknowledgementRow whereReplied either choose
+    (acknowledgementCell order state (choose more (Refuse Contradiction) (Go (Acknowledge count)))))
+unfolding rowLeft firstOf isBelow says acknowledgementCell whereReplied either choose
 fack-left Below state malformed more count = refl
 fack-left Equal (IdleState idle) malformed more count = refl
 fack-left Equal Collect malformed more count = refl
@@ -135,14 +135,14 @@ module _ (s : Server) (h : Header) (little : Bool) (body : List ℕ) where
       rowLeft false (both (puts order state) (held (slotsFor order state (s .incoming)) (h .fragment)))
       (either (contradicts (slotsFor order state (s .incoming)) (h .fragment) (isLast (h .flags1)))
       (isOtherCall order (s .call) h))
-      (requestRow order state (hasFlag idempotent (h .flags1)) (requestPut cleared h body)
+      (requestCell order state (hasFlag idempotent (h .flags1)) (requestPut cleared h body)
       (requestPut (s .incoming) h body))
 
   pub request-lines : h .kind ≡ 0 → pduVerdict s h little body ≡
       choose (isMaybeOrBroadcast (h .flags1)) (Refuse MaybeOrBroadcast)
       (choose (wrongFragment (h .flags1) (h .fragment)) (Refuse WrongFragment)
       (requestLeft (orderFor s h) (s .state)))
-  unfolding pduVerdict pduRefusals firstOf arrivalRow isRequest isForServer isMalformed isHeldAlready isContradiction requestLeft rowLeft both either choose
+  unfolding pduVerdict pduRefusals firstOf arrivalCell isRequest isForServer isMalformed isHeldAlready isContradiction requestLeft rowLeft both either choose
   request-lines e = rw e
 
   request-left : {order : Order} {state : State} → RequestIn s h order state
@@ -153,7 +153,7 @@ module _ (s : Server) (h : Header) (little : Bool) (body : List ℕ) where
   -- A newer number: nothing is held of the call that begins, so nothing contradicts it.
   pub newer-lines : RequestIn s h Newer (s .state) → pduVerdict s h little body ≡
       choose (isRunning (s .state)) (Refuse NoRow) (Go (Begin (requestPut cleared h body)))
-  unfolding requestLeft rowLeft firstOf says puts slotsFor isOtherCall isRunning requestRow requestNewer both either choose
+  unfolding requestLeft rowLeft firstOf says puts slotsFor isOtherCall isRunning requestCell requestNewer both either choose
   newer-lines at = request-left at ∙ by-state (s .state)
     where
       by-state : (state : State)
@@ -166,18 +166,18 @@ module _ (s : Server) (h : Header) (little : Bool) (body : List ℕ) where
 
   -- An equal number, by the state.
   pub fresh-lines : RequestIn s h Equal (IdleState Fresh) → pduVerdict s h little body ≡ Refuse OldCall
-  unfolding requestLeft rowLeft firstOf says requestRow requestEqual requestIdle choose
+  unfolding requestLeft rowLeft firstOf says requestCell requestEqual requestIdle choose
   fresh-lines at = request-left at
 
   pub spent-lines : RequestIn s h Equal (IdleState Spent) → pduVerdict s h little body ≡ Refuse OldCall
-  unfolding requestLeft rowLeft firstOf says requestRow requestEqual requestIdle choose
+  unfolding requestLeft rowLeft firstOf says requestCell requestEqual requestIdle choose
   spent-lines at = request-left at
 
   pub repeatable-lines : RequestIn s h Equal (IdleState Repeatable) → pduVerdict s h little body ≡
       choose (not (hasFlag idempotent (h .flags1))) (Refuse OldCall)
       (choose (not (sameCall (s .call) h)) (Refuse Contradiction)
       (Go (Begin (requestPut cleared h body))))
-  unfolding requestLeft rowLeft firstOf says puts slotsFor isOtherCall requestRow requestEqual requestIdle requestAgain both either choose
+  unfolding requestLeft rowLeft firstOf says puts slotsFor isOtherCall requestCell requestEqual requestIdle requestAgain both either choose
   repeatable-lines at = request-left at ∙ by-bit (hasFlag idempotent (h .flags1)) refl
     where
       by-bit : (bit : Bool) → hasFlag idempotent (h .flags1) ≡ bit → requestLeft Equal (IdleState Repeatable) ≡
@@ -191,47 +191,47 @@ module _ (s : Server) (h : Header) (little : Bool) (body : List ℕ) where
       choose (held (s .incoming) (h .fragment)) (Refuse Repeated)
       (choose (contradictsCall s h) (Refuse Contradiction)
       (Go (Put (requestPut (s .incoming) h body))))
-  unfolding requestLeft rowLeft firstOf says puts slotsFor isOtherCall requestRow requestEqual both either choose
+  unfolding requestLeft rowLeft firstOf says puts slotsFor isOtherCall requestCell requestEqual both either choose
   collect-lines at = request-left at
 
   pub running-lines : RequestIn s h Equal Running → pduVerdict s h little body ≡
       choose (contradictsCall s h) (Refuse Contradiction)
       (Go Working)
-  unfolding requestLeft rowLeft firstOf says puts slotsFor isOtherCall requestRow requestEqual both either choose
+  unfolding requestLeft rowLeft firstOf says puts slotsFor isOtherCall requestCell requestEqual both either choose
   running-lines at = request-left at
 
   pub replying-lines : RequestIn s h Equal Replying → pduVerdict s h little body ≡ Refuse Repeated
-  unfolding requestLeft rowLeft firstOf says puts slotsFor isOtherCall requestRow requestEqual both either choose
+  unfolding requestLeft rowLeft firstOf says puts slotsFor isOtherCall requestCell requestEqual both either choose
   replying-lines at = request-left at
 
   pub held-lines : {reply : Reply} → RequestIn s h Equal (Held reply) → pduVerdict s h little body ≡
       choose (contradictsCall s h) (Refuse Contradiction)
       (Go (replayRow reply))
-  unfolding requestLeft rowLeft firstOf says puts slotsFor isOtherCall requestRow requestEqual both either choose
+  unfolding requestLeft rowLeft firstOf says puts slotsFor isOtherCall requestCell requestEqual both either choose
   held-lines at = request-left at
 
   -- A number below the server's.
   pub below-lines : h .kind ≡ 0 → orderFor s h ≡ Below → pduVerdict s h little body ≡
       choose (isMaybeOrBroadcast (h .flags1)) (Refuse MaybeOrBroadcast)
       (choose (wrongFragment (h .flags1) (h .fragment)) (Refuse WrongFragment) (Refuse OldCall))
-  unfolding requestLeft rowLeft firstOf says requestRow choose
+  unfolding requestLeft rowLeft firstOf says requestCell choose
   below-lines e o = request-lines e ∙ rw o
 
   -- The other types: by what the table says of them.
-  pub ping-lines : h .kind ≡ 1 → pduVerdict s h little body ≡ pingRow (orderFor s h) (s .state)
-  unfolding pduVerdict pduRefusals firstOf arrivalRow isRequest isForServer isMalformed isContradiction rowLeft orderFor both either choose
+  pub ping-lines : h .kind ≡ 1 → pduVerdict s h little body ≡ pingCell (orderFor s h) (s .state)
+  unfolding pduVerdict pduRefusals firstOf arrivalCell isRequest isForServer isMalformed isContradiction rowLeft orderFor both either choose
   ping-lines e = rw e (ping-left (orderFor s h) (s .state))
 
   pub ack-lines : h .kind ≡ 7 → pduVerdict s h little body ≡
-      acknowledgementRow (orderFor s h) (s .state) (ackRow (s .call .idempotent))
-  unfolding pduVerdict pduRefusals firstOf arrivalRow isRequest isForServer isMalformed isContradiction rowLeft orderFor both either choose
+      acknowledgementCell (orderFor s h) (s .state) (ackCell (s .call .idempotent))
+  unfolding pduVerdict pduRefusals firstOf arrivalCell isRequest isForServer isMalformed isContradiction rowLeft orderFor both either choose
   ack-lines e = rw e (ack-left (orderFor s h) (s .state) (s .call .idempotent))
 
   pub cancel-lines : h .kind ≡ 8 → pduVerdict s h little body ≡
       choose (isBelow (orderFor s h)) (Refuse OldCall)
       (choose (cancelMalformed little body) (Refuse MalformedBody)
-      (cancelRow (orderFor s h) (s .state) (s .seen) (cancelNumberIn little body)))
-  unfolding pduVerdict pduRefusals firstOf arrivalRow isRequest isForServer isMalformed isContradiction rowLeft orderFor both either choose
+      (cancelCell (orderFor s h) (s .state) (s .seen) (cancelNumberIn little body)))
+  unfolding pduVerdict pduRefusals firstOf arrivalCell isRequest isForServer isMalformed isContradiction rowLeft orderFor both either choose
   cancel-lines e =
       rw e
       (cancel-left (orderFor s h) (s .state) (s .seen) (cancelNumberIn little body) (cancelMalformed little body))
@@ -239,10 +239,10 @@ module _ (s : Server) (h : Header) (little : Bool) (body : List ℕ) where
   pub fack-lines : h .kind ≡ 9 → pduVerdict s h little body ≡
       choose (isBelow (orderFor s h)) (Refuse OldCall)
       (choose (fackMalformed little body) (Refuse MalformedBody)
-      (acknowledgementRow (orderFor s h) (s .state)
+      (acknowledgementCell (orderFor s h) (s .state)
       (choose (acknowledgesMore (s .outgoing .count) (h .fragment)) (Refuse Contradiction)
       (Go (Acknowledge (acknowledgedBy (h .fragment)))))))
-  unfolding pduVerdict pduRefusals firstOf arrivalRow isRequest isForServer isMalformed isContradiction rowLeft orderFor both either choose
+  unfolding pduVerdict pduRefusals firstOf arrivalCell isRequest isForServer isMalformed isContradiction rowLeft orderFor both either choose
   fack-lines e =
       rw e
       (fack-left (orderFor s h) (s .state) (fackMalformed little body)
@@ -266,7 +266,7 @@ arrival-lines s slots out d =
     first = WrongLength when not (lentRight slots out) ∷ BrokenRecord when not (sound s) ∷ []
 
     row : Verdict
-    row = arrivalRow s (reading d .header) (reading d .little) (bodyOf d)
+    row = arrivalCell s (reading d .header) (reading d .little) (bodyOf d)
 
     mine : List Line
     mine =

@@ -19,8 +19,8 @@ use Rattle.server.specs.declared.judge.Verdict.{Verdict}
 use Rattle.server.specs.declared.judge.Verdict.the-variants.{Refuse, Go}
 use Rattle.server.specs.records.States.{isRunning, isReplying}
 use Rattle.server.specs.records.Rules.{sound}
-use Rattle.server.specs.records.Arming.{runsAgain}
-use Rattle.server.specs.judge.Rows.{isRow, transmitRow, faultRow, resendHeld, resendRow, timerRow, arms, armsTimer}
+use Rattle.server.specs.records.Repeatable.{runsAgain}
+use Rattle.server.specs.judge.Rows.{isRow, transmitRow, faultRow, resendHeld, resendRow, timerCell, arms, armsTimer}
 use Rattle.server.specs.judge.Parts.{ticketed}
 use Rattle.server.specs.judge.Refusals.{transmitRefusals, transmitVerdict, faultRefusals, faultVerdict, timerRefusals, timerVerdict}
 
@@ -77,12 +77,12 @@ module _ (s : Server) where
       (choose (not (armedWith (s .resend) ticket)) (Refuse LateTimer)
       (choose (ltb (s .resends) retryLimit) (ticketed (resendHeld reply (s .resends + 1)) (usedUp (s .tickets)))
       (Go Spend))))
-  unfolding timerVerdict timerRefusals firstOf isRow timerRow resendRow armsTimer choose
+  unfolding timerVerdict timerRefusals firstOf isRow timerCell resendRow armsTimer choose
   timer-lines {reply} e ticket out =
       rw (e, timer-left (ltb (s .resends) retryLimit) (resendHeld reply (s .resends + 1)) (usedUp (s .tickets)))
 
   -- Where the table has no row for the timer.
-  pub untimed-lines : timerRow (s .state) (s .resends) ≡ Refuse NoRow → (ticket out : ℕ) → timerVerdict s ticket out ≡
+  pub untimed-lines : timerCell (s .state) (s .resends) ≡ Refuse NoRow → (ticket out : ℕ) → timerVerdict s ticket out ≡
       choose (not (eqb out pduSize)) (Refuse WrongLength) (choose (not (sound s)) (Refuse BrokenRecord) (Refuse NoRow))
   unfolding timerVerdict timerRefusals firstOf isRow choose
   untimed-lines e ticket out = rw e

@@ -1,7 +1,7 @@
 -- `server::send_fack` meets its contract.
 use Prim.Native.Nat.{ℕ}
 use mathlib.Core.Path.{ap, _∙_}
-use Rattle.bodies.specs.Fack.{fackBytes, fackSent as fackFields}
+use Rattle.bodies.specs.Fack.{fackBytes, fackFields}
 use Rattle.server.specs.Sending.{echoHeader, fackSent}
 use Rattle.calls.proofs.PostLaws.{posted-as}
 use borrow.Author.Needs.{needs}

@@ -1,13 +1,13 @@
 -- Parts of the judgement, as the code is cut.
 use Prim.Native.Nat.{ℕ}
 use mathlib.Core.Bool.{Bool, false, not}
-use mathlib.Core.List.{List, [], _∷_}
+use mathlib.Core.List.{List}
 use mathlib.Core.Path.{_≡_}
 use Rattle.words.specs.Choice.{choose, both, either}
 use Rattle.answers.specs.declared.Answer.{Answer}
-use Rattle.answers.specs.declared.Refusal.the-variants.{WrongLength, BrokenRecord, TicketsUsedUp}
-use Rattle.answers.specs.Table.{_when_, answerOf, behindAnswer}
-use Rattle.fragments.specs.Fragment.{lentRight, isLast, wrongFragment}
+use Rattle.answers.specs.declared.Refusal.the-variants.{TicketsUsedUp}
+use Rattle.answers.specs.Table.{answerOf, behindAnswer}
+use Rattle.fragments.specs.Fragment.{isLast, wrongFragment}
 use Rattle.fragments.specs.Judgement.{contradicts}
 use Rattle.pdu.specs.declared.Header.{Header}
 use Rattle.reader.specs.declared.Reading.{Reading}
@@ -17,9 +17,8 @@ use Rattle.server.specs.declared.judge.Order.{Order}
 use Rattle.server.specs.declared.judge.Row.{Row}
 use Rattle.server.specs.declared.judge.Verdict.{Verdict}
 use Rattle.server.specs.declared.judge.Verdict.the-variants.{Refuse, Go}
-use Rattle.server.specs.records.Rules.{sound}
 use Rattle.server.specs.judge.Rows.{orderFor, arms}
-use Rattle.server.specs.judge.Refusals.{isMaybeOrBroadcast, sameCall, activityVerdict}
+use Rattle.server.specs.judge.Refusals.{isMaybeOrBroadcast, sameCall, activityVerdict, entryRefusals}
 
 -- A row that arms RESEND asks for a ticket: 20 where they are used up.
 abbrev pub ticketed : Row → Bool → Verdict
@@ -40,7 +39,7 @@ contradictsCall s h = either (contradicts (s .incoming) (h .fragment) (isLast (h
 
 -- What a datagram finds, by the lengths of what is lent: 1, 2.
 abbrev pub entryAnswer : Server → ℕ → ℕ → Answer
-entryAnswer s slots out = answerOf (WrongLength when not (lentRight slots out) ∷ BrokenRecord when not (sound s) ∷ [])
+entryAnswer s slots out = answerOf (entryRefusals s slots out)
 
 -- A datagram behind its entry, by what reading it gave: those of the reader, 9, those of the PDU.
 abbrev pub readVerdict : Server → Reading → List ℕ → Verdict

@@ -32,7 +32,7 @@ use Rattle.server.specs.declared.judge.Verdict.{Verdict}
 use Rattle.server.specs.declared.judge.Verdict.the-variants.{Refuse, Go}
 use Rattle.server.specs.records.States.{isRunning, isReplying}
 use Rattle.server.specs.records.Rules.{sound}
-use Rattle.server.specs.judge.Rows.{isRow, says, orderFor, isForServer, arrivalRow, transmitRow, faultRow, timerRow, arms, armsTimer}
+use Rattle.server.specs.judge.Rows.{isRow, says, orderFor, isForServer, arrivalCell, transmitRow, faultRow, timerCell, arms, armsTimer}
 
 -- Reply, with a message of n bytes: in RUNNING.
 unfoldable pub replyRefusals : Server → ℕ → List Line
@@ -69,19 +69,19 @@ faultRefusals s status out =
 unfoldable pub faultVerdict : Server → ℕ → ℕ → Verdict
 faultVerdict s status out = firstOf Refuse (faultRefusals s status out) (Go (faultRow s status))
 
--- The RESEND timer; row is what the table says of it.
+-- The RESEND timer, with its cell of the table.
 unfoldable pub timerRefusals : Server → ℕ → ℕ → Verdict → List Line
-timerRefusals s ticket out row =
+timerRefusals s ticket out cell =
     WrongLength when not (eqb out pduSize)
     ∷ BrokenRecord when not (sound s)
-    ∷ NoRow when not (isRow row)
+    ∷ NoRow when not (isRow cell)
     ∷ LateTimer when not (armedWith (s .resend) ticket)
-    ∷ TicketsUsedUp when both (armsTimer row) (usedUp (s .tickets))
+    ∷ TicketsUsedUp when both (armsTimer cell) (usedUp (s .tickets))
     ∷ []
 
 unfoldable pub timerVerdict : Server → ℕ → ℕ → Verdict
 timerVerdict s ticket out =
-    firstOf Refuse (timerRefusals s ticket out (timerRow (s .state) (s .resends))) (timerRow (s .state) (s .resends))
+    firstOf Refuse (timerRefusals s ticket out (timerCell (s .state) (s .resends))) (timerCell (s .state) (s .resends))
 
 -- Type 0, the request, which is a fragment.
 unfoldable pub isRequest : ℕ → Bool
@@ -96,7 +96,7 @@ unfoldable pub isMalformed : ℕ → Bool → List ℕ → Bool
 isMalformed kind little body =
     choose (eqb kind 8) (cancelMalformed little body) (both (eqb kind 9) (fackMalformed little body))
 
--- A request's row puts its fragment: a begin, and COLLECT.
+-- A request's fragment is put: a begin, and COLLECT. A newer one in RUNNING is none, but 15 stands before 16 there.
 unfoldable pub puts : Order → State → Bool
 puts Below state = false
 puts Equal (IdleState idle) = true
@@ -148,37 +148,40 @@ isContradiction s h =
     (isOtherCall (orderFor s h) (s .call) h))
     (both (eqb (h .kind) 9) (acknowledgesMore (s .outgoing .count) (h .fragment)))
 
--- 10 to 17, of a header and a body that were read; row is what the table says of them. No row of theirs arms a timer.
+-- 10 to 17, of a header and a body that were read, with their cell of the table. No row of theirs arms a timer.
 unfoldable pub pduRefusals : Server → Header → Bool → List ℕ → Verdict → List Line
-pduRefusals s h little body row =
+pduRefusals s h little body cell =
     WrongSide when not (isForServer (h .kind))
     ∷ MaybeOrBroadcast when both (isRequest (h .kind)) (isMaybeOrBroadcast (h .flags1))
     ∷ WrongFragment when both (isRequest (h .kind)) (wrongFragment (h .flags1) (h .fragment))
-    ∷ OldCall when says OldCall row
+    ∷ OldCall when says OldCall cell
     ∷ MalformedBody when isMalformed (h .kind) little body
-    ∷ NoRow when says NoRow row
-    ∷ Repeated when either (says Repeated row) (both (isRequest (h .kind)) (isHeldAlready s h))
+    ∷ NoRow when says NoRow cell
+    ∷ Repeated when either (says Repeated cell) (both (isRequest (h .kind)) (isHeldAlready s h))
     ∷ Contradiction when isContradiction s h
     ∷ []
 
 unfoldable pub pduVerdict : Server → Header → Bool → List ℕ → Verdict
-pduVerdict s h little body = firstOf Refuse (pduRefusals s h little body (arrivalRow s h little body)) (arrivalRow s h little body)
+pduVerdict s h little body = firstOf Refuse (pduRefusals s h little body (arrivalCell s h little body)) (arrivalCell s h little body)
 
 -- The same with 9 in front.
+abbrev pub activityRefusals : Server → Header → Bool → List ℕ → List Line
+activityRefusals s h little body =
+    OtherActivity when not (same (s .activity) (h .activity))
+    ∷ pduRefusals s h little body (arrivalCell s h little body)
+
 unfoldable pub activityVerdict : Server → Header → Bool → List ℕ → Verdict
-activityVerdict s h little body =
-    firstOf Refuse (OtherActivity when not (same (s .activity) (h .activity)) ∷ pduRefusals s h little body (arrivalRow s h little body))
-    (arrivalRow s h little body)
+activityVerdict s h little body = firstOf Refuse (activityRefusals s h little body) (arrivalCell s h little body)
+
+-- 1 and 2 of a datagram, by the lengths of what is lent.
+abbrev pub entryRefusals : Server → ℕ → ℕ → List Line
+entryRefusals s slots out = WrongLength when not (lentRight slots out) ∷ BrokenRecord when not (sound s) ∷ []
 
 -- An arriving datagram, by the lengths of what is lent: 1, 2, those of the reader, 9, those of the PDU.
 unfoldable pub arrivalRefusals : Server → ℕ → ℕ → List ℕ → List Line
 arrivalRefusals s slots out d =
-    WrongLength when not (lentRight slots out)
-    ∷ BrokenRecord when not (sound s)
-    ∷ readRefusals d
-    ++ (OtherActivity when not (same (s .activity) (reading d .header .activity))
-    ∷ pduRefusals s (reading d .header) (reading d .little) (bodyOf d) (arrivalRow s (reading d .header) (reading d .little) (bodyOf d)))
+    entryRefusals s slots out ++ (readRefusals d ++ activityRefusals s (reading d .header) (reading d .little) (bodyOf d))
 
 unfoldable pub arrivalVerdict : Server → ℕ → ℕ → List ℕ → Verdict
 arrivalVerdict s slots out d =
-    firstOf Refuse (arrivalRefusals s slots out d) (arrivalRow s (reading d .header) (reading d .little) (bodyOf d))
+    firstOf Refuse (arrivalRefusals s slots out d) (arrivalCell s (reading d .header) (reading d .little) (bodyOf d))

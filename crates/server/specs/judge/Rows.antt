@@ -1,5 +1,5 @@
--- The server's table: which row an event has, by its number, the state and the marks. Where it has none, the table says which
--- refusal stands there.
+-- The server's table: which row an event has, by its number, the state and the marks. A cell of the table is that row, or
+-- the refusal that stands there.
 use Prim.Native.Nat.{ℕ, _+_}
 use mathlib.Core.Bool.{Bool, true, false}
 use mathlib.Core.List.{List}
@@ -33,14 +33,14 @@ use Rattle.server.specs.declared.judge.Row.the-variants.{Reply as ReplyR
 use Rattle.server.specs.declared.judge.Verdict.{Verdict}
 use Rattle.server.specs.declared.judge.Verdict.the-variants.{Refuse, Go}
 use Rattle.server.specs.records.States.{isFresh}
-use Rattle.server.specs.records.Arming.{runsAgain}
+use Rattle.server.specs.records.Repeatable.{runsAgain}
 
--- The table has a row for the event.
+-- The cell has a row.
 unfoldable pub isRow : Verdict → Bool
 isRow (Refuse r) = false
 isRow (Go row) = true
 
--- The table has that refusal in place of a row.
+-- The cell has that refusal.
 unfoldable pub says : Refusal → Verdict → Bool
 says r (Refuse q) = eqb (refusalNumber q) (refusalNumber r)
 says r (Go row) = false
@@ -89,10 +89,10 @@ requestEqual Replying bit begin put = Refuse Repeated
 requestEqual (Held reply) bit begin put = Go (replayRow reply)
 
 -- Request, by its number: below the server's, 13. Begin is the fragment put into empty slots, put the one put into the call's.
-unfoldable pub requestRow : Order → State → Bool → Fragment → Fragment → Verdict
-requestRow Below state bit begin put = Refuse OldCall
-requestRow Equal state bit begin put = requestEqual state bit begin put
-requestRow Newer state bit begin put = requestNewer state begin
+unfoldable pub requestCell : Order → State → Bool → Fragment → Fragment → Verdict
+requestCell Below state bit begin put = Refuse OldCall
+requestCell Equal state bit begin put = requestEqual state bit begin put
+requestCell Newer state bit begin put = requestNewer state begin
 
 -- Ping, equal: COLLECT and IDLE send nocall; RUNNING working; REPLYING 16; HELD replays.
 unfoldable pub pingEqual : State → Verdict
@@ -103,28 +103,28 @@ pingEqual Replying = Refuse Repeated
 pingEqual (Held reply) = Go (replayRow reply)
 
 -- Ping: newer or fresh, in any state, sends nocall.
-unfoldable pub pingRow : Order → State → Verdict
-pingRow Below state = Refuse OldCall
-pingRow Equal state = pingEqual state
-pingRow Newer state = Go Nocall
+unfoldable pub pingCell : Order → State → Verdict
+pingCell Below state = Refuse OldCall
+pingCell Equal state = pingEqual state
+pingCell Newer state = Go Nocall
 
 -- What stands in REPLYING and HELD alone; elsewhere 15.
 unfoldable pub whereReplied : State → Verdict → Verdict
-whereReplied (IdleState idle) row = Refuse NoRow
-whereReplied Collect row = Refuse NoRow
-whereReplied Running row = Refuse NoRow
-whereReplied Replying row = row
-whereReplied (Held reply) row = row
+whereReplied (IdleState idle) cell = Refuse NoRow
+whereReplied Collect cell = Refuse NoRow
+whereReplied Running cell = Refuse NoRow
+whereReplied Replying cell = cell
+whereReplied (Held reply) cell = cell
 
 -- A fack or ack of another number not below the server's: 15.
-unfoldable pub acknowledgementRow : Order → State → Verdict → Verdict
-acknowledgementRow Below state row = Refuse OldCall
-acknowledgementRow Equal state row = whereReplied state row
-acknowledgementRow Newer state row = Refuse NoRow
+unfoldable pub acknowledgementCell : Order → State → Verdict → Verdict
+acknowledgementCell Below state cell = Refuse OldCall
+acknowledgementCell Equal state cell = whereReplied state cell
+acknowledgementCell Newer state cell = Refuse NoRow
 
 -- Ack, equal, there, of a call that is not idempotent: to IDLE spent.
-unfoldable pub ackRow : Bool → Verdict
-ackRow idempotent = choose idempotent (Refuse NoRow) (Go Spend)
+unfoldable pub ackCell : Bool → Verdict
+ackCell idempotent = choose idempotent (Refuse NoRow) (Go Spend)
 
 -- A cancel in RUNNING: a number above the last seen is heard.
 unfoldable pub runningCancel : ℕ → ℕ → Row
@@ -139,10 +139,10 @@ cancelEqual Replying seen n = Go (DeclineCancel n)
 cancelEqual (Held reply) seen n = Go (DeclineCancel n)
 
 -- Cancel: of a call below the server's 13; newer or fresh, in any state, 15.
-unfoldable pub cancelRow : Order → State → ℕ → ℕ → Verdict
-cancelRow Below state seen n = Refuse OldCall
-cancelRow Equal state seen n = cancelEqual state seen n
-cancelRow Newer state seen n = Refuse NoRow
+unfoldable pub cancelCell : Order → State → ℕ → ℕ → Verdict
+cancelCell Below state seen n = Refuse OldCall
+cancelCell Equal state seen n = cancelEqual state seen n
+cancelCell Newer state seen n = Refuse NoRow
 
 -- A request's fragment, put into these slots.
 unfoldable pub requestPut : Incoming → Header → List ℕ → Fragment
@@ -153,14 +153,14 @@ unfoldable pub isForServer : ℕ → Bool
 isForServer kind = either (eqb kind 0) (either (eqb kind 1) (either (eqb kind 7) (either (eqb kind 8) (eqb kind 9))))
 
 -- What arrives, by its type: request 0, ping 1, ack 7, cancel 8, fack 9.
-unfoldable pub arrivalRow : Server → Header → Bool → List ℕ → Verdict
-arrivalRow s h little body =
+unfoldable pub arrivalCell : Server → Header → Bool → List ℕ → Verdict
+arrivalCell s h little body =
     choose (eqb (h .kind) 0)
-    (requestRow (orderFor s h) (s .state) (hasFlag idempotent (h .flags1)) (requestPut cleared h body) (requestPut (s .incoming) h body))
-    (choose (eqb (h .kind) 1) (pingRow (orderFor s h) (s .state))
-    (choose (eqb (h .kind) 7) (acknowledgementRow (orderFor s h) (s .state) (ackRow (s .call .idempotent)))
-    (choose (eqb (h .kind) 8) (cancelRow (orderFor s h) (s .state) (s .seen) (cancelNumberIn little body))
-    (choose (eqb (h .kind) 9) (acknowledgementRow (orderFor s h) (s .state) (Go (Acknowledge (acknowledgedBy (h .fragment)))))
+    (requestCell (orderFor s h) (s .state) (hasFlag idempotent (h .flags1)) (requestPut cleared h body) (requestPut (s .incoming) h body))
+    (choose (eqb (h .kind) 1) (pingCell (orderFor s h) (s .state))
+    (choose (eqb (h .kind) 7) (acknowledgementCell (orderFor s h) (s .state) (ackCell (s .call .idempotent)))
+    (choose (eqb (h .kind) 8) (cancelCell (orderFor s h) (s .state) (s .seen) (cancelNumberIn little body))
+    (choose (eqb (h .kind) 9) (acknowledgementCell (orderFor s h) (s .state) (Go (Acknowledge (acknowledgedBy (h .fragment)))))
     (Refuse WrongSide)))))
 
 -- Transmit: the next fragment; with the last, an idempotent call whose reply is one fragment is repeatable, any other held.
@@ -182,12 +182,12 @@ unfoldable pub resendRow : Reply → ℕ → Row
 resendRow reply resends = choose (ltb resends retryLimit) (resendHeld reply (resends + 1)) Spend
 
 -- Only HELD has the timer's row.
-unfoldable pub timerRow : State → ℕ → Verdict
-timerRow (IdleState idle) resends = Refuse NoRow
-timerRow Collect resends = Refuse NoRow
-timerRow Running resends = Refuse NoRow
-timerRow Replying resends = Refuse NoRow
-timerRow (Held reply) resends = Go (resendRow reply resends)
+unfoldable pub timerCell : State → ℕ → Verdict
+timerCell (IdleState idle) resends = Refuse NoRow
+timerCell Collect resends = Refuse NoRow
+timerCell Running resends = Refuse NoRow
+timerCell Replying resends = Refuse NoRow
+timerCell (Held reply) resends = Go (resendRow reply resends)
 
 -- Rows that arm RESEND: a reply or fault that is held, and a fault that is sent again by the timer.
 unfoldable pub arms : Row → Bool
@@ -211,7 +211,7 @@ arms (HearCancel n) = false
 arms (AcceptCancel n) = false
 arms (DeclineCancel n) = false
 
--- The same of what the table says of an event: no row arms nothing.
+-- The same of a cell: where it has no row, nothing is armed.
 unfoldable pub armsTimer : Verdict → Bool
 armsTimer (Refuse r) = false
 armsTimer (Go row) = arms row

@@ -13,7 +13,7 @@ use Rattle.bodies.specs.Cancel.{cancelAckMalformed, cancelNumberIn}
 use Rattle.client.specs.declared.records.Client.{Client}
 use Rattle.client.specs.declared.judge.Verdict.the-variants.{Refuse, Go}
 use Rattle.client.specs.declared.judge.Row.the-variants.{CancelAck}
-use Rattle.client.specs.judge.Rows.{rowIn, isRow, isCurrent, isForClient, arrivalRow, arms, armsTimer}
+use Rattle.client.specs.judge.Rows.{cellIn, isRow, isCurrent, isForClient, arrivalCell, arms, armsTimer}
 use Rattle.client.specs.judge.Refusals.{isResponse, isOld, isMalformed, isContradiction, pduRefusals, pduVerdict}
 use Rattle.client.proofs.Returns.{by-test}
 use Rattle.client.proofs.judge.cancel_ack.Statement.{statement}
@@ -26,7 +26,7 @@ lines : (c : Client) (h : Header) (little : Bool) (body : List ℕ) → h .kind 
     (choose (cancelAckMalformed little body) (Refuse MalformedBody)
     (choose (not (isCurrent (c .cancel) (c .cancels) (cancelNumberIn little body))) (Refuse NoRow)
     (Go CancelAck)))
-unfolding pduVerdict pduRefusals firstOf arrivalRow isResponse isMalformed isContradiction isForClient rowIn isRow armsTimer arms both either choose
+unfolding pduVerdict pduRefusals firstOf arrivalCell isResponse isMalformed isContradiction isForClient cellIn isRow armsTimer arms both either choose
 lines c h little body e =
     by-test (isCurrent (c .cancel) (c .cancels) (cancelNumberIn little body)) (λ is. rw (e, is)) (λ is. rw (e, is))
 
@@ -51,7 +51,7 @@ returns-3 c =
       lines,
       ← c .before .before .before .before .before .before .is-old .ensures,
       ← c .before .before .before .before .is-cancel-ack-malformed .ensures,
-      ← c .before .before .number32 .ensures,
+      ← c .before .before .cancel-number .ensures,
       ← c .before .is-current .ensures,
     ) (search tests)
 
@@ -62,7 +62,7 @@ returns-4 c =
       lines,
       ← c .before .before .before .before .before .before .is-old .ensures,
       ← c .before .before .before .before .is-cancel-ack-malformed .ensures,
-      ← c .before .before .number32 .ensures,
+      ← c .before .before .cancel-number .ensures,
       ← c .before .is-current .ensures,
     ) (search tests)
 

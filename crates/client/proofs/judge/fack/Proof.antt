@@ -16,7 +16,7 @@ use Rattle.client.specs.declared.records.Client.{Client}
 use Rattle.client.specs.declared.judge.Verdict.the-variants.{Refuse, Go}
 use Rattle.client.specs.records.States.{isActive}
 use Rattle.client.specs.declared.judge.Row.the-variants.{Fack}
-use Rattle.client.specs.judge.Rows.{rowIn, isRow, isForClient, arrivalRow, arms, armsTimer}
+use Rattle.client.specs.judge.Rows.{cellIn, isRow, isForClient, arrivalCell, arms, armsTimer}
 use Rattle.client.specs.judge.Refusals.{isResponse, isOld, isMalformed, isContradiction, pduRefusals, pduVerdict}
 use Rattle.client.proofs.Returns.{by-test}
 use Rattle.client.proofs.judge.fack.Statement.{statement}
@@ -30,7 +30,7 @@ lines : (c : Client) (h : Header) (little : Bool) (body : List ℕ) → h .kind 
     (choose (not (isActive (c .state))) (Refuse NoRow)
     (choose (ltb (c .outgoing .count) (acknowledgedBy (h .fragment))) (Refuse Contradiction)
     (Go (Fack (acknowledgedBy (h .fragment)))))))
-unfolding pduVerdict pduRefusals firstOf arrivalRow isResponse isMalformed isContradiction isForClient rowIn isRow armsTimer arms both either choose acknowledgesMore
+unfolding pduVerdict pduRefusals firstOf arrivalCell isResponse isMalformed isContradiction isForClient cellIn isRow armsTimer arms both either choose acknowledgesMore
 lines c h little body e = by-test (isActive (c .state)) (λ is. rw (e, is)) (λ is. rw (e, is))
 
 returns : tie.Need-returns

@@ -16,7 +16,7 @@ use Rattle.client.specs.declared.records.Client.{Client}
 use Rattle.client.specs.declared.judge.Verdict.the-variants.{Refuse, Go}
 use Rattle.client.specs.records.States.{isActive}
 use Rattle.client.specs.declared.judge.Row.the-variants.{Fault, Reject}
-use Rattle.client.specs.judge.Rows.{rowIn, isRow, isForClient, arrivalRow, arms, armsTimer}
+use Rattle.client.specs.judge.Rows.{cellIn, isRow, isForClient, arrivalCell, arms, armsTimer}
 use Rattle.client.specs.judge.Refusals.{isResponse, isOld, isMalformed, isContradiction, pduRefusals, pduVerdict}
 use Rattle.client.proofs.Returns.{by-test}
 use Rattle.client.proofs.judge.failure.Statement.{statement}
@@ -26,10 +26,10 @@ use Rattle.client.proofs.judge.failure.Tie as tie
 lines : (c : Client) (h : Header) (little : Bool) (body : List ℕ) → (h .kind ≡ 3) ⊎ (h .kind ≡ 6)
     → pduVerdict c h little body ≡
     choose (isOld (c .state) (c .number) (h .number)) (Refuse OldCall)
-    (choose (statusMalformed little body) (Refuse MalformedBody)
+    (choose (statusMalformed body) (Refuse MalformedBody)
     (choose (not (isActive (c .state))) (Refuse NoRow)
     (choose (eqb (h .kind) 3) (Go (Fault (statusIn little body))) (Go (Reject (statusIn little body))))))
-unfolding pduVerdict pduRefusals firstOf arrivalRow isResponse isMalformed isContradiction isForClient rowIn isRow armsTimer arms both either choose
+unfolding pduVerdict pduRefusals firstOf arrivalCell isResponse isMalformed isContradiction isForClient cellIn isRow armsTimer arms both either choose
 lines c h little body (inl e) = by-test (isActive (c .state)) (λ is. rw (e, is)) (λ is. rw (e, is))
 lines c h little body (inr e) = by-test (isActive (c .state)) (λ is. rw (e, is)) (λ is. rw (e, is))
 
@@ -65,7 +65,7 @@ returns-4 c =
       ← c .before .before .before .before .before .before .before .before .is-old .ensures,
       ← c .before .before .before .before .before .before .is-status-malformed .ensures,
       ← c .before .before .before .before .is-active .ensures,
-      ← c .before .before .number32 .ensures,
+      ← c .before .before .status .ensures,
     ) (search tests)
 
 returns-5 : tie.Need-returns-5
@@ -76,7 +76,7 @@ returns-5 c =
       ← c .before .before .before .before .before .before .before .before .is-old .ensures,
       ← c .before .before .before .before .before .before .is-status-malformed .ensures,
       ← c .before .before .before .before .is-active .ensures,
-      ← c .before .before .number32 .ensures,
+      ← c .before .before .status .ensures,
     ) (search tests)
 
 pub failure-spec : {M : Type 1} → statement M

@@ -14,7 +14,7 @@ use Rattle.pdu.specs.declared.Header.{Header}
 use Rattle.client.specs.declared.records.Client.{Client}
 use Rattle.client.specs.declared.judge.Verdict.the-variants.{Refuse, Go}
 use Rattle.client.specs.records.States.{isDispatched}
-use Rattle.client.specs.judge.Rows.{rowIn, isRow, nocallRow, isForClient, arrivalRow, arms, armsTimer}
+use Rattle.client.specs.judge.Rows.{cellIn, isRow, nocallRow, isForClient, arrivalCell, arms, armsTimer}
 use Rattle.client.specs.judge.Refusals.{isResponse, isOld, isMalformed, isContradiction, pduRefusals, pduVerdict}
 use Rattle.client.proofs.Returns.{by-test}
 use Rattle.client.proofs.judge.nocall.Statement.{statement}
@@ -31,7 +31,7 @@ lines : (c : Client) (h : Header) (little : Bool) (body : List ℕ) → h .kind 
     choose (isOld (c .state) (c .number) (h .number)) (Refuse OldCall)
     (choose (not (isDispatched (c .state))) (Refuse NoRow)
     (Go (nocallRow (c .resends))))
-unfolding pduVerdict pduRefusals firstOf arrivalRow isResponse isMalformed isContradiction isForClient rowIn isRow armsTimer arms both either choose
+unfolding pduVerdict pduRefusals firstOf arrivalCell isResponse isMalformed isContradiction isForClient cellIn isRow armsTimer arms both either choose
 lines c h little body e =
     by-test (isDispatched (c .state)) (λ is. rw (e, is, unarmed c (c .resends))) (λ is. rw (e, is))
 

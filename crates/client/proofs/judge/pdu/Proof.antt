@@ -13,7 +13,7 @@ use Rattle.answers.specs.declared.Refusal.the-variants.{WrongSide}
 use Rattle.pdu.specs.declared.Header.{Header}
 use Rattle.client.specs.declared.records.Client.{Client}
 use Rattle.client.specs.declared.judge.Verdict.the-variants.{Refuse}
-use Rattle.client.specs.judge.Rows.{isForClient, arrivalRow}
+use Rattle.client.specs.judge.Rows.{isForClient, arrivalCell}
 use Rattle.client.specs.judge.Refusals.{pduRefusals, pduVerdict}
 use Rattle.client.proofs.judge.pdu.Statement.{statement}
 use Rattle.client.proofs.judge.pdu.Tie as tie

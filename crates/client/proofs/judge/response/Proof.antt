@@ -18,7 +18,7 @@ use Rattle.client.specs.declared.records.Client.{Client}
 use Rattle.client.specs.declared.judge.Verdict.the-variants.{Refuse, Go}
 use Rattle.client.specs.records.States.{isActive}
 use Rattle.client.specs.declared.judge.Row.the-variants.{Response}
-use Rattle.client.specs.judge.Rows.{rowIn, isRow, isForClient, arrivalRow, arms, armsTimer}
+use Rattle.client.specs.judge.Rows.{cellIn, isRow, isForClient, arrivalCell, arms, armsTimer}
 use Rattle.client.specs.judge.Refusals.{isResponse, isOld, isMalformed, isContradiction, pduRefusals, pduVerdict}
 use Rattle.client.proofs.Returns.{by-test}
 use Rattle.client.proofs.judge.response.Statement.{statement}
@@ -38,7 +38,7 @@ lines : (c : Client) (h : Header) (little : Bool) (body : List ℕ) → h .kind 
     (choose (contradicts (c .incoming) (h .fragment) (isLast (h .flags1))) (Refuse Contradiction)
     (choose (both (arms c (Response (fragment c h body))) (usedUp (c .tickets))) (Refuse TicketsUsedUp)
     (Go (Response (fragment c h body))))))))
-unfolding pduVerdict pduRefusals firstOf arrivalRow isResponse isMalformed isContradiction isForClient rowIn isRow armsTimer both either choose
+unfolding pduVerdict pduRefusals firstOf arrivalCell isResponse isMalformed isContradiction isForClient cellIn isRow armsTimer both either choose
 lines c h little body e = by-test (isActive (c .state)) (λ is. rw (e, is)) (λ is. rw (e, is))
 
 returns : tie.Need-returns

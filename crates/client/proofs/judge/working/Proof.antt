@@ -14,7 +14,7 @@ use Rattle.client.specs.declared.records.Client.{Client}
 use Rattle.client.specs.declared.judge.Verdict.the-variants.{Refuse, Go}
 use Rattle.client.specs.records.States.{isDispatched}
 use Rattle.client.specs.declared.judge.Row.the-variants.{Working}
-use Rattle.client.specs.judge.Rows.{rowIn, isRow, isForClient, arrivalRow, arms, armsTimer}
+use Rattle.client.specs.judge.Rows.{cellIn, isRow, isForClient, arrivalCell, arms, armsTimer}
 use Rattle.client.specs.judge.Refusals.{isResponse, isOld, isMalformed, isContradiction, pduRefusals, pduVerdict}
 use Rattle.client.proofs.Returns.{by-test}
 use Rattle.client.proofs.judge.working.Statement.{statement}
@@ -27,7 +27,7 @@ lines : (c : Client) (h : Header) (little : Bool) (body : List ℕ) → h .kind 
     (choose (not (isDispatched (c .state))) (Refuse NoRow)
     (choose (both (arms c Working) (usedUp (c .tickets))) (Refuse TicketsUsedUp)
     (Go Working)))
-unfolding pduVerdict pduRefusals firstOf arrivalRow isResponse isMalformed isContradiction isForClient rowIn isRow armsTimer both either choose
+unfolding pduVerdict pduRefusals firstOf arrivalCell isResponse isMalformed isContradiction isForClient cellIn isRow armsTimer both either choose
 lines c h little body e = by-test (isDispatched (c .state)) (λ is. rw (e, is)) (λ is. rw (e, is))
 
 returns : tie.Need-returns

@@ -1,6 +1,6 @@
 -- `client::records::is_named` meets its contract.
 use borrow.Author.Needs.{needs}
-use Rattle.client.specs.records.Arming.{namedBy}
+use Rattle.client.specs.records.Named.{namedBy}
 use Rattle.client.proofs.records.is_named.Statement.{statement}
 use Rattle.client.proofs.records.is_named.Tie as tie
 

@@ -1,5 +1,5 @@
 -- `client::records::timer_of` meets its contract.
-use Rattle.client.specs.records.Arming.{namedTimer}
+use Rattle.client.specs.records.Named.{namedTimer}
 use Rattle.words.proofs.Tests.{tests}
 use borrow.Author.Needs.{needs}
 use Rattle.client.proofs.records.timer_of.Statement.{statement}

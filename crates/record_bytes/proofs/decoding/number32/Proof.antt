@@ -1,12 +1,12 @@
 -- `record_bytes::decoding::number32` meets its contract.
 use borrow.Author.Needs.{needs}
-use Rattle.record_bytes.proofs.NumberLaws.{number-four}
-use mathlib.Core.Path.{sym, _∙_}
+use mathlib.Core.Path.{_∙_}
+use Rattle.record_bytes.proofs.NumberLaws.{number-bytes}
 use Rattle.record_bytes.proofs.decoding.number32.Statement.{statement}
 use Rattle.record_bytes.proofs.decoding.number32.Tie as tie
 
 returns : tie.Need-returns
-returns c = c .sum32 .ensures ∙ sym (number-four _ _)
+returns c = c .join32 .ensures ∙ number-bytes _ _
 
 pub number32-spec : {M : Type 1} → statement M
 number32-spec =

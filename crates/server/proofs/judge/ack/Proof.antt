@@ -1,5 +1,5 @@
 -- `server::judge::ack` meets its contract.
-use Rattle.server.specs.judge.Rows.{acknowledgementRow, ackRow}
+use Rattle.server.specs.judge.Rows.{acknowledgementCell, ackCell}
 use Rattle.server.proofs.judge.KindLaws.{replied-lines, ack-lines}
 use Rattle.server.proofs.judge.ArmLaws.{is-newer}
 use borrow.Author.Needs.{needs}
@@ -8,7 +8,7 @@ use Rattle.server.proofs.judge.ack.Statement.{statement}
 use Rattle.server.proofs.judge.ack.Tie as tie
 
 returns : tie.Need-returns
-unfolding acknowledgementRow ackRow
+unfolding acknowledgementCell ackCell
 returns c =
     let at-order-for = c .before .before in
     let start = at-order-for .before .before .before in
@@ -16,7 +16,7 @@ returns c =
     rw (ack-lines, ← at-order-for .order-for .ensures, c .enum-told .given .1)
 
 returns-2 : tie.Need-returns-2
-unfolding acknowledgementRow ackRow
+unfolding acknowledgementCell ackCell
 returns-2 c =
     let at-match = c .before in
     let at-order-for = at-match .before in
@@ -29,7 +29,7 @@ returns-2 c =
     )
 
 returns-3 : tie.Need-returns-3
-unfolding acknowledgementRow ackRow
+unfolding acknowledgementCell ackCell
 returns-3 c =
     let at-is-replied = c .before in
     let at-enum-told2 = at-is-replied .before in
@@ -45,7 +45,7 @@ returns-3 c =
     ) (search tests)
 
 returns-4 : tie.Need-returns-4
-unfolding acknowledgementRow ackRow
+unfolding acknowledgementCell ackCell
 returns-4 c =
     let at-is-replied = c .before .before in
     let at-enum-told2 = at-is-replied .before in
@@ -61,7 +61,7 @@ returns-4 c =
     ) (search tests)
 
 returns-5 : tie.Need-returns-5
-unfolding acknowledgementRow ackRow
+unfolding acknowledgementCell ackCell
 returns-5 c =
     let at-is-replied = c .before .before in
     let at-enum-told2 = at-is-replied .before in
@@ -77,7 +77,7 @@ returns-5 c =
     ) (search tests)
 
 pub ack-spec : {M : Type 1} → statement M
-unfolding acknowledgementRow ackRow
+unfolding acknowledgementCell ackCell
 ack-spec =
     tie.close
     (tie.spec

@@ -1,6 +1,6 @@
 -- `server::judge::cancel` meets its contract.
 use Rattle.words.specs.Choice.{choose}
-use Rattle.server.specs.judge.Rows.{cancelRow}
+use Rattle.server.specs.judge.Rows.{cancelCell}
 use Rattle.server.proofs.judge.KindLaws.{isBelow, cancel-lines}
 use Rattle.server.proofs.judge.ArmLaws.{not-below, is-newer}
 use borrow.Author.Needs.{needs}
@@ -9,7 +9,7 @@ use Rattle.server.proofs.judge.cancel.Statement.{statement}
 use Rattle.server.proofs.judge.cancel.Tie as tie
 
 returns : tie.Need-returns
-unfolding isBelow cancelRow choose
+unfolding isBelow cancelCell choose
 returns c =
     let at-order-for = c .before .before in
     let start = at-order-for .before .before in
@@ -17,7 +17,7 @@ returns c =
     rw (cancel-lines, ← at-order-for .order-for .ensures, c .enum-told .given .1)
 
 returns-2 : tie.Need-returns-2
-unfolding isBelow cancelRow choose
+unfolding isBelow cancelCell choose
 returns-2 c =
     let at-is-cancel-malformed = c .before in
     let at-match = at-is-cancel-malformed .before in
@@ -32,7 +32,7 @@ returns-2 c =
     ) (search tests)
 
 returns-3 : tie.Need-returns-3
-unfolding isBelow cancelRow choose
+unfolding isBelow cancelCell choose
 returns-3 c =
     let at-is-cancel-malformed = c .before .before in
     let at-match = at-is-cancel-malformed .before in
@@ -47,10 +47,10 @@ returns-3 c =
     ) (search tests)
 
 returns-4 : tie.Need-returns-4
-unfolding isBelow cancelRow choose
+unfolding isBelow cancelCell choose
 returns-4 c =
-    let at-number32 = c .before in
-    let at-enum-told2 = at-number32 .before in
+    let at-cancel-number = c .before in
+    let at-enum-told2 = at-cancel-number .before in
     let at-is-cancel-malformed = at-enum-told2 .before .before .before in
     let at-order-for = at-is-cancel-malformed .before .before in
     let start = at-order-for .before .before in
@@ -60,12 +60,12 @@ returns-4 c =
       ← at-order-for .order-for .ensures,
       at-enum-told2 .enum-told2 .given .1,
       ← at-is-cancel-malformed .is-cancel-malformed .ensures,
-      ← at-number32 .number32 .ensures,
+      ← at-cancel-number .cancel-number .ensures,
       ← c .cancel-equal .ensures,
     ) (search tests)
 
 pub cancel-spec : {M : Type 1} → statement M
-unfolding isBelow cancelRow choose
+unfolding isBelow cancelCell choose
 cancel-spec =
     tie.close
     (tie.spec

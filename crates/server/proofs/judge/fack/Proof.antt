@@ -1,7 +1,7 @@
 -- `server::judge::fack` meets its contract.
 use Rattle.words.specs.Choice.{choose}
 use Rattle.facks.specs.Mask.{acknowledgesMore}
-use Rattle.server.specs.judge.Rows.{acknowledgementRow}
+use Rattle.server.specs.judge.Rows.{acknowledgementCell}
 use Rattle.server.proofs.judge.KindLaws.{isBelow, replied-lines, fack-lines}
 use Rattle.server.proofs.judge.ArmLaws.{not-below, is-newer}
 use borrow.Author.Needs.{needs}
@@ -10,7 +10,7 @@ use Rattle.server.proofs.judge.fack.Statement.{statement}
 use Rattle.server.proofs.judge.fack.Tie as tie
 
 returns : tie.Need-returns
-unfolding acknowledgesMore isBelow acknowledgementRow choose
+unfolding acknowledgesMore isBelow acknowledgementCell choose
 returns c =
     let at-order-for = c .before .before in
     let start = at-order-for .before .before .before in
@@ -18,7 +18,7 @@ returns c =
     rw (fack-lines, ← at-order-for .order-for .ensures, c .enum-told .given .1)
 
 returns-2 : tie.Need-returns-2
-unfolding acknowledgesMore isBelow acknowledgementRow choose
+unfolding acknowledgesMore isBelow acknowledgementCell choose
 returns-2 c =
     let at-is-fack-malformed = c .before in
     let at-match = at-is-fack-malformed .before in
@@ -33,7 +33,7 @@ returns-2 c =
     ) (search tests)
 
 returns-3 : tie.Need-returns-3
-unfolding acknowledgesMore isBelow acknowledgementRow choose
+unfolding acknowledgesMore isBelow acknowledgementCell choose
 returns-3 c =
     let at-is-fack-malformed = c .before .before in
     let at-match = at-is-fack-malformed .before in
@@ -48,7 +48,7 @@ returns-3 c =
     ) (search tests)
 
 returns-4 : tie.Need-returns-4
-unfolding acknowledgesMore isBelow acknowledgementRow choose
+unfolding acknowledgesMore isBelow acknowledgementCell choose
 returns-4 c =
     let at-is-replied = c .before in
     let at-enum-told2 = at-is-replied .before in
@@ -66,7 +66,7 @@ returns-4 c =
     ) (search tests)
 
 returns-5 : tie.Need-returns-5
-unfolding acknowledgesMore isBelow acknowledgementRow choose
+unfolding acknowledgesMore isBelow acknowledgementCell choose
 returns-5 c =
     let at-acknowledged-by = c .before .before in
     let at-is-replied = at-acknowledged-by .before .before in
@@ -86,7 +86,7 @@ returns-5 c =
     ) (search tests)
 
 returns-6 : tie.Need-returns-6
-unfolding acknowledgesMore isBelow acknowledgementRow choose
+unfolding acknowledgesMore isBelow acknowledgementCell choose
 returns-6 c =
     let at-acknowledged-by = c .before .before in
     let at-is-replied = at-acknowledged-by .before .before in
@@ -106,7 +106,7 @@ returns-6 c =
     ) (search tests)
 
 pub fack-spec : {M : Type 1} → statement M
-unfolding acknowledgesMore isBelow acknowledgementRow choose
+unfolding acknowledgesMore isBelow acknowledgementCell choose
 fack-spec =
     tie.close
     (tie.spec

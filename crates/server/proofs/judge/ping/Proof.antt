@@ -1,12 +1,12 @@
 -- `server::judge::ping` meets its contract.
-use Rattle.server.specs.judge.Rows.{pingRow}
+use Rattle.server.specs.judge.Rows.{pingCell}
 use Rattle.server.proofs.judge.KindLaws.{ping-lines}
 use borrow.Author.Needs.{needs}
 use Rattle.server.proofs.judge.ping.Statement.{statement}
 use Rattle.server.proofs.judge.ping.Tie as tie
 
 returns : tie.Need-returns
-unfolding pingRow
+unfolding pingCell
 returns c =
     let at-order-for = c .before .before in
     let start = at-order-for .before .before in
@@ -14,7 +14,7 @@ returns c =
     rw (ping-lines, ← at-order-for .order-for .ensures, c .enum-told .given .1)
 
 returns-2 : tie.Need-returns-2
-unfolding pingRow
+unfolding pingCell
 returns-2 c =
     let at-enum-told2 = c .before in
     let at-order-for = at-enum-told2 .before .before in
@@ -28,7 +28,7 @@ returns-2 c =
     )
 
 returns-3 : tie.Need-returns-3
-unfolding pingRow
+unfolding pingCell
 returns-3 c =
     let at-order-for = c .before .before in
     let start = at-order-for .before .before in
@@ -36,7 +36,7 @@ returns-3 c =
     rw (ping-lines, ← at-order-for .order-for .ensures, c .enum-told3 .given .1)
 
 pub ping-spec : {M : Type 1} → statement M
-unfolding pingRow
+unfolding pingCell
 ping-spec =
     tie.close
     (tie.spec

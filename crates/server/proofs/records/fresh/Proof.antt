@@ -1,4 +1,4 @@
--- `server_record::fresh` meets its contract.
+-- `server::records::fresh` meets its contract.
 use Rattle.server.specs.records.Record.{fresh}
 use borrow.Author.Needs.{needs}
 use Rattle.server.proofs.records.fresh.Statement.{statement}

@@ -1,4 +1,4 @@
--- `server_record::held_rule` meets its contract.
+-- `server::records::held_rule` meets its contract.
 use Rattle.words.proofs.Tests.{tests}
 use Rattle.server.specs.records.Rules.{heldRule}
 use borrow.Author.Needs.{needs}

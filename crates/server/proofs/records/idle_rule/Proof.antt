@@ -1,4 +1,4 @@
--- `server_record::idle_rule` meets its contract.
+-- `server::records::idle_rule` meets its contract.
 use Rattle.words.proofs.Tests.{tests}
 use Rattle.server.specs.records.Rules.{idleRule}
 use borrow.Author.Needs.{needs}

@@ -1,4 +1,4 @@
--- `server_record::is_fresh` meets its contract.
+-- `server::records::is_fresh` meets its contract.
 use Rattle.words.proofs.Tests.{tests}
 use Rattle.server.specs.records.States.{isFresh}
 use borrow.Author.Needs.{needs}

@@ -1,4 +1,4 @@
--- `server_record::is_held` meets its contract.
+-- `server::records::is_held` meets its contract.
 use Rattle.words.proofs.Tests.{tests}
 use Rattle.server.specs.records.States.{isHeld}
 use borrow.Author.Needs.{needs}

@@ -1,4 +1,4 @@
--- `server_record::is_never_called` meets its contract.
+-- `server::records::is_never_called` meets its contract.
 use Rattle.words.proofs.Tests.{tests}
 use Rattle.server.specs.records.States.{neverCalled}
 use borrow.Author.Needs.{needs}

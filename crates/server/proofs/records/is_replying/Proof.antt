@@ -1,4 +1,4 @@
--- `server_record::is_replying` meets its contract.
+-- `server::records::is_replying` meets its contract.
 use Rattle.words.proofs.Tests.{tests}
 use Rattle.server.specs.records.States.{isReplying}
 use borrow.Author.Needs.{needs}

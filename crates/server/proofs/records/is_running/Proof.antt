@@ -1,4 +1,4 @@
--- `server_record::is_running` meets its contract.
+-- `server::records::is_running` meets its contract.
 use Rattle.words.proofs.Tests.{tests}
 use Rattle.server.specs.records.States.{isRunning}
 use borrow.Author.Needs.{needs}

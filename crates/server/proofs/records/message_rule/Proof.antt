@@ -1,4 +1,4 @@
--- `server_record::message_rule` meets its contract.
+-- `server::records::message_rule` meets its contract.
 use Rattle.words.proofs.Tests.{tests}
 use Rattle.server.specs.records.Rules.{messageRule}
 use borrow.Author.Needs.{needs}

@@ -1,4 +1,4 @@
--- `server_record::outgoing_is_sound` meets its contract.
+-- `server::records::outgoing_is_sound` meets its contract.
 use Rattle.server.specs.records.Rules.{outgoingSound}
 use borrow.Author.Needs.{needs}
 use Rattle.server.proofs.records.outgoing_is_sound.Statement.{statement}

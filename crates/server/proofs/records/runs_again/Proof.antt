@@ -1,5 +1,5 @@
--- `server_record::runs_again` meets its contract.
-use Rattle.server.specs.records.Arming.{runsAgain}
+-- `server::records::runs_again` meets its contract.
+use Rattle.server.specs.records.Repeatable.{runsAgain}
 use Rattle.words.proofs.Tests.{tests}
 use borrow.Author.Needs.{needs}
 use Rattle.server.proofs.records.runs_again.Statement.{statement}

@@ -1,4 +1,4 @@
--- `server_record::to_holding` meets its contract.
+-- `server::records::to_holding` meets its contract.
 use Rattle.server.specs.records.Record.{holding}
 use borrow.Author.Needs.{needs}
 use Rattle.server.proofs.records.to_holding.Statement.{statement}

@@ -1,4 +1,4 @@
--- `server_record::to_unarmed` meets its contract.
+-- `server::records::to_unarmed` meets its contract.
 use Rattle.words.proofs.Tests.{tests}
 use Rattle.server.specs.records.Record.{unarmed}
 use borrow.Author.Needs.{needs}

@@ -1,4 +1,4 @@
--- `server_record::with_call` meets its contract.
+-- `server::records::with_call` meets its contract.
 use borrow.Author.Needs.{needs}
 use Rattle.server.proofs.records.with_call.Statement.{statement}
 use Rattle.server.proofs.records.with_call.Tie as tie

@@ -1,4 +1,4 @@
--- `server_record::with_incoming` meets its contract.
+-- `server::records::with_incoming` meets its contract.
 use Rattle.server.specs.records.Record.{withIncoming}
 use Rattle.words.proofs.Tests.{tests}
 use Rattle.server.proofs.records.with_incoming.Statement.{statement}

@@ -1,4 +1,4 @@
--- `server_record::with_outgoing` meets its contract.
+-- `server::records::with_outgoing` meets its contract.
 use Rattle.server.specs.records.Record.{withOutgoing}
 use Rattle.words.proofs.Tests.{tests}
 use Rattle.server.proofs.records.with_outgoing.Statement.{statement}

@@ -1,4 +1,4 @@
--- `server_record::with_resends` meets its contract.
+-- `server::records::with_resends` meets its contract.
 use Rattle.server.specs.records.Record.{withResends}
 use Rattle.words.proofs.Tests.{tests}
 use Rattle.server.proofs.records.with_resends.Statement.{statement}

@@ -1,4 +1,4 @@
--- `server_record::with_seen` meets its contract.
+-- `server::records::with_seen` meets its contract.
 use Rattle.server.specs.records.Record.{withSeen}
 use Rattle.words.proofs.Tests.{tests}
 use Rattle.server.proofs.records.with_seen.Statement.{statement}

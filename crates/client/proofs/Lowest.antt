@@ -1,53 +1,33 @@
--- The numbers of each table of refusals rise, so the lowest position decides: where the test of a line holds, the
--- event is refused with a number at most that line's.
-use Prim.Native.Nat.{ℕ, _≤_}
-use mathlib.Core.Bool.{true, true≢false}
+-- The numbers of each table of refusals rise, so the lowest position decides: where the test of a line holds, the event is
+-- refused with a number at most that line's; where none does, it takes a row.
+use Prim.Native.Nat.{ℕ}
+use mathlib.Core.Bool.{true, false≢true}
 use mathlib.Core.List.{List}
-use mathlib.Core.Path.{_≡_, refl, sym, ap, _∙_, subst}
+use mathlib.Core.Path.{_≡_, refl, _∙_}
 use lib.ListN.{length}
+use borrow.Author.Tests.{not-false}
 use Rattle.words.specs.Choice.{choose, both}
-use Rattle.answers.specs.declared.Refusal.{Refusal}
-use Rattle.answers.specs.declared.Answer.{Answer}
-use Rattle.answers.specs.declared.Answer.the-variants.{Done, Refused}
-use Rattle.answers.specs.Number.{refusalNumber}
-use Rattle.answers.specs.Table.{Line, firstOf, answerOf, behindAnswer, risesFrom}
-use Rattle.answers.proofs.TableLaws.{by-answer, answer-done, Stands, passed-line, lowest-decides}
+use Rattle.answers.specs.Table.{Line, risesFrom}
+use Rattle.answers.proofs.TableLaws.{AllPassed, all-behind, passed-parts, Stands, RefusedAtMost, lowest}
 use Rattle.calls.specs.declared.Call.{Call}
-use Rattle.reader.specs.Reading.{readRefusals, readerRefusals}
+use Rattle.pdu.specs.Header.{bodyOf}
+use Rattle.reader.specs.Reading.{readRefusals, readerRefusals, reading}
 use Rattle.client.specs.declared.records.Client.{Client}
 use Rattle.client.specs.declared.records.TimerKind.{TimerKind}
-use Rattle.client.specs.declared.judge.Verdict.the-variants.{Refuse}
-use Rattle.client.specs.declared.judge.StartVerdict.the-variants.{Refuse as RefuseStart}
+use Rattle.client.specs.declared.judge.Row.{Row}
+use Rattle.client.specs.declared.judge.Verdict.{Verdict}
+use Rattle.client.specs.declared.judge.Verdict.the-variants.{Refuse, Go}
+use Rattle.client.specs.declared.judge.StartVerdict.the-variants.{Refuse as RefuseStart, Go as GoStart}
+use Rattle.client.specs.records.States.{isQueued}
+use Rattle.client.specs.judge.Rows.{isRow, nextNumber, transmitRow, timerRow, cancelRow, arrivalCell}
 use Rattle.client.specs.judge.Refusals.{startRefusals, startVerdict, transmitRefusals, transmitVerdict, timerRefusals, timerVerdict, cancelRefusals, cancelVerdict, pduRefusals, arrivalRefusals, arrivalVerdict}
 use Rattle.client.specs.Machine.{starting, transmitting, timing, cancelling, arriving}
 use Rattle.client.proofs.Accepting.{answeredBy, startAnsweredBy, start-answers, transmit-answers, timer-answers, cancel-answers, arrive-answers}
 
--- Refused with a number at most that of a line.
-pub record RefusedAtMost (a : Answer) (most : Refusal) : Type 0 where
-  pub refusal : Refusal
-  pub is : a ≡ Refused refusal
-  pub low : refusalNumber refusal ≤ refusalNumber most
-
--- What a table gives where the test of one of its lines holds.
-lowest : {A : Type 0} (refuse : Refusal → A) (answer : A → Answer) → ((r : Refusal) → answer (refuse r) ≡ Refused r)
-    → (table : List Line) (behind : A) → risesFrom 0 table ≡ true → (line : Line) → Stands line table
-    → line .test ≡ true
-    → RefusedAtMost (answer (firstOf refuse table behind)) (line .refusal)
-unfolding behindAnswer
-lowest {A} refuse answer told table behind rises line stands holds = by-case (answerOf table) refl
-  where
-    least : firstOf refusalNumber table 0 ≤ refusalNumber (line .refusal)
-    least = lowest-decides 0 table rises line stands holds 0
-
-    by-case : (a : Answer) → answerOf table ≡ a → RefusedAtMost (answer (firstOf refuse table behind)) (line .refusal)
-    by-case Done e = absurd (true≢false (sym holds ∙ passed-line table (answer-done table e) line stands))
-    by-case (Refused r) e = record {
-      refusal = r;
-      is = ap answer (by-answer refuse table behind ∙ ap (behindAnswer refuse behind) e) ∙ told r;
-      low =
-          subst (λ (n : ℕ). n ≤ refusalNumber (line .refusal))
-          (by-answer refusalNumber table 0 ∙ ap (behindAnswer refusalNumber 0) e) least;
-    }
+-- A row is taken.
+pub record Takes (v : Verdict) : Type 0 where
+  pub row : Row
+  pub is : v ≡ Go row
 
 module _ (c : Client) where
   -- Start,
@@ -104,15 +84,52 @@ module _ (c : Client) where
       (cancel-rise (length out)) line stands holds)
 
   -- and an arriving datagram.
-  pub arrive-rise : (slots out : ℕ) (datagram : List ℕ) → risesFrom 0 (arrivalRefusals c slots out datagram) ≡ true
+  pub arrival-rise : (slots out : ℕ) (datagram : List ℕ) → risesFrom 0 (arrivalRefusals c slots out datagram) ≡ true
   unfolding arrivalRefusals readRefusals readerRefusals pduRefusals both choose
-  arrive-rise slots out datagram = refl
+  arrival-rise slots out datagram = refl
 
-  pub arrive-lowest : (datagram slots out : List ℕ) (line : Line)
+  pub arrival-lowest : (datagram slots out : List ℕ) (line : Line)
       → Stands line (arrivalRefusals c (length slots) (length out) datagram) → line .test ≡ true
       → RefusedAtMost (arriving c datagram slots out .outcome .answer) (line .refusal)
   unfolding arrivalVerdict
-  arrive-lowest datagram slots out line stands holds =
+  arrival-lowest datagram slots out line stands holds =
       rw (arrive-answers c datagram slots out)
       (lowest Refuse answeredBy (λ r. refl) (arrivalRefusals c (length slots) (length out) datagram) _
-      (arrive-rise (length slots) (length out) datagram) line stands holds)
+      (arrival-rise (length slots) (length out) datagram) line stands holds)
+
+-- Where no test of its table holds, a start takes its row,
+module _ (c : Client) where
+  pub start-goes : (n : ℕ) → AllPassed (startRefusals c n) → startVerdict c n ≡ GoStart (nextNumber (isQueued (c .state)) (c .number))
+  unfolding startVerdict
+  start-goes n passed = all-behind RefuseStart (startRefusals c n) _ passed
+
+  -- a transmit,
+  pub transmit-goes : (message out : ℕ) → AllPassed (transmitRefusals c message out)
+      → transmitVerdict c message out ≡ Go (transmitRow c)
+  unfolding transmitVerdict
+  transmit-goes message out passed = all-behind Refuse (transmitRefusals c message out) _ passed
+
+  -- a timer event,
+  pub timer-goes : (kind : TimerKind) (ticket out : ℕ) → AllPassed (timerRefusals c kind ticket out)
+      → timerVerdict c kind ticket out ≡ Go (timerRow kind c)
+  unfolding timerVerdict
+  timer-goes kind ticket out passed = all-behind Refuse (timerRefusals c kind ticket out) _ passed
+
+  -- a local cancel
+  pub cancel-goes : (out : ℕ) → AllPassed (cancelRefusals c out) → cancelVerdict c out ≡ Go (cancelRow c)
+  unfolding cancelVerdict
+  cancel-goes out passed = all-behind Refuse (cancelRefusals c out) _ passed
+
+  -- and an arriving datagram: behind the table of a PDU a row stands wherever it passes.
+  row-of : (v : Verdict) → isRow v ≡ true → Takes v
+  unfolding isRow
+  row-of (Refuse r) e = absurd (false≢true e)
+  row-of (Go row) e = record { row = row; is = refl }
+
+  pub arrival-goes : (slots out : ℕ) (d : List ℕ) → AllPassed (arrivalRefusals c slots out d)
+      → Takes (arrivalVerdict c slots out d)
+  unfolding arrivalVerdict arrivalRefusals pduRefusals
+  arrival-goes slots out d passed =
+      let v = arrivalCell c (reading d .header) (reading d .little) (bodyOf d) in
+      let has = row-of v (not-false (isRow v) (passed-parts (readRefusals d) _ (passed .1 .1) .1 .1 .1 .1 .1 .1 .0)) in
+      record { row = has .row; is = all-behind Refuse (arrivalRefusals c slots out d) v passed ∙ has .is }
