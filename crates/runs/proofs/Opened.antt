@@ -64,7 +64,7 @@ unfoldable pub clientTables : Unit {0}
 unfolding ClientStates.mayStart ClientStates.isQueued ClientStates.isSending ClientStates.isActive ClientStates.isDispatched
     ClientStates.isWaiting ClientStates.isAckPending
     ClientRules.countsSound ClientRules.messageRule ClientRules.outgoingSound ClientRules.timersSound ClientRules.sound
-    ClientRecord.fresh ClientRecord.waiting ClientRecord.sending ClientRecord.ackPending ClientRecord.unarmed ClientRecord.cancelArmed
+    ClientRecord.fresh ClientRecord.waiting ClientRecord.sendingAgain ClientRecord.ackPending ClientRecord.unarmed ClientRecord.cancelArmed
     ClientRecord.cancelDisarmed ClientRecord.withOutgoing ClientRecord.withWaits ClientRecord.withIncoming ClientRecord.withResends
     ClientRecord.withCancels
     ClientNamed.namedTimer ClientNamed.namedBy
