@@ -136,7 +136,7 @@ pub fn write_fack(serial: u16, mask: u32) -> [u8; 20]
     ]
 }
 
-// Whether the body of a fault or reject is malformed: under 4 bytes, in either order.
+// Whether the body of a fault or reject is malformed: under 4 bytes.
 pub fn is_status_malformed(body: &[u8]) -> bool
     ensures { λ r. ⌜ r ≡ statusMalformed (now (body .entry)) ⌝ }
 {

@@ -1,17 +1,21 @@
 -- An event that answers Done leaves the very numbers of document 01: the moduli and bounds by which definitions fit a
 -- field's size cut nothing off.
-use Prim.Native.Nat.{ℕ, _+_, _*_, _<_, max}
+use Prim.Native.Nat.{ℕ, _+_, _*_, _≤_, _<_, max}
 use mathlib.Core.Bool.{true}
 use mathlib.Core.List.{List}
-use mathlib.Core.Path.{_≡_, ap, subst, _∙_}
+use mathlib.Core.Logic.{_⊎_, inl, inr}
+use mathlib.Core.Path.{_≡_, sym, ap, subst, _∙_}
 use native.Mathlib.Omega.{arith}
 use lib.Dec.{eqb}
 use lib.ListN.{length}
-use Rattle.words.specs.Choice.{choose}
+use borrow.Author.Tests.{ltb-false}
+use Rattle.words.specs.Choice.{choose, either}
 use Rattle.words.specs.Place.{putAt}
 use Rattle.words.specs.Sizes.{bodySize}
 use Rattle.words.proofs.Place.{placed-fits}
+use Rattle.words.proofs.Tests.{choose-true}
 use Rattle.answers.specs.declared.Answer.the-variants.{Done}
+use Rattle.bodies.specs.Status.{statusMalformed}
 use Rattle.calls.specs.declared.Call.{Call}
 use Rattle.calls.specs.Events.{Step, Arrival}
 use Rattle.facks.specs.Mask.{acknowledgedBy}
@@ -36,13 +40,14 @@ use Rattle.client.specs.declared.Outcome.{Outcome}
 use Rattle.client.specs.records.States.{isQueued}
 use Rattle.client.specs.records.Record.{withOutgoing, withIncoming, withWaits, withCancels}
 use Rattle.client.specs.judge.Rows.{transmitRow, cancelRow}
+use Rattle.client.specs.judge.Refusals.{isMalformed}
 use Rattle.client.specs.step.Plan.{going}
 use Rattle.client.specs.step.Steps.{started, cancelled, responsePlan, acknowledged, stepOf}
 use Rattle.client.specs.Machine.{done, starting, sending, transmitting, cancelling, acted, arriving}
 use Rattle.client.proofs.RuleLaws.{rules-told}
 use Rattle.client.proofs.Judging.{Judged}
 use Rattle.client.proofs.StepLaws.{next-number, next-cancel, transmitted-one-more}
-use Rattle.client.proofs.Accepting.{start-accepted, transmit-accepted, cancel-accepted, response-accepted, fack-accepted}
+use Rattle.client.proofs.Accepting.{start-accepted, transmit-accepted, cancel-accepted, arrive-accepted, response-accepted, fack-accepted}
 
 -- A start gives the next number of a record whose number is a u32,
 module _ (c : Client) (call : Call) (n : ℕ) (told : starting c call n .answer ≡ Done) where
@@ -99,6 +104,17 @@ module _ (c : Client) (datagram slots out : List ℕ) (told : arriving c datagra
   fack-acknowledges typed =
       let a = fack-accepted c datagram slots out told typed in
       ap (λ (x : Arrival Outcome). x .outcome .client .outgoing .acknowledged) (a .does)
+
+  -- A fault, type 3, or reject, type 6, has the 4 bytes of its status.
+  pub failure-formed : (h .kind ≡ 3) ⊎ (h .kind ≡ 6) → 4 ≤ length body
+  unfolding isMalformed statusMalformed either choose
+  failure-formed typed =
+      ltb-false (length body) 4
+      (sym (choose-true _ _ _ (failing typed)) ∙ arrive-accepted c datagram slots out told .taken .formed)
+    where
+      failing : (h .kind ≡ 3) ⊎ (h .kind ≡ 6) → either (eqb (h .kind) 3) (eqb (h .kind) 6) ≡ true
+      failing (inl e) = ap (λ (k : ℕ). either (eqb k 3) (eqb k 6)) e
+      failing (inr e) = ap (λ (k : ℕ). either (eqb k 3) (eqb k 6)) e
 
   -- After a response, type 2, its slot has the length of its body,
   pub response-length : h .kind ≡ 2

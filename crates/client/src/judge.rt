@@ -91,6 +91,7 @@ fn arms(c: Client, row: Row) -> bool
 fn with_ticket(c: Client, row: Row) -> Verdict
     ensures { λ r. ⌜ r ≡ choose (both (armsRow c row) (usedUp (c .tickets))) (Refuse TicketsUsedUp) (Go row) ⌝ }
 {
+    // Few counters are used up, so that is asked first.
     if timers::used_up(c.tickets) && arms(c, row) {
         return Verdict::Refuse(Refusal::TicketsUsedUp);
     }
@@ -365,7 +366,7 @@ fn cancel_ack(c: Client, h: Header, little: bool, body: &[u8]) -> Verdict
 }
 
 // 12 to 20, of what the server answers a call with: types 2 to 6.
-fn answer(c: Client, h: Header, little: bool, body: &[u8]) -> Verdict
+fn of_call(c: Client, h: Header, little: bool, body: &[u8]) -> Verdict
     requires { ⌜ (2 ≤ h .kind) × (h .kind ≤ 6) ⌝ }
     ensures { λ r. ⌜ r ≡ pduVerdict c h little (now (body .entry)) ⌝ }
 {
@@ -384,7 +385,7 @@ fn pdu(c: Client, h: Header, little: bool, body: &[u8]) -> Verdict
 {
     let kind = h.kind;
     match kind {
-        2..=6 => answer(c, h, little, body),
+        2..=6 => of_call(c, h, little, body),
         9 => fack(c, h, little, body),
         10 => cancel_ack(c, h, little, body),
         0..=1 => Verdict::Refuse(Refusal::WrongSide),
@@ -393,8 +394,8 @@ fn pdu(c: Client, h: Header, little: bool, body: &[u8]) -> Verdict
     }
 }
 
-// 9 to 20, of a datagram that was read.
-fn of_mine(c: Client, h: Header, little: bool, body: &[u8]) -> Verdict
+// 9 to 20, of a datagram that was read: one of another activity is 9.
+fn own_activity(c: Client, h: Header, little: bool, body: &[u8]) -> Verdict
     ensures { λ r. ⌜ r ≡ activityVerdict c h little (now (body .entry)) ⌝ }
 {
     let mine = c.activity;
@@ -419,6 +420,6 @@ pub fn arrival(c: Client, slots: usize, out: usize, d: &[u8]) -> Verdict
     let answer = reading.answer;
     match answer {
         Answer::Refused(refusal) => Verdict::Refuse(refusal),
-        Answer::Done => of_mine(c, reading.header, reading.little, reader::body(d)),
+        Answer::Done => own_activity(c, reading.header, reading.little, reader::body(d)),
     }
 }

@@ -11,6 +11,7 @@ use Rattle.words.specs.Place.{placed}
 use Rattle.words.specs.Sizes.{pduSize}
 use Rattle.answers.specs.declared.Answer.{Answer}
 use Rattle.answers.specs.Number.{numberOf}
+use Rattle.record_bytes.specs.Layout.{recordSize}
 
 pub record Export : Type 0 where
   pub result : ℕ
@@ -27,7 +28,7 @@ pub record Exported (e : Export) (r : ℕ) (bytes slots out : List ℕ) : Type 0
 
 -- A record has 272 bytes.
 unfoldable pub sized : List ℕ → Bool
-sized bytes = eqb (length bytes) 272
+sized bytes = eqb (length bytes) recordSize
 
 -- 1, of a record or an argument of another length, or an idempotent above 1: all is as it was.
 unfoldable pub refusing : List ℕ → List ℕ → List ℕ → Export

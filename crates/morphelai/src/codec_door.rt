@@ -6,12 +6,13 @@ ghost use mathlib.Core.Path.{_≡_};
 ghost use mathlib.Core.List.{[], _∷_};
 ghost use Rattle.words.specs.Place.{placed};
 ghost use Rattle.pdu.specs.Header.{headerBytes};
+ghost use Rattle.record_bytes.specs.Layout.{recordSize};
 ghost use Rattle.morphelai.specs.CodecDoor.{Coded, orderByte, codecRead, writtenResult, codecWrite};
 
 // How many bytes a record has.
 #[no_mangle]
 pub extern "C" fn morphelai_record_size() -> usize
-    ensures { λ r. ⌜ r ≡ 272 ⌝ }
+    ensures { λ r. ⌜ r ≡ recordSize ⌝ }
 {
     record_bytes::SIZE
 }

@@ -10,7 +10,7 @@ use Rattle.words.specs.Sizes.{pduSize, messageSize}
 unfoldable pub sameMessage : Bool → ℕ → ℕ → Bool
 sameMessage sending message length = either (not sending) (eqb message length)
 
--- What is lent at a transmit is right: a PDU buffer, and a message within the limit, the very one.
+-- What is lent at a transmit is right: a PDU buffer, and a message within the limit, of that length.
 unfoldable pub transmitLent : Bool → ℕ → ℕ → ℕ → Bool
 transmitLent sending message length out =
     both (eqb out pduSize) (both (leb message messageSize) (sameMessage sending message length))

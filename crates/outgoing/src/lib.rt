@@ -214,7 +214,7 @@ pub fn has_nothing(o: Outgoing) -> bool
     o.count == 0
 }
 
-// Whether the message lent at a transmit is that of the call, where transmit has a row.
+// Whether the message lent at a transmit has the length of the one being sent, where transmit has a row.
 fn is_same_message(sending: bool, message: usize, length: u32) -> bool
     ensures { λ r. ⌜ r ≡ sameMessage sending message length ⌝ }
 {

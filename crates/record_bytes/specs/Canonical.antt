@@ -8,6 +8,7 @@ use mathlib.Core.Path.{_≡_}
 use lib.ListN.{length, getD}
 use Rattle.words.specs.Number.{number}
 use Rattle.words.specs.Sizes.{windowSize}
+use Rattle.record_bytes.specs.Layout.{recordSize}
 
 -- Where the mark says that a timer is not armed, its ticket of 8 bytes at `at` is 0.
 abbrev pub TicketClear : ℕ → ℕ → List ℕ → Type 0
@@ -28,12 +29,12 @@ pub record LengthUnjudged (b : List ℕ) (i : ℕ) : Type 0 where
   pub from : 4 * fragment + 144 ≤ i
   pub below : i < 4 * fragment + 146
 
--- and so on both sides.
+-- and those that are so on both sides.
 abbrev pub SharedUnjudged : List ℕ → ℕ → Type 0
 SharedUnjudged b i = TicketUnjudged 64 40 b i ⊎ LengthUnjudged b i
 
 -- Two runs of 272 bytes are the same but at places that are not judged.
 pub record SameButAt (Unjudged : ℕ → Type 0) (b c : List ℕ) : Type 0 where
-  pub size : length b ≡ 272
-  pub other-size : length c ≡ 272
+  pub size : length b ≡ recordSize
+  pub other-size : length c ≡ recordSize
   pub same : (i : ℕ) → (Unjudged i → ⊥) → getD c i 0 ≡ getD b i 0

@@ -16,6 +16,10 @@ use Rattle.record_bytes.specs.declared.Fields.{Fields}
 use Rattle.record_bytes.specs.Parts.{timerIn, isArmed, timerTicket, lastField, lastOf, uuidIn, clear}
 use Rattle.record_bytes.specs.Held.{slotsBytes, slotsIn, slotsReadable}
 
+-- The length of a record.
+abbrev pub recordSize : ℕ
+recordSize = 272
+
 -- The known last fits a byte, or is 65535: unknown.
 unfoldable pub lastReadable : ℕ → Bool
 lastReadable number = either (ltb number 256) (eqb number 65535)

@@ -1,5 +1,5 @@
 // What stands in the bytes of a record. The length is looked at once; then every place is known to be
-// there, and nothing is tested byte by byte.
+// there, and nothing is tested byte by byte (the tests that `uuid` has fall away where the length is known).
 use crate::Decoded;
 use crate::Fields;
 use crate::SIZE;
@@ -18,7 +18,7 @@ ghost use Rattle.words.specs.Number.{number};
 ghost use Rattle.words.specs.Place.{placed};
 ghost use Rattle.record_bytes.specs.Parts.{timerIn, lastOf};
 ghost use Rattle.record_bytes.specs.Held.{slotOf, slotsIn, slotsReadable};
-ghost use Rattle.record_bytes.specs.Layout.{lastReadable, marksReadable, sparesReadable, readable, callIn, outgoingIn, incomingIn, fieldsIn, decodedIn};
+ghost use Rattle.record_bytes.specs.Layout.{recordSize, lastReadable, marksReadable, sparesReadable, readable, callIn, outgoingIn, incomingIn, fieldsIn, decodedIn};
 
 // The u16 that stands in s at `at`.
 fn number16(s: &[u8], at: usize) -> u16
@@ -51,8 +51,7 @@ fn number64(s: &[u8], at: usize) -> u64
     join64(number32(s, at), number32(s, at + 4))
 }
 
-// The slot whose four bytes are this number, length u16, held u8 and a spare byte: so slots are read four
-// at a time.
+// The slot whose four bytes are this number, length u16, held u8 and a spare byte: so they are read at once.
 fn slot(word: u32) -> Slot
     ensures { λ r. ⌜ r ≡ slotOf (word / 65536 % 256) (word % 65536) ⌝ }
 {
@@ -92,6 +91,7 @@ fn are_slots_readable(s: &[u8]) -> bool
     while f < WINDOW_SIZE {
         let at = f as usize;
         let word = number32(s, 4 * at);
+        // Held at most 1 and nothing above it: below 2 * 65,536.
         all = words::both(all, word < 131072);
         f += 1;
     }
@@ -115,7 +115,7 @@ fn are_marks_readable(idempotent: u8, first: u8, second: u8, third: u8) -> bool
 
 // Whether the places that are spare on both sides are 0: 67, and 72 to 95.
 fn are_spares_readable(s: &[u8]) -> bool
-    requires { ⌜ 272 ≤ length (now s) ⌝ }
+    requires { ⌜ recordSize ≤ length (now s) ⌝ }
     ensures { λ r. ⌜ r ≡ sparesReadable (now (s .entry)) ⌝ }
 {
     let first = number64(s, 72);
@@ -127,7 +127,7 @@ fn are_spares_readable(s: &[u8]) -> bool
 
 // Whether bytes are readable as a record of either side, but for what is the side's own.
 fn is_readable(s: &[u8]) -> bool
-    requires { ⌜ 272 ≤ length (now s) ⌝ }
+    requires { ⌜ recordSize ≤ length (now s) ⌝ }
     ensures { λ r. ⌜ r ≡ readable (now (s .entry)) ⌝ }
 {
     let marks = are_marks_readable(s[1], s[64], s[65], s[66]);
@@ -139,7 +139,7 @@ fn is_readable(s: &[u8]) -> bool
 
 // The call that stands in a record.
 fn call(s: &[u8]) -> Call
-    requires { ⌜ 272 ≤ length (now s) ⌝ }
+    requires { ⌜ recordSize ≤ length (now s) ⌝ }
     ensures { λ r. ⌜ r ≡ callIn (now (s .entry)) ⌝ }
 {
     let object = crate::uuid(s, 112);
@@ -156,7 +156,7 @@ fn call(s: &[u8]) -> Call
 
 // The message sent.
 fn outgoing(s: &[u8]) -> Outgoing
-    requires { ⌜ 272 ≤ length (now s) ⌝ }
+    requires { ⌜ recordSize ≤ length (now s) ⌝ }
     ensures { λ r. ⌜ r ≡ outgoingIn (now (s .entry)) ⌝ }
 {
     Outgoing {
@@ -180,7 +180,7 @@ fn last(number: u16) -> Last
 
 // The message received.
 fn incoming(s: &[u8]) -> Incoming
-    requires { ⌜ 272 ≤ length (now s) ⌝ }
+    requires { ⌜ recordSize ≤ length (now s) ⌝ }
     ensures { λ r. ⌜ r ≡ incomingIn (now (s .entry)) ⌝ }
 {
     let slots = slots(&s[144..]);
@@ -200,7 +200,7 @@ fn timer_at(s: &[u8], mark: usize, ticket: usize) -> Timer
 
 // What stands in the bytes of a record.
 fn fields(s: &[u8]) -> Fields
-    requires { ⌜ 272 ≤ length (now s) ⌝ }
+    requires { ⌜ recordSize ≤ length (now s) ⌝ }
     ensures { λ r. ⌜ r ≡ fieldsIn (now (s .entry)) ⌝ }
 {
     let activity = crate::uuid(s, 96);
@@ -231,10 +231,10 @@ fn fields(s: &[u8]) -> Fields
 
 // All that is read of the bytes of a record.
 fn decoded(s: &[u8]) -> Decoded
-    requires { ⌜ 272 ≤ length (now s) ⌝ }
+    requires { ⌜ recordSize ≤ length (now s) ⌝ }
     ensures { λ r. ⌜ r ≡ decodedIn (now (s .entry)) ⌝ }
 {
-    // So the compiler knows the length too, and of the tests in `uuid` nothing is left.
+    // So the compiler knows the length too.
     let bytes = &s[0..SIZE];
     let readable = is_readable(bytes);
     let fields = fields(bytes);
@@ -249,7 +249,7 @@ fn decoded(s: &[u8]) -> Decoded
 
 // Fewer bytes than a record has, with zeros behind them.
 fn padded(s: &[u8]) -> [u8; SIZE]
-    ensures { λ r. ⌜ r ≡ placed 0 (now (s .entry)) (replicate 272 0) ⌝ }
+    ensures { λ r. ⌜ r ≡ placed 0 (now (s .entry)) (replicate recordSize 0) ⌝ }
 {
     let mut bytes = [0u8; SIZE];
     words::put(&mut bytes, 0, s);

@@ -89,7 +89,7 @@ pub fn timer_ticket(timer: Timer) -> u64
 }
 
 // The number of the known last, 65535 where none is known.
-fn last_number(last: Last) -> u16
+fn last_field(last: Last) -> u16
     ensures { λ r. ⌜ r ≡ lastField last ⌝ }
 {
     match last {
@@ -175,7 +175,7 @@ fn front(state: u8, count: u8, extra: u8, call: Call, outgoing: Outgoing, last: 
     let fragments = words::split16(outgoing.count);
     let sent = words::split16(outgoing.sent);
     let acknowledged = words::split16(outgoing.acknowledged);
-    let known = words::split16(last_number(last));
+    let known = words::split16(last_field(last));
     let serial = words::split16(outgoing.serial);
     let operation = words::split16(call.operation);
     [

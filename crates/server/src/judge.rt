@@ -478,7 +478,7 @@ fn fack(s: Server, h: Header, little: bool, body: &[u8]) -> Verdict
 }
 
 // 11 to 17, of what the client calls with: types 0 and 1.
-fn call(s: Server, h: Header, little: bool, body: &[u8]) -> Verdict
+fn request_or_ping(s: Server, h: Header, little: bool, body: &[u8]) -> Verdict
     requires { ⌜ h .kind ≤ 1 ⌝ }
     ensures { λ r. ⌜ r ≡ pduVerdict s h little (now (body .entry)) ⌝ }
 {
@@ -495,7 +495,7 @@ fn pdu(s: Server, h: Header, little: bool, body: &[u8]) -> Verdict
 {
     let kind = h.kind;
     match kind {
-        0..=1 => call(s, h, little, body),
+        0..=1 => request_or_ping(s, h, little, body),
         7 => ack(s, h, little, body),
         8 => cancel(s, h, little, body),
         9 => fack(s, h, little, body),
@@ -504,8 +504,8 @@ fn pdu(s: Server, h: Header, little: bool, body: &[u8]) -> Verdict
     }
 }
 
-// 9 to 17, of a datagram that was read.
-fn of_mine(s: Server, h: Header, little: bool, body: &[u8]) -> Verdict
+// 9 to 17, of a datagram that was read: one of another activity is 9.
+fn own_activity(s: Server, h: Header, little: bool, body: &[u8]) -> Verdict
     ensures { λ r. ⌜ r ≡ activityVerdict s h little (now (body .entry)) ⌝ }
 {
     let mine = s.activity;
@@ -516,7 +516,7 @@ fn of_mine(s: Server, h: Header, little: bool, body: &[u8]) -> Verdict
     pdu(s, h, little, body)
 }
 
-// What an arriving datagram finds, by the lengths of what is lent: 1, 2.
+// 1 and 2 of a datagram, by the lengths of what is lent; Done where neither holds.
 pub fn entry(s: Server, slots: usize, out: usize) -> Answer
     ensures { λ r. ⌜ r ≡ entryAnswer s slots out ⌝ }
 {
@@ -537,6 +537,6 @@ pub fn arrival(s: Server, reading: Reading, body: &[u8]) -> Verdict
     let h = reading.header;
     match answer {
         Answer::Refused(refusal) => Verdict::Refuse(refusal),
-        Answer::Done => of_mine(s, h, reading.little, body),
+        Answer::Done => own_activity(s, h, reading.little, body),
     }
 }

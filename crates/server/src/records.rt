@@ -293,7 +293,7 @@ pub fn with_call(s: Server, state: State, number: u32, call: Call) -> Server
     }
 }
 
-// Whether an idempotent call with this reply can be run again.
+// Whether a call can be run again after this reply: an idempotent one whose reply is one fragment.
 pub fn runs_again(idempotent: bool, o: Outgoing) -> bool
     ensures { λ r. ⌜ r ≡ runsAgain idempotent o ⌝ }
 {

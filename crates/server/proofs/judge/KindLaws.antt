@@ -49,7 +49,7 @@ pub in-state : {s : Server} {h : Header} {order : Order} {state other : State}
     → RequestIn s h order state → state ≡ other → RequestIn s h order other
 in-state at e = record {
   kind = at .kind;
-  single = at .single;
+  plain = at .plain;
   numbered = at .numbered;
   ordered = at .ordered;
   stands = at .stands ∙ e;
@@ -148,7 +148,7 @@ module _ (s : Server) (h : Header) (little : Bool) (body : List ℕ) where
   request-left : {order : Order} {state : State} → RequestIn s h order state
       → pduVerdict s h little body ≡ requestLeft order state
   unfolding choose
-  request-left at = request-lines (at .kind) ∙ rw (at .single, at .numbered, at .ordered, at .stands)
+  request-left at = request-lines (at .kind) ∙ rw (at .plain, at .numbered, at .ordered, at .stands)
 
   -- A newer number: nothing is held of the call that begins, so nothing contradicts it.
   pub newer-lines : RequestIn s h Newer (s .state) → pduVerdict s h little body ≡

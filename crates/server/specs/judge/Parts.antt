@@ -25,10 +25,10 @@ abbrev pub ticketed : Row → Bool → Verdict
 ticketed row up = choose (both (arms row) up) (Refuse TicketsUsedUp) (Go row)
 
 -- A request, neither maybe nor broadcast and no wrong fragment, with a number of that order, in that state: 11 and
--- 12 are behind it.
+-- 12 are passed.
 pub record RequestIn (s : Server) (h : Header) (order : Order) (state : State) : Type 0 where
   pub kind : h .kind ≡ 0
-  pub single : isMaybeOrBroadcast (h .flags1) ≡ false
+  pub plain : isMaybeOrBroadcast (h .flags1) ≡ false
   pub numbered : wrongFragment (h .flags1) (h .fragment) ≡ false
   pub ordered : orderFor s h ≡ order
   pub stands : s .state ≡ state
@@ -37,7 +37,7 @@ pub record RequestIn (s : Server) (h : Header) (order : Order) (state : State) :
 abbrev pub contradictsCall : Server → Header → Bool
 contradictsCall s h = either (contradicts (s .incoming) (h .fragment) (isLast (h .flags1))) (not (sameCall (s .call) h))
 
--- What a datagram finds, by the lengths of what is lent: 1, 2.
+-- 1 and 2 of a datagram, by the lengths of what is lent; Done where neither holds.
 abbrev pub entryAnswer : Server → ℕ → ℕ → Answer
 entryAnswer s slots out = answerOf (entryRefusals s slots out)
 

@@ -96,7 +96,7 @@ unfoldable pub isMalformed : ℕ → Bool → List ℕ → Bool
 isMalformed kind little body =
     choose (eqb kind 8) (cancelMalformed little body) (both (eqb kind 9) (fackMalformed little body))
 
--- A request's fragment is put: a begin, and COLLECT. A newer one in RUNNING is none, but 15 stands before 16 there.
+-- A request's fragment is put: a begin, and COLLECT. Where no call may begin, 13 or 15 stands before 16.
 unfoldable pub puts : Order → State → Bool
 puts Below state = false
 puts Equal (IdleState idle) = true

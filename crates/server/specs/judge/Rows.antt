@@ -74,7 +74,8 @@ requestNewer (Held reply) begin = Go (Begin begin)
 unfoldable pub requestAgain : Bool → Fragment → Verdict
 requestAgain bit begin = choose bit (Go (Begin begin)) (Refuse OldCall)
 
--- Request, equal number, in IDLE: repeatable with the bit set begins; otherwise spent, 13.
+-- Request, equal number, in IDLE: repeatable with the bit set begins; otherwise spent, 13. To a fresh server no number is
+-- equal, so its cell is never asked, here and below.
 unfoldable pub requestIdle : Idle → Bool → Fragment → Verdict
 requestIdle Fresh bit begin = Refuse OldCall
 requestIdle Spent bit begin = Refuse OldCall

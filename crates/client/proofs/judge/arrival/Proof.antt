@@ -60,7 +60,7 @@ returns-4 c = rw (
   ← c .before .before .before .before .before .before .is-sound .ensures,
   ← c .before .before .before .before .read .ensures,
   ← c .before .body .ensures,
-  ← c .of-mine .ensures,
+  ← c .own-activity .ensures,
   c .before .before .enum-told .given .1,
 ) (search tests)
 

@@ -6,7 +6,7 @@ use Rattle.server.proofs.judge.arrival.Tie as tie
 
 returns-2 : tie.Need-returns-2
 unfolding behindAnswer
-returns-2 c = rw (c .before .enum-told .given .1, c .of-mine .ensures)
+returns-2 c = rw (c .before .enum-told .given .1, c .own-activity .ensures)
 
 pub arrival-spec : {M : Type 1} → statement M
 unfolding behindAnswer

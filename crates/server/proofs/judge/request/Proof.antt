@@ -35,7 +35,7 @@ request-equal-requires c κs =
     let start = at-is-maybe-or-broadcast .before .before in
     record {
       kind = start .pre;
-      single = sym (at-is-maybe-or-broadcast .is-maybe-or-broadcast .ensures) ∙ at-if1 .if1 .left;
+      plain = sym (at-is-maybe-or-broadcast .is-maybe-or-broadcast .ensures) ∙ at-if1 .if1 .left;
       numbered = sym (at-is-wrong .is-wrong .ensures) ∙ at-if2 .if2 .left;
       ordered = sym (at-order-for .order-for .ensures) ∙ c .enum-told2 .given .1;
       stands = refl;
@@ -51,7 +51,7 @@ request-newer-requires c κs =
     let start = at-is-maybe-or-broadcast .before .before in
     record {
       kind = start .pre;
-      single = sym (at-is-maybe-or-broadcast .is-maybe-or-broadcast .ensures) ∙ at-if1 .if1 .left;
+      plain = sym (at-is-maybe-or-broadcast .is-maybe-or-broadcast .ensures) ∙ at-if1 .if1 .left;
       numbered = sym (at-is-wrong .is-wrong .ensures) ∙ at-if2 .if2 .left;
       ordered = sym (at-order-for .order-for .ensures) ∙ c .enum-told3 .given .1;
       stands = refl;

@@ -1,4 +1,4 @@
--- `client::judge::answer` meets its contract.
+-- `client::judge::of_call` meets its contract.
 use Prim.Native.Nat.{ℕ, _≤_}
 use mathlib.Core.Bool.{Bool, true, false}
 use mathlib.Core.Logic.{_⊎_, inl, inr}
@@ -7,8 +7,8 @@ use native.Mathlib.Omega.{arith}
 use lib.Dec.{eqb}
 use borrow.Author.Needs.{needs}
 use borrow.Author.Tests.{eqb-true, eqb-false}
-use Rattle.client.proofs.judge.answer.Statement.{statement}
-use Rattle.client.proofs.judge.answer.Tie as tie
+use Rattle.client.proofs.judge.of_call.Statement.{statement}
+use Rattle.client.proofs.judge.of_call.Tie as tie
 
 -- Of the types 2 to 6 those that are no response, working or nocall are fault and reject.
 failures : (kind : ℕ) → 2 ≤ kind → kind ≤ 6 → (kind ≡ 2 → ⊥) → (kind ≡ 4 → ⊥) → (kind ≡ 5 → ⊥) → (kind ≡ 3) ⊎ (kind ≡ 6)
@@ -18,8 +18,8 @@ failures kind low high response working nocall = by-test (eqb kind 3) refl
     by-test true e = inl (eqb-true kind 3 e)
     by-test false e = let fault = eqb-false kind 3 e in inr (omega arith)
 
-pub answer-spec : {M : Type 1} → statement M
-answer-spec =
+pub of-call-spec : {M : Type 1} → statement M
+of-call-spec =
     tie.close
     (tie.spec
     (λ c κs. search needs)
