@@ -13,7 +13,7 @@ returns c =
       c .before .before .before .before .before .split162 .ensures,
       c .before .before .before .before .before .before .split16 .ensures,
     )
-    (rw (c .before .before .before .last-number .ensures, c .before .before .before .before .before .before .before .mark .ensures))
+    (rw (c .before .before .before .last-field .ensures, c .before .before .before .before .before .before .before .mark .ensures))
 
 pub front-spec : {M : Type 1} → statement M
 front-spec =
