@@ -14,7 +14,7 @@ use Rattle.words.specs.Sizes.{headerSize}
 use Rattle.words.proofs.Tests.{choose-true, choose-false}
 use Rattle.answers.specs.Number.{numberOf}
 use Rattle.pdu.specs.declared.Header.{Header}
-use Rattle.pdu.specs.Header.{frontBytes, numberBytes, backBytes, headerBytes, headerOf, fieldsOf, bodyOf}
+use Rattle.pdu.specs.Header.{frontBytes, numberBytes, backBytes, headerBytes, headerOf, headerIn, bodyOf}
 use Rattle.pdu.proofs.HeaderLaws.{fields-whole}
 use Rattle.reader.specs.declared.Reading.{Reading}
 use Rattle.reader.specs.Reading.{reading}
@@ -85,7 +85,7 @@ pub write-refused : (header body out : List ℕ) → (length header ≡ headerSi
 unfolding codecWrite
 write-refused header body out h = refused _ header out h
 
-pub write-left : (header body out after : List ℕ) (h : Header) (w : Written) (r : ℕ) → length header ≡ headerSize → h ≡ fieldsOf true header
+pub write-left : (header body out after : List ℕ) (h : Header) (w : Written) (r : ℕ) → length header ≡ headerSize → h ≡ headerIn true header
     → Wrote (writing h body out) w after → r ≡ writtenResult w → Coded (codecWrite header body out) r after
 unfolding codecWrite codecWritten
 write-left header body out after h w r l f x p =

@@ -5,7 +5,7 @@ ghost use mathlib.Core.Bool.{true, false};
 ghost use Prim.Native.Nat.{_+_, _≤_};
 ghost use lib.ListN.{length};
 ghost use Rattle.words.specs.Sizes.{headerSize};
-ghost use Rattle.pdu.specs.Header.{uuidAt, headerOf, blank, fieldsOf};
+ghost use Rattle.pdu.specs.Header.{uuidAt, headerOf, blank, headerIn};
 
 // The header, but for version, representation and body length, which the writer sets itself. UUIDs are in the
 // little-endian form.
@@ -138,7 +138,7 @@ pub fn no_header() -> Header
 
 // The header's fields in a datagram, in the sender's order; a blank where it has no 80 bytes.
 pub fn fields(s: &[u8], little: bool) -> Header
-    ensures { λ r. ⌜ r ≡ fieldsOf little (now (s .entry)) ⌝ }
+    ensures { λ r. ⌜ r ≡ headerIn little (now (s .entry)) ⌝ }
 {
     if s.len() < HEADER_SIZE {
         return no_header();

@@ -17,7 +17,7 @@ use Rattle.record_bytes.specs.Parts.{timerIn, isArmed, timerTicket, last
 use Rattle.record_bytes.specs.Held.{slotsBytes, slotsBelow, slotsIn, slotsReadable}
 use Rattle.record_bytes.specs.Layout.{lastReadable, marksReadable, sparesReadable, readable}
 use Rattle.record_bytes.specs.Layout.{callIn, outgoingIn, incomingIn, fieldsIn}
-use Rattle.record_bytes.specs.Layout.{frontBytes, numberBytes, markBytes, backBytes, laidBytes, fieldBytes}
+use Rattle.record_bytes.specs.Layout.{recordFront, recordNumbers, markBytes, recordBack, laidBytes, fieldBytes}
 use Rattle.record_bytes.proofs.ByteLaws.{octet-at, octets-part, octets-drop, number-below}
 use Rattle.record_bytes.proofs.PartLaws.{uuid-part}
 use Rattle.record_bytes.proofs.Reading.{clear-part, mark-again, armed-again, ticket-again, timer-fits}
@@ -103,7 +103,7 @@ module _ (b : List ℕ) (size : length b ≡ 272) (octets : Octets b) (allowed :
   digits-at n at = digits-part n b at byte
 
   front-again
-      : frontBytes (getD b 0 0) (getD b 2 0) (getD b 3 0) (callIn b) (outgoingIn b) (lastOf (number 2 true b 10))
+      : recordFront (getD b 0 0) (getD b 2 0) (getD b 3 0) (callIn b) (outgoingIn b) (lastOf (number 2 true b 10))
       ≡ part 16 b 0
   unfolding callIn outgoingIn
   front-again =
@@ -123,7 +123,7 @@ module _ (b : List ℕ) (size : length b ≡ 272) (octets : Octets b) (allowed :
       ++ digits-at 2 14 i))))))))
 
   numbers-again
-      : numberBytes (number 4 true b 16) (number 4 true b 20) (number 4 true b 24) (number 4 true b 28) ≡ part 16 b 16
+      : recordNumbers (number 4 true b 16) (number 4 true b 20) (number 4 true b 24) (number 4 true b 28) ≡ part 16 b 16
   numbers-again = λ i. digits-at 4 16 i ++ (digits-at 4 20 i ++ (digits-at 4 24 i ++ digits-at 4 28 i))
 
   armed-at : (mark at : ℕ) → leb (getD b mark 0) 1 ≡ true → markOf (isArmed (timerIn b mark at)) ≡ getD b mark 0
@@ -142,7 +142,7 @@ module _ (b : List ℕ) (size : length b ≡ 272) (octets : Octets b) (allowed :
   ticket-digits mark at e clear = ap (digits 8) (ticket-again b mark at e clear) ∙ digits-at 8 at
 
   module _ (ticket : TicketClear 64 40 b) (cancel : TicketClear 66 56 b) (lengths : LengthsClear (drop 144 b)) where
-    back-again : backBytes (timerIn b 64 40) (eqb (getD b 65 0) 1) (timerIn b 66 56) (number 4 true b 68) ≡ part 40 b 56
+    back-again : recordBack (timerIn b 64 40) (eqb (getD b 65 0) 1) (timerIn b 66 56) (number 4 true b 68) ≡ part 40 b 56
     back-again =
         let r = known b allowed in
         λ i.

@@ -16,7 +16,7 @@ use Rattle.record_bytes.specs.Parts.{isArmed, timerTicket, lastField, cl
 use Rattle.record_bytes.specs.Held.{slotsBytes}
 use Rattle.record_bytes.specs.Layout.{marksReadable, sparesReadable, readable}
 use Rattle.record_bytes.specs.Layout.{callIn, outgoingIn, incomingIn, fieldsIn}
-use Rattle.record_bytes.specs.Layout.{frontBytes, numberBytes, markBytes, backBytes, fieldBytes}
+use Rattle.record_bytes.specs.Layout.{recordFront, recordNumbers, markBytes, recordBack, fieldBytes}
 use Rattle.record_bytes.proofs.ByteLaws.{octets-three, octets-four, octets-digits, octets-zeros}
 use Rattle.record_bytes.proofs.HeldLaws.{length-slots}
 use Rattle.record_bytes.proofs.Laying.{octets-laid}
@@ -52,16 +52,16 @@ spelled f = record {
 
 -- Three of the ten parts that its bytes are, the first without its first four bytes too.
 abbrev frontOf : Fields → List ℕ
-frontOf f = frontBytes (f .state) (f .count) (f .extra) (f .call) (f .outgoing) (f .incoming .last)
+frontOf f = recordFront (f .state) (f .count) (f .extra) (f .call) (f .outgoing) (f .incoming .last)
 
 abbrev countsOf : Fields → List ℕ
 countsOf f = drop 4 (frontOf f)
 
 abbrev numbersOf : Fields → List ℕ
-numbersOf f = numberBytes (f .number) (f .call .version) (f .outgoing .length) (f .boot)
+numbersOf f = recordNumbers (f .number) (f .call .version) (f .outgoing .length) (f .boot)
 
 abbrev backOf : Fields → List ℕ
-backOf f = backBytes (f .timer) (f .armed) (f .cancel) (f .cancels)
+backOf f = recordBack (f .timer) (f .armed) (f .cancel) (f .cancels)
 
 module _ (f : Fields) (fits : FitsFields f) where
   spelled-same : spelled f ≡ f

@@ -97,8 +97,8 @@ decodedIn s = record {
 }
 
 -- Bytes 0 to 15: state, idempotent, two counts; fragment count, sent, acknowledged; known last, serial, operation.
-abbrev pub frontBytes : ℕ → ℕ → ℕ → Call → Outgoing → Last → List ℕ
-frontBytes state count extra call outgoing last =
+abbrev pub recordFront : ℕ → ℕ → ℕ → Call → Outgoing → Last → List ℕ
+recordFront state count extra call outgoing last =
     state
     ∷ (markOf (call .idempotent)
     ∷ (count
@@ -111,16 +111,16 @@ frontBytes state count extra call outgoing last =
     ++ digits 2 (call .operation)))))))))
 
 -- Bytes 16 to 31: number, interface version, message length, boot.
-abbrev pub numberBytes : ℕ → ℕ → ℕ → ℕ → List ℕ
-numberBytes number version length boot = digits 4 number ++ (digits 4 version ++ (digits 4 length ++ digits 4 boot))
+abbrev pub recordNumbers : ℕ → ℕ → ℕ → ℕ → List ℕ
+recordNumbers number version length boot = digits 4 number ++ (digits 4 version ++ (digits 4 length ++ digits 4 boot))
 
 -- Bytes 64 to 67: whether each timer is armed, and a spare byte.
 abbrev pub markBytes : Timer → Bool → Timer → List ℕ
 markBytes timer armed cancel = markOf (isArmed timer) ∷ (markOf armed ∷ (markOf (isArmed cancel) ∷ (0 ∷ [])))
 
 -- Bytes 56 to 95: the third timer's ticket, the marks, the cancel number, 24 spare bytes.
-abbrev pub backBytes : Timer → Bool → Timer → ℕ → List ℕ
-backBytes timer armed cancel cancels =
+abbrev pub recordBack : Timer → Bool → Timer → ℕ → List ℕ
+recordBack timer armed cancel cancels =
     digits 8 (timerTicket cancel) ++ (markBytes timer armed cancel ++ (digits 4 cancels ++ replicate 24 0))
 
 -- Ten parts, one behind the other: the ticket counter is bytes 32 to 39, the first timer's ticket 40 to 47, the
@@ -134,12 +134,12 @@ laidBytes front numbers tickets first second back activity object interface held
 unfoldable pub fieldBytes : Fields → List ℕ
 fieldBytes f =
     laidBytes
-    (frontBytes (f .state) (f .count) (f .extra) (f .call) (f .outgoing) (f .incoming .last))
-    (numberBytes (f .number) (f .call .version) (f .outgoing .length) (f .boot))
+    (recordFront (f .state) (f .count) (f .extra) (f .call) (f .outgoing) (f .incoming .last))
+    (recordNumbers (f .number) (f .call .version) (f .outgoing .length) (f .boot))
     (digits 8 (f .tickets))
     (digits 8 (timerTicket (f .timer)))
     (digits 8 (f .word))
-    (backBytes (f .timer) (f .armed) (f .cancel) (f .cancels))
+    (recordBack (f .timer) (f .armed) (f .cancel) (f .cancels))
     (f .activity)
     (f .call .object)
     (f .call .interface)

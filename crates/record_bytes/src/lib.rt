@@ -15,7 +15,7 @@ ghost use Rattle.words.specs.Number.{digits};
 ghost use Rattle.words.specs.Place.{placed};
 ghost use Rattle.record_bytes.specs.Parts.{timerWhere, isArmed, timerTicket, lastField, uuidIn, countWhere};
 ghost use Rattle.record_bytes.specs.Held.{lengthWhere, slotBytes, slotsBytes};
-ghost use Rattle.record_bytes.specs.Layout.{frontBytes, numberBytes, markBytes, backBytes, laidBytes, fieldBytes};
+ghost use Rattle.record_bytes.specs.Layout.{recordFront, recordNumbers, markBytes, recordBack, laidBytes, fieldBytes};
 
 // How many bytes a record has.
 pub const SIZE: usize = 272;
@@ -169,7 +169,7 @@ pub fn count_where(readable: bool, count: u8) -> u8
 
 // Bytes 0 to 15.
 fn front(state: u8, count: u8, extra: u8, call: Call, outgoing: Outgoing, last: Last) -> [u8; 16]
-    ensures { λ r. ⌜ r ≡ frontBytes state count extra call outgoing last ⌝ }
+    ensures { λ r. ⌜ r ≡ recordFront state count extra call outgoing last ⌝ }
 {
     let idempotent = words::mark(call.idempotent);
     let fragments = words::split16(outgoing.count);
@@ -200,7 +200,7 @@ fn front(state: u8, count: u8, extra: u8, call: Call, outgoing: Outgoing, last: 
 
 // Bytes 16 to 31.
 fn numbers(number: u32, version: u32, length: u32, boot: u32) -> [u8; 16]
-    ensures { λ r. ⌜ r ≡ numberBytes number version length boot ⌝ }
+    ensures { λ r. ⌜ r ≡ recordNumbers number version length boot ⌝ }
 {
     let first = words::split32(number);
     let second = words::split32(version);
@@ -238,7 +238,7 @@ fn marks(timer: Timer, armed: bool, cancel: Timer) -> [u8; 4]
 
 // Bytes 56 to 95: the ticket of CANCEL, the marks, the cancel number, spare bytes.
 fn back(timer: Timer, armed: bool, cancel: Timer, cancels: u32) -> [u8; 40]
-    ensures { λ r. ⌜ r ≡ backBytes timer armed cancel cancels ⌝ }
+    ensures { λ r. ⌜ r ≡ recordBack timer armed cancel cancels ⌝ }
 {
     let ticket = split64(timer_ticket(cancel));
     let marks = marks(timer, armed, cancel);

@@ -3,12 +3,12 @@ use mathlib.Core.Path.{_∙_, sym}
 use borrow.Author.Needs.{needs}
 use borrow.Author.Tests.{lt-ltb, le-ltb}
 use Rattle.words.proofs.Tests.{choose-true, choose-false}
-use Rattle.pdu.specs.Header.{fieldsOf}
+use Rattle.pdu.specs.Header.{headerIn}
 use Rattle.pdu.proofs.fields.Statement.{statement}
 use Rattle.pdu.proofs.fields.Tie as tie
 
 pub fields-spec : {M : Type 1} → statement M
-unfolding fieldsOf
+unfolding headerIn
 fields-spec = tie.close (tie.spec
     (λ c κs. search needs)
     (λ c. c .no-header .ensures ∙ sym (choose-true _ _ _ (lt-ltb _ _ (c .before .if1 .taken))))
