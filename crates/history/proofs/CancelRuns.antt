@@ -17,8 +17,7 @@ use Rattle.pdu.specs.Header.{bodyOf, blank}
 use Rattle.reader.specs.Reading.{reading}
 use Rattle.client.specs.Machine.{starting, cancelling}
 use Rattle.client.proofs.Cancels.{start-uncancelled, transmit-cancels, timer-cancels, arrive-cancels}
-use Rattle.server.specs.declared.records.State.{State}
-use Rattle.server.specs.declared.records.State.the-variants.{Idle as IdleState, Running}
+use Rattle.server.specs.declared.records.State.the-variants.{Running}
 use Rattle.server.specs.declared.records.Server.{Server}
 use Rattle.server.specs.records.Record.{holding, unarmed, withOutgoing, withResends}
 use Rattle.server.specs.records.States.{neverCalled, isFresh, isIdle, isRunning}

@@ -3,7 +3,7 @@ use Prim.Native.Nat.{ℕ}
 use mathlib.Core.Bool.{Bool, true, false, false≢true}
 use mathlib.Core.List.{List, []}
 use mathlib.Core.Logic.{_⊎_, inl, inr}
-use mathlib.Core.Path.{_≡_, refl, sym, ap, subst, _∙_}
+use mathlib.Core.Path.{_≡_, refl, sym, subst, _∙_}
 use native.Mathlib.Omega.{arith}
 use lib.ListN.{length}
 use Rattle.words.specs.Choice.{choose}
@@ -16,7 +16,7 @@ use Rattle.fragments.specs.Slots.{filled}
 use Rattle.fragments.proofs.FlagLaws.{body-length}
 use Rattle.fragments.proofs.PutLaws.{CanPut}
 use Rattle.incoming.specs.declared.Incoming.{Incoming}
-use Rattle.incoming.specs.Slots.{contiguous, complete, stored, sound as incomingSound}
+use Rattle.incoming.specs.Slots.{complete, stored, sound as incomingSound}
 use Rattle.pdu.specs.declared.Header.{Header}
 use Rattle.pdu.specs.Header.{bodyOf}
 use Rattle.reader.specs.Reading.{reading}
@@ -25,12 +25,11 @@ use Rattle.client.specs.declared.records.Client.{Client}
 use Rattle.client.specs.declared.judge.Row.{Row}
 use Rattle.client.specs.declared.judge.Row.the-variants.{Transmit, Ping, SendAck, Cancel, Response as ResponseRow, Fault, Reject, Working, Resend, GiveUp, Fack, CancelAck}
 use Rattle.client.specs.declared.judge.Verdict.{Verdict}
-use Rattle.client.specs.declared.judge.Verdict.the-variants.{Go}
 use Rattle.client.specs.records.States.{isQueued}
 use Rattle.client.specs.records.Record.{waiting, ackPending, unarmed, withIncoming, withWaits}
 use Rattle.client.specs.step.Plan.{going, failed}
 use Rattle.client.specs.step.Steps.{putRecord, received, putNotice, responsePlan, workingPlan, stepOf}
-use Rattle.client.specs.Machine.{sending, acted, arrivalBy, arriving}
+use Rattle.client.specs.Machine.{acted, arrivalBy, arriving}
 use Rattle.client.proofs.Judging.{CanTake, Judged, arrive-taken}
 use Rattle.client.proofs.Accepting.{arrive-accepted}
 use Rattle.client.proofs.RowLaws.{Arrives}

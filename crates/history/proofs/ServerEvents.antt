@@ -1,5 +1,5 @@
 -- Transmit, fault, the RESEND timer and reply keep what is known of the world.
-use Prim.Native.Nat.{ℕ, _+_, _<_}
+use Prim.Native.Nat.{ℕ, _+_}
 use mathlib.Core.Bool.{Bool, true, false, false≢true}
 use mathlib.Core.List.{List, []}
 use mathlib.Core.Logic.{_⊎_, inl, inr}
@@ -16,11 +16,10 @@ use Rattle.outgoing.specs.declared.Outgoing.{Outgoing}
 use Rattle.outgoing.specs.Sending.{nextSerial, afterSend, sendsLast, replied, messageOf}
 use Rattle.pdu.specs.Header.{blank}
 use Rattle.server.specs.declared.records.Reply.the-variants.{Data, Fault}
-use Rattle.server.specs.declared.records.State.{State}
-use Rattle.server.specs.declared.records.State.the-variants.{Running, Replying, Held}
+use Rattle.server.specs.declared.records.State.the-variants.{Running, Replying}
 use Rattle.server.specs.declared.records.Server.{Server}
 use Rattle.server.specs.declared.judge.Row.{Row}
-use Rattle.server.specs.declared.judge.Row.the-variants.{Reply, TransmitMore, TransmitRepeatable, TransmitHeld, FaultRepeatable, FaultHeld, ResendData, ResendFault, Spend, Begin, Put, Working, Nocall, Rewind, RepeatFault, Acknowledge, HearCancel, AcceptCancel, DeclineCancel}
+use Rattle.server.specs.declared.judge.Row.the-variants.{Reply, TransmitMore, TransmitRepeatable, TransmitHeld, FaultRepeatable, FaultHeld, ResendData, ResendFault, Spend}
 use Rattle.server.specs.declared.judge.Verdict.{Verdict}
 use Rattle.server.specs.declared.judge.Verdict.the-variants.{Go}
 use Rattle.server.specs.declared.step.Send.{Send}
@@ -31,8 +30,8 @@ use Rattle.server.specs.records.Record.{holding, unarmed, withOutgoing, withRes
 use Rattle.server.specs.records.Repeatable.{runsAgain}
 use Rattle.server.specs.judge.Rows.{transmitRow, faultRow, timerCell}
 use Rattle.server.specs.step.Plan.{going}
-use Rattle.server.specs.step.Steps.{answered, transmitted, repeatable, rewinding, stepOf}
-use Rattle.server.specs.Machine.{done, replyBy, replying, sending, stepBy, transmitting, timing, faulting}
+use Rattle.server.specs.step.Steps.{answered, transmitted, repeatable, stepOf}
+use Rattle.server.specs.Machine.{done, replyBy, replying, stepBy, transmitting, timing, faulting}
 use Rattle.server.proofs.StateLaws.{running-state, replying-state, held-state}
 use Rattle.server.proofs.TableLaws.{refusal-no-row, same-row}
 use Rattle.server.proofs.Judging.{CanReply, Judged, reply-taken, transmit-taken, fault-taken, timer-rows, timer-taken}

@@ -24,7 +24,6 @@ use Rattle.server.specs.declared.judge.Verdict.the-variants.{Refuse, Go}
 use Rattle.server.specs.declared.Outcome.{Outcome}
 use Rattle.server.specs.records.Record.{withSeen}
 use Rattle.server.specs.records.States.{isRunning, isReplying, isHeld}
-use Rattle.server.specs.judge.Rows.{arrivalCell}
 use Rattle.server.specs.judge.Refusals.{arrivalVerdict}
 use Rattle.server.specs.step.Plan.{going}
 use Rattle.server.specs.step.Steps.{heardPlan, stepOf}

@@ -1,7 +1,7 @@
 -- Bytes that are the same but at places that are not judged are both readable or both not, and the same stands in them.
 use Prim.Native.Nat.{ℕ, zero, suc, _+_, _-_, _*_, _≤_, _<_}
 use mathlib.Core.Bool.{Bool, true, false}
-use mathlib.Core.List.{List, _∷_, _++_}
+use mathlib.Core.List.{List, _++_}
 use mathlib.Core.Logic.{_⊎_, inl, inr}
 use mathlib.Core.Path.{_≡_, refl, sym, ap, _∙_}
 use native.Mathlib.Omega.{arith}
@@ -9,15 +9,15 @@ use lib.Dec.{eqb, ltb}
 use lib.ListN.{length, getD, take, drop, set, List·getD-append}
 use lib.Seq.{getD-append-add, getD-take, getD-drop, length-take-le}
 use borrow.Author.Tests.{eqb-true, ltb-true, ltb-false}
-use Rattle.words.specs.Choice.{choose, both}
-use Rattle.words.specs.Number.{le, part, number}
+use Rattle.words.specs.Choice.{choose}
+use Rattle.words.specs.Number.{number}
 use Rattle.words.specs.Place.{putAt, placed}
 use Rattle.words.specs.Sizes.{windowSize}
 use Rattle.words.proofs.Place.{placed-fits, length-putAt}
 use Rattle.timers.specs.declared.Timer.{Timer}
 use Rattle.record_bytes.specs.declared.Fields.{Fields}
 use Rattle.record_bytes.specs.Canonical.{SharedUnjudged, SameButAt}
-use Rattle.record_bytes.specs.Parts.{timerWhere, timerIn, lastOf, uuidIn, clear}
+use Rattle.record_bytes.specs.Parts.{timerWhere, timerIn, lastOf, uuidIn}
 use Rattle.record_bytes.specs.Held.{lengthWhere, slotOf, slotIn, slotsBelow, slotsIn, slotReadable, readableBelow, slotsReadable}
 use Rattle.record_bytes.specs.Layout.{sparesReadable, readable}
 use Rattle.record_bytes.specs.Layout.{callIn, outgoingIn, incomingIn, fieldsIn}

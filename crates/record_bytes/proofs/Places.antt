@@ -7,11 +7,12 @@ use native.Mathlib.Omega.{arith}
 use lib.Dec.{eqb, ltb}
 use lib.ListN.{length, getD, take, drop, replicate, length-replicate, length-take, length-drop, List·getD-append}
 use lib.ListN.{List·getD-eq-default}
-use lib.Seq.{getD-append-add, getD-take, getD-drop, take-all}
+use lib.Seq.{getD-append-add, getD-drop, take-all}
 use borrow.Author.Tests.{ltb-true, ltb-false}
 use Rattle.words.specs.Choice.{both}
 use Rattle.words.specs.Number.{le, part, number}
 use Rattle.words.specs.Place.{putAt, placed}
+use Rattle.words.proofs.ListLaws.{getD-repeated}
 use Rattle.words.proofs.Number.{part-stretch, part-all}
 use Rattle.words.proofs.Place.{placed-fits, length-putAt}
 use Rattle.record_bytes.specs.Parts.{uuidIn, clear}
@@ -59,11 +60,6 @@ module _ (n : ℕ) (s : List ℕ) (fits : length s ≤ n) where
   padded-at i =
       ap (λ (l : List ℕ). getD l i 0) (placed-fits 0 s (replicate n 0) room) ∙ by-place (ltb i (length s)) refl
     where
-      zeros-at : (m k : ℕ) → getD {A = ℕ} (replicate m 0) k 0 ≡ 0
-      zeros-at zero k = refl
-      zeros-at (suc m) zero = refl
-      zeros-at (suc m) (suc k) = zeros-at m k
-
       rest : List ℕ
       rest = drop (0 + length s) (replicate n 0)
 
@@ -73,7 +69,7 @@ module _ (n : ℕ) (s : List ℕ) (fits : length s ≤ n) where
           ap (λ (k : ℕ). getD (s ++ rest) k 0) (sym place)
           ∙ getD-append-add s rest (i - length s) 0
           ∙ getD-drop (0 + length s) (replicate n 0) (i - length s) 0
-          ∙ zeros-at n (0 + length s + (i - length s))
+          ∙ getD-repeated n (0 + length s + (i - length s)) 0
           ∙ sym (List·getD-eq-default s 0 past)
 
       by-place : (test : Bool) → ltb i (length s) ≡ test → getD (s ++ rest) i 0 ≡ getD s i 0

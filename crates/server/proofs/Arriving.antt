@@ -43,13 +43,12 @@ use Rattle.server.specs.declared.judge.Row.the-variants.{Reply as ReplyR
 use Rattle.server.specs.declared.judge.Verdict.{Verdict}
 use Rattle.server.specs.declared.judge.Verdict.the-variants.{Refuse, Go}
 use Rattle.server.specs.judge.Rows.{says, orderFor, requestPut, arrivalCell}
-use Rattle.server.specs.judge.Refusals.{isRequest, isMaybeOrBroadcast, isMalformed, puts, slotsFor, isHeldAlready, sameCall, isOtherCall, isContradiction, pduRefusals, pduVerdict, arrivalRefusals, arrivalVerdict}
+use Rattle.server.specs.judge.Refusals.{isRequest, isMalformed, puts, slotsFor, isHeldAlready, sameCall, isOtherCall, isContradiction, pduRefusals, pduVerdict, arrivalRefusals, arrivalVerdict}
 use Rattle.server.proofs.TableLaws.{Begins, RowTells, Stops, row-tells, table-stops}
 use Rattle.server.proofs.Judging.{CanBegin, CanCollect, CanTake, Judged, Takes, table-passed, second-fails}
 
--- What is known of a request that passed 11, 12, 16 and 17.
+-- What is known of a request that passed 12, 16 and 17.
 pub record RequestPassed (s : Server) (h : Header) : Type 0 where
-  pub directed : isMaybeOrBroadcast (h .flags1) ≡ false
   pub numbered : wrongFragment (h .flags1) (h .fragment) ≡ false
   pub new : isHeldAlready s h ≡ false
   pub agrees : contradicts (slotsFor (orderFor s h) (s .state) (s .incoming)) (h .fragment) (isLast (h .flags1)) ≡ false
@@ -65,7 +64,6 @@ module _ (s : Server) (h : Header) (little : Bool) (body : List ℕ)
       let typed : isRequest (h .kind) ≡ true = ap isRequest k in
       let alone = either-false _ _ (sym (choose-true (isRequest (h .kind)) _ _ typed) ∙ passed .1 .1 .1 .1 .1 .1 .1 .0) in
       record {
-        directed = second-fails (isRequest (h .kind)) _ (passed .1 .0) typed;
         numbered = second-fails (isRequest (h .kind)) _ (passed .1 .1 .0) typed;
         new = second-fails (isRequest (h .kind)) _ (either-false _ _ (passed .1 .1 .1 .1 .1 .1 .0) .1) typed;
         agrees = alone .0;

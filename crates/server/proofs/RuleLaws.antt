@@ -1,5 +1,5 @@
 -- What a record that keeps its rules is known to be.
-use Prim.Native.Nat.{ℕ, _<_}
+use Prim.Native.Nat.{_<_}
 use mathlib.Core.Bool.{Bool, true, false, false≢true}
 use mathlib.Core.Path.{_≡_, refl, subst}
 use lib.Dec.{ltb, leb}
@@ -75,15 +75,10 @@ module _ (o : Outgoing) where
   unfolding messageRule
   collect-told e = out-told Collect e .1
 
-  -- nor in RUNNING,
+  -- nor in RUNNING;
   pub running-told : outgoingSound Running o ≡ true → hasNothing o ≡ true
   unfolding messageRule
   running-told e = out-told Running e .1
-
-  -- nor in HELD with a fault;
-  pub fault-told : (status : ℕ) → outgoingSound (Held (Fault status)) o ≡ true → hasNothing o ≡ true
-  unfolding messageRule heldRule
-  fault-told status e = out-told (Held (Fault status)) e .1
 
   -- in HELD with data one is,
   pub data-told : outgoingSound (Held Data) o ≡ true → hasMessage o ≡ true

@@ -328,17 +328,6 @@ module _ (s : Server) (h : Header) (little : Bool) (body : List ℕ) where
   unfolding arrivalCell choose
   request-arrives k = rw k
 
-  -- a ping,
-  pub ping-arrives : h .kind ≡ 1 → arrivalCell s h little body ≡ pingCell (orderFor s h) (s .state)
-  unfolding arrivalCell choose
-  ping-arrives k = rw k
-
-  -- an ack,
-  pub ack-arrives : h .kind ≡ 7
-      → arrivalCell s h little body ≡ acknowledgementCell (orderFor s h) (s .state) (ackCell (s .call .idempotent))
-  unfolding arrivalCell choose
-  ack-arrives k = rw k
-
   -- a cancel
   pub cancel-arrives : h .kind ≡ 8
       → arrivalCell s h little body ≡ cancelCell (orderFor s h) (s .state) (s .seen) (cancelNumberIn little body)

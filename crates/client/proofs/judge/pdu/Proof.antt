@@ -1,5 +1,5 @@
 -- `client::judge::pdu` meets its contract: each arm knows the range of its numbers.
-use Prim.Native.Nat.{ℕ, _≤_, _<_}
+use Prim.Native.Nat.{ℕ, _<_}
 use mathlib.Core.Bool.{Bool, false}
 use mathlib.Core.List.{List}
 use mathlib.Core.Logic.{_⊎_, inl, inr}
@@ -13,7 +13,7 @@ use Rattle.answers.specs.declared.Refusal.the-variants.{WrongSide}
 use Rattle.pdu.specs.declared.Header.{Header}
 use Rattle.client.specs.declared.records.Client.{Client}
 use Rattle.client.specs.declared.judge.Verdict.the-variants.{Refuse}
-use Rattle.client.specs.judge.Rows.{isForClient, arrivalCell}
+use Rattle.client.specs.judge.Rows.{isForClient}
 use Rattle.client.specs.judge.Refusals.{pduRefusals, pduVerdict}
 use Rattle.client.proofs.judge.pdu.Statement.{statement}
 use Rattle.client.proofs.judge.pdu.Tie as tie

@@ -1,6 +1,5 @@
 -- `record_bytes::decoding::are_spares_readable` meets its contract.
 use borrow.Author.Needs.{needs}
-use mathlib.Core.Path.{_≡_, sym, _∙_}
 use Rattle.record_bytes.specs.Layout.{sparesReadable}
 use Rattle.record_bytes.proofs.NumberLaws.{spares-number}
 use Rattle.record_bytes.proofs.decoding.are_spares_readable.Statement.{statement}

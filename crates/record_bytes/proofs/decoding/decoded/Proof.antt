@@ -1,6 +1,5 @@
 -- `record_bytes::decoding::decoded` meets its contract.
 use Prim.Native.Nat.{ℕ, _<_}
-use mathlib.Core.Path.{_≡_, _∙_}
 use borrow.Author.Needs.{needs}
 use lib.ListN.{take}
 use lib.Seq.{getD-take}
