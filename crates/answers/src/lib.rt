@@ -1,4 +1,6 @@
 // What every event, the reader and the writer answer: document 01's "Numbers answered".
+#![tactic(auto)]
+
 ghost use Rattle.std.specs.Prelude.{◌≡◌};
 ghost use Rattle.answers.specs.Number.{refusal_number, number_of};
 

@@ -1,4 +1,6 @@
 // The bodies of fack, fault, reject, cancel and cancel_ack.
+#![tactic(auto)]
+
 ghost use Rattle.std.specs.Prelude.{◌≡◌};
 ghost use Rattle.bodies.specs.Fack.{fack_malformed, fack_of, blank_fack, fack_reading, fack_bytes, fack_fields};
 ghost use Rattle.bodies.specs.Status.{status_malformed, status_in, status_reading, status_bytes};

@@ -1,4 +1,6 @@
 // A call as both machines see it: its operation data, the PDUs sent for it, and what the stub is told.
+#![tactic(auto)]
+
 ghost use Rattle.std.specs.Prelude.{◌≡◌};
 ghost use Rattle.calls.specs.Sent.{blank_call, sent_header, sent_of, posting, Posted, sent_bytes};
 

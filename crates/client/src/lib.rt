@@ -1,5 +1,7 @@
 // The client call machine: a console's side of an activity. Each event takes the record by value and
 // the lent memory, judges, steps and only then acts.
+#![tactic(auto)]
+
 mod judge;
 mod records;
 mod step;

@@ -1,4 +1,6 @@
 // The client's record in 272 bytes, and back.
+#![tactic(auto)]
+
 ghost use Rattle.std.specs.Prelude.{◌≡◌};
 ghost use Rattle.words.specs.Place.{placed};
 ghost use Rattle.client_bytes.specs.Layout.{state_of, state_number, client_of, client_in, fields_of, bytes_of_client};

@@ -1,5 +1,7 @@
 // A console calls a controller over a network that loses, repeats and delays PDUs. The program shows
 // how hosts use the library, and prints a line for each event.
+#![tactic(auto)]
+
 mod clock;
 mod console;
 mod controller;

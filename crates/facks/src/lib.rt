@@ -1,4 +1,6 @@
 // What a fack says of the fragments held: its fragment number and its mask.
+#![tactic(auto)]
+
 ghost use Rattle.std.specs.Prelude.{◌≡◌, drop};
 ghost use Rattle.facks.specs.Mask.{last_contiguous, acknowledged_by, held_bit, held_word, mask_from};
 

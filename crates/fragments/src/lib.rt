@@ -1,4 +1,6 @@
 // Fragments of a message received: judged against what is held, put into their slot, and handed up.
+#![tactic(auto)]
+
 ghost use Rattle.std.specs.Prelude.{◌≡◌, ◌%◌, get_or, drop, eqb, leb};
 ghost use Rattle.words.specs.Choice.{both};
 ghost use Rattle.words.specs.Sizes.{body_size, slots_size};

@@ -1,4 +1,6 @@
 // The message received: which fragments are held, how long each is, and which is known to be the last.
+#![tactic(auto)]
+
 ghost use Rattle.std.specs.Prelude.{◌≡◌};
 ghost use Rattle.incoming.specs.Slots.{within, held_sound, sound_from, last_sound, sound, contiguous_from, contiguous, all_to, progress_of, cleared, slots_with, last_with, stored};
 

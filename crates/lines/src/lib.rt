@@ -1,4 +1,6 @@
 // Text put into a buffer, and the bytes of a test message: what the program `demo` needs.
+#![tactic(auto)]
+
 mod message;
 mod text;
 

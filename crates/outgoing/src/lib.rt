@@ -1,4 +1,6 @@
 // The message being sent: its cut into fragments, how far it is sent and acknowledged, and the sender's serial.
+#![tactic(auto)]
+
 ghost use Rattle.std.specs.Prelude.{◌≡◌, max};
 ghost use Rattle.outgoing.specs.Message.{fragments, fragment_of, flags_of};
 ghost use Rattle.outgoing.specs.Lent.{same_message, transmit_lent};

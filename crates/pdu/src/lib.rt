@@ -1,4 +1,6 @@
 // The connectionless PDU: its header, and the header's fields as they stand in a datagram.
+#![tactic(auto)]
+
 ghost use Rattle.std.specs.Prelude.{◌≡◌, true, false, ◌+◌, ◌≤◌, length};
 ghost use Rattle.words.specs.Sizes.{header_size};
 ghost use Rattle.pdu.specs.Header.{uuid_at, header_of, blank, header_in};

@@ -1,4 +1,6 @@
 // The reader: any datagram, of any length.
+#![tactic(auto)]
+
 ghost use Rattle.std.specs.Prelude.{◌≡◌};
 ghost use Rattle.pdu.specs.Header.{body_of};
 ghost use Rattle.answers.specs.Table.{answer_of};

@@ -1,5 +1,7 @@
 // A record of either side in 272 bytes of one layout, and back. Both sides have the same fields at the
 // same places; client_bytes and server_bytes say which of them a side's record has.
+#![tactic(auto)]
+
 mod decoding;
 
 ghost use Rattle.std.specs.Prelude.{◌≡◌};

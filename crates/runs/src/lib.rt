@@ -1,2 +1,3 @@
 // Nothing runs here: five lists of events, computed to their end by the machines' definitions, that
 // show that the theorem over histories speaks of something.
+#![tactic(auto)]

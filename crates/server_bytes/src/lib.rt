@@ -1,4 +1,6 @@
 // The server's record in 272 bytes, and back.
+#![tactic(auto)]
+
 ghost use Rattle.std.specs.Prelude.{◌≡◌};
 ghost use Rattle.words.specs.Place.{placed};
 ghost use Rattle.server_bytes.specs.Layout.{state_of, idle_number, held_number, state_number, held_status, status_of, server_of, server_in, fields_of, bytes_of_server};

@@ -1,4 +1,6 @@
 // Timers: off, or armed with a ticket that a record's one counter gives out.
+#![tactic(auto)]
+
 ghost use Rattle.std.specs.Prelude.{◌≡◌};
 ghost use Rattle.timers.specs.Tickets.{used_up, next_ticket, armed_afresh, armed_if_off, tickets_if_off, armed_with, off, sound, timer_sound};
 

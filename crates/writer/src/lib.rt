@@ -1,4 +1,6 @@
 // The writer: into a lent buffer of exactly 1,472 bytes, always little-endian.
+#![tactic(auto)]
+
 ghost use Rattle.std.specs.Prelude.{◌≡◌, ◌++◌, ◌≤◌, length};
 ghost use Rattle.words.specs.Place.{placed};
 ghost use Rattle.words.specs.Sizes.{header_size};
