@@ -11,7 +11,7 @@ use answers::{Answer, Refusal};
 use words::PDU_SIZE;
 
 // A fack's body, with its first mask.
-#[derive(Drop)]
+#[derive(Clone, Copy)]
 pub struct Fack {
     pub pad: u8,
     pub window: u16,
@@ -22,27 +22,27 @@ pub struct Fack {
     pub mask: u32,
 }
 
-#[derive(Drop)]
+#[derive(Clone, Copy)]
 pub struct FackReading {
     pub answer: Answer,
     pub fack: Fack,
 }
 
-#[derive(Drop)]
+#[derive(Clone, Copy)]
 pub struct StatusReading {
     pub answer: Answer,
     pub status: u32,
 }
 
 // A cancel's number.
-#[derive(Drop)]
+#[derive(Clone, Copy)]
 pub struct CancelReading {
     pub answer: Answer,
     pub number: u32,
 }
 
 // The number of the cancel answered, and whether the server accepts cancels.
-#[derive(Drop)]
+#[derive(Clone, Copy)]
 pub struct CancelAckReading {
     pub answer: Answer,
     pub number: u32,

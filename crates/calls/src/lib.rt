@@ -7,7 +7,7 @@ ghost use Rattle.calls.specs.Sent.{blank_call, sent_header, sent_of, posting, Po
 use pdu::Header;
 
 // The data of an operation, and whether the call is marked idempotent. UUIDs are in the little-endian form.
-#[derive(Drop)]
+#[derive(Clone, Copy)]
 pub struct Call {
     pub idempotent: bool,
     pub object: [u8; 16],
@@ -17,7 +17,7 @@ pub struct Call {
 }
 
 // What the stub is told.
-#[derive(Drop)]
+#[derive(Clone, Copy)]
 pub enum Notice {
     Nothing,
     // All fragments to the last are held.
@@ -36,7 +36,7 @@ pub enum Notice {
 }
 
 // What was sent: nothing, or a PDU that is so many bytes at the front of the PDU buffer.
-#[derive(Drop)]
+#[derive(Clone, Copy)]
 pub enum Sent {
     Nothing,
     Pdu(usize),

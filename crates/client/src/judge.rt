@@ -17,7 +17,7 @@ use timers::Timer;
 use words::{MESSAGE_SIZE, PDU_SIZE, RETRY_LIMIT};
 
 // A row of the client's table, with what judging found.
-#[derive(Drop)]
+#[derive(Clone, Copy)]
 pub enum Row {
     // The next fragment is sent; whether it is the last.
     Transmit(bool),
@@ -43,14 +43,14 @@ pub enum Row {
     CancelAck,
 }
 
-#[derive(Drop)]
+#[derive(Clone, Copy)]
 pub enum Verdict {
     Refuse(Refusal),
     Go(Row),
 }
 
 // Of a start: its row has the call's number.
-#[derive(Drop)]
+#[derive(Clone, Copy)]
 pub enum StartVerdict {
     Refuse(Refusal),
     Go(u32),

@@ -20,7 +20,7 @@ pub use records::{Client, State, TimerKind, fresh, is_queued, is_sending, is_sou
 use step::{Plan, Send};
 
 // What an event gives back.
-#[derive(Drop)]
+#[derive(Clone, Copy)]
 pub struct Outcome {
     pub answer: Answer,
     pub client: Client,

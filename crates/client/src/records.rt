@@ -12,7 +12,7 @@ use outgoing::Outgoing;
 use timers::Timer;
 use words::RETRY_LIMIT;
 
-#[derive(Drop)]
+#[derive(Clone, Copy)]
 pub enum State {
     Queued,
     SendFrags,
@@ -24,7 +24,7 @@ pub enum State {
 }
 
 // The client's timers.
-#[derive(Drop)]
+#[derive(Clone, Copy)]
 pub enum TimerKind {
     Wait,
     Ack,
@@ -32,7 +32,7 @@ pub enum TimerKind {
 }
 
 // The number, the call and the cancel number mean nothing in QUEUED.
-#[derive(Drop)]
+#[derive(Clone, Copy)]
 pub struct Client {
     pub state: State,
     pub activity: [u8; 16],

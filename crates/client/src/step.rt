@@ -12,7 +12,7 @@ use incoming::Incoming;
 
 // What is to be sent: nothing, the request's fragment of that number, a ping, an ack, a fack for the
 // serial answered with the contiguous count, or a cancel of that number.
-#[derive(Drop)]
+#[derive(Clone, Copy)]
 pub enum Send {
     Nothing,
     Request(u16),
@@ -23,7 +23,7 @@ pub enum Send {
 }
 
 // What a row is to do: the next record, the PDU to send, the notice, and what of an arriving body is stored.
-#[derive(Drop)]
+#[derive(Clone, Copy)]
 pub struct Plan {
     pub client: Client,
     pub send: Send,

@@ -4,7 +4,7 @@ use timers::Timer;
 
 // The ticket with which the timer was started, 0, which is no ticket, where it does not run, and which
 // event started it.
-#[derive(Drop)]
+#[derive(Clone, Copy)]
 pub(crate) struct Alarm {
     pub ticket: u64,
     pub since: u64,

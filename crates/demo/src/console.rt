@@ -12,7 +12,7 @@ pub(crate) const REQUEST_SIZE: usize = 3500;
 pub(crate) const ACTIVITY: [u8; 16] = [7; 16];
 
 // What happens at the console. Wait and Ack are its timers, running out.
-#[derive(Drop)]
+#[derive(Clone, Copy)]
 pub(crate) enum ClientEvent {
     Start,
     Transmit,
@@ -23,7 +23,7 @@ pub(crate) enum ClientEvent {
 
 // The record, a timer for each that the record arms here (CANCEL is not: this console cancels no call),
 // the PDU buffer as a wire, and how often a reply was complete.
-#[derive(Drop)]
+#[derive(Clone, Copy)]
 pub(crate) struct Console {
     pub client: Client,
     pub wait: Alarm,

@@ -12,7 +12,7 @@ pub(crate) const REPLY_SIZE: usize = 4500;
 const BOOT: u32 = 1;
 
 // What happens at the controller. Resend is its timer, running out.
-#[derive(Drop)]
+#[derive(Clone, Copy)]
 pub(crate) enum ServerEvent {
     Arrive,
     Reply,
@@ -22,7 +22,7 @@ pub(crate) enum ServerEvent {
 
 // The record, a timer for the one that the record has, the PDU buffer as a wire, and how often a call
 // was dispatched.
-#[derive(Drop)]
+#[derive(Clone, Copy)]
 pub(crate) struct Controller {
     pub server: Server,
     pub resend: Alarm,

@@ -9,7 +9,7 @@ use server::State as ServerState;
 
 // A side's PDU buffer as the wire to the other side: how long the PDU on it is, how many copies of it
 // are still to be delivered, and how many PDUs were sent.
-#[derive(Drop)]
+#[derive(Clone, Copy)]
 pub(crate) struct Wire {
     pub length: usize,
     pub copies: u8,
@@ -64,7 +64,7 @@ pub(crate) fn after_receiver(wire: Wire) -> Wire
 }
 
 // A copy of the last request that stayed behind on its way: how long it is, and how often it came.
-#[derive(Drop)]
+#[derive(Clone, Copy)]
 pub(crate) struct Straggler {
     pub length: usize,
     pub came: u8,

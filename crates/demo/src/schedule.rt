@@ -9,7 +9,7 @@ use client::State as ClientState;
 use server::State as ServerState;
 
 // An event at one of the two sides, the request that comes again, or nothing any more.
-#[derive(Drop)]
+#[derive(Clone, Copy)]
 pub(crate) enum Next {
     Client(ClientEvent),
     Server(ServerEvent),

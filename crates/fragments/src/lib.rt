@@ -57,7 +57,7 @@ pub fn body_length(length: usize) -> u16
 
 // A fragment that is put: its number, length and serial, whether it is the last, whether a fack is wanted for it; then
 // what is held with it: the contiguous count, and whether all to the last are.
-#[derive(Drop)]
+#[derive(Clone, Copy)]
 pub struct Fragment {
     pub number: u16,
     pub length: u16,
@@ -69,7 +69,7 @@ pub struct Fragment {
 }
 
 // What of an arriving body is stored: nothing, or all of it as the fragment of that number.
-#[derive(Drop)]
+#[derive(Clone, Copy)]
 pub enum Stored {
     Nothing,
     At(u16),

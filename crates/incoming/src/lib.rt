@@ -7,27 +7,27 @@ ghost use Rattle.incoming.specs.Slots.{within, held_sound, sound_from, last_soun
 use words::{BODY_SIZE, LAST_NUMBER, WINDOW_SIZE};
 
 // A fragment's place: held or missing, and its length where it is held.
-#[derive(Drop)]
+#[derive(Clone, Copy)]
 pub struct Slot {
     pub held: bool,
     pub length: u16,
 }
 
 // The number known to be the last fragment's.
-#[derive(Drop)]
+#[derive(Clone, Copy)]
 pub enum Last {
     Unknown,
     At(u16),
 }
 
-#[derive(Drop)]
+#[derive(Clone, Copy)]
 pub struct Incoming {
     pub slots: [Slot; WINDOW_SIZE as usize],
     pub last: Last,
 }
 
 // How far a message has come: the contiguous count, and whether all to the last are held.
-#[derive(Drop)]
+#[derive(Clone, Copy)]
 pub struct Progress {
     pub count: u16,
     pub complete: bool,

@@ -10,7 +10,7 @@ use flags::{FRAGMENT, LAST_FRAGMENT};
 use words::{BODY_SIZE, MESSAGE_SIZE, PDU_SIZE};
 
 // Length and fragment count of the message; sent is the next fragment to send, so also how many are sent.
-#[derive(Drop)]
+#[derive(Clone, Copy)]
 pub struct Outgoing {
     pub length: u32,
     pub count: u16,

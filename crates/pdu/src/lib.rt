@@ -9,7 +9,7 @@ use words::HEADER_SIZE;
 
 // The header, but for version, representation and body length, which the writer sets itself. UUIDs are in the
 // little-endian form.
-#[derive(Drop)]
+#[derive(Clone, Copy)]
 pub struct Header {
     pub kind: u8,
     pub flags1: u8,

@@ -11,7 +11,7 @@ use pdu::Header;
 use words::{BODY_SIZE, HEADER_SIZE};
 
 // What reading gives: the answer, whether the sender's order is little-endian, and the header.
-#[derive(Drop)]
+#[derive(Clone, Copy)]
 pub struct Reading {
     pub answer: Answer,
     pub little: bool,

@@ -22,7 +22,7 @@ use words::WINDOW_SIZE;
 pub const SIZE: usize = 272;
 
 // What the bytes of a record hold.
-#[derive(Drop)]
+#[derive(Clone, Copy)]
 pub struct Fields {
     pub state: u8,
     // The WAIT count of a client, the RESEND count of a server.
@@ -50,7 +50,7 @@ pub struct Fields {
 }
 
 // What the bytes of a record hold, with what a side needs to tell whether they are readable.
-#[derive(Drop)]
+#[derive(Clone, Copy)]
 pub struct Decoded {
     // Whether they are, but for what is the side's own.
     pub readable: bool,

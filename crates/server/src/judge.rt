@@ -19,7 +19,7 @@ use reader::Reading;
 use words::{MESSAGE_SIZE, PDU_SIZE, RETRY_LIMIT};
 
 // The number of an arriving PDU against the server's.
-#[derive(Drop)]
+#[derive(Clone, Copy)]
 pub enum Order {
     Below,
     Equal,
@@ -27,7 +27,7 @@ pub enum Order {
 }
 
 // A row of the server's table, with what judging found.
-#[derive(Drop)]
+#[derive(Clone, Copy)]
 pub enum Row {
     // A reply of that length.
     Reply(u32),
@@ -59,7 +59,7 @@ pub enum Row {
     DeclineCancel(u32),
 }
 
-#[derive(Drop)]
+#[derive(Clone, Copy)]
 pub enum Verdict {
     Refuse(Refusal),
     Go(Row),

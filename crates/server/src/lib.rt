@@ -22,7 +22,7 @@ pub use records::{Idle, Reply, Server, State, fresh, is_held, is_replying, is_ru
 use step::{Plan, Send};
 
 // What an event gives back.
-#[derive(Drop)]
+#[derive(Clone, Copy)]
 pub struct Outcome {
     pub answer: Answer,
     pub server: Server,

@@ -13,7 +13,7 @@ use timers::Timer;
 use words::RETRY_LIMIT;
 
 // What became of the last call.
-#[derive(Drop)]
+#[derive(Clone, Copy)]
 pub enum Idle {
     // No call has come yet.
     Fresh,
@@ -24,13 +24,13 @@ pub enum Idle {
 }
 
 // What the stub answered with: data, or a fault with its status.
-#[derive(Drop)]
+#[derive(Clone, Copy)]
 pub enum Reply {
     Data,
     Fault(u32),
 }
 
-#[derive(Drop)]
+#[derive(Clone, Copy)]
 pub enum State {
     Idle(Idle),
     Collect,
@@ -40,7 +40,7 @@ pub enum State {
 }
 
 // The number, the call and the cancel number last seen mean nothing in IDLE fresh.
-#[derive(Drop)]
+#[derive(Clone, Copy)]
 pub struct Server {
     pub state: State,
     pub activity: [u8; 16],

@@ -14,7 +14,7 @@ use pdu::Header;
 // What is to be sent: nothing, the response's fragment of that number, a fault with its status, working, nocall, a
 // fack for the serial answered with the contiguous count, or a cancel_ack for the cancel of that number and whether
 // cancels are accepted.
-#[derive(Drop)]
+#[derive(Clone, Copy)]
 pub enum Send {
     Nothing,
     Response(u16),
@@ -26,7 +26,7 @@ pub enum Send {
 }
 
 // What a row is to do: the next record, the PDU to send, the notice, and what of an arriving body is stored.
-#[derive(Drop)]
+#[derive(Clone, Copy)]
 pub struct Plan {
     pub server: Server,
     pub send: Send,

@@ -7,7 +7,7 @@ ghost use Rattle.timers.specs.Tickets.{used_up, next_ticket, armed_afresh, armed
 // The largest counter.
 const LARGEST: u64 = 18446744073709551615;
 
-#[derive(Drop)]
+#[derive(Clone, Copy)]
 pub enum Timer {
     Off,
     Armed(u64),

@@ -13,7 +13,7 @@ use pdu::Header;
 use words::{BODY_SIZE, HEADER_SIZE, PDU_SIZE};
 
 // What writing gives: the answer, and how many bytes of the buffer are the PDU, 0 where it is refused.
-#[derive(Drop)]
+#[derive(Clone, Copy)]
 pub struct Written {
     pub answer: Answer,
     pub length: usize,
