@@ -104,6 +104,7 @@ pub data Stands (line : Line) : List Line → Type 0 where
 pub passed_line : (table : List Line) → AllPassed table → (line : Line) → Stands line table → line.test ≡ false
 passed_line (other ∷ more) passed line here = passed.0
 passed_line (other ∷ more) passed line (later s) = passed_line more passed.1 line s
+passed_line [] passed line x'' = elim x'' [ ]
 
 -- In a table whose numbers rise every line has a number above the one that it rises from,
 above : (n : ℕ) (table : List Line) → rises_from n table ≡ true → (line : Line) → Stands line table
@@ -113,6 +114,7 @@ above n (other ∷ more) rises line (later s) =
     let first = ltb-true n (refusal_number other.refusal) (both_true _ _ rises).0 in
     let then = above (refusal_number other.refusal) more (both_true _ _ rises).1 line s in
     omega arith
+above n [] rises line x'' = elim x'' [ ]
 
 -- so where the test of a line holds, the number answered is at most that line's: the lowest position decides.
 pub lowest_decides : (n : ℕ) (table : List Line) → rises_from n table ≡ true → (line : Line) → Stands line table
@@ -129,6 +131,7 @@ lowest_decides n (other ∷ more) rises line (later s) holds behind =
         let low = above (refusal_number other.refusal) more (both_true _ _ rises).1 line s in
         rw (decides refusal_number other more behind e) (omega arith)
     by_test false e least = rw (passed_over refusal_number other more behind e) least
+lowest_decides n [] rises line x3 holds behind = elim x3 [ ]
 
 -- Refused with a number at most that of a line.
 pub record RefusedAtMost (a : Answer) (most : Refusal) : Type 0 where

@@ -1,6 +1,6 @@
 -- What each row of the client's table leaves keeps the record rules.
 use Rattle.std.proofs.Common.{◌≡◌, ℕ, ◌+◌, ◌<◌, ◌≤◌, Bool, true, false, sym, refl, ap, ◌∙◌, subst, arith}
-use borrow.Author.Tests.{eqb_false}
+use borrow.Author.Tests.{eqb-false}
 use Rattle.words.specs.Choice.{choose, both}
 use Rattle.words.specs.Sizes.{last_number, message_size, retry_limit}
 use Rattle.words.proofs.Tests.{both_true, both_hold}
@@ -103,7 +103,7 @@ module _ (c : Client) (kept : sound c ≡ true) where
       left : sends_last c.outgoing ≡ false → (after_send c.outgoing).sent < (after_send c.outgoing).count
       left e =
           let more = sent_more_lem c.outgoing below most in
-          let other = eqb_false (c.outgoing.sent + 1) c.outgoing.count e in
+          let other = eqb-false (c.outgoing.sent + 1) c.outgoing.count e in
           let same : (after_send c.outgoing).count ≡ c.outgoing.count = refl in
           omega (arith, below)
 

@@ -1,7 +1,7 @@
 -- The client sends no fack at a start, at a transmit, at a local cancel or at a timer.
 use Rattle.std.proofs.Common.{◌≡◌, ℕ, ◌≤◌, false, List, [], length, sym, refl, ap, ◌∙◌, subst, inl, inr, arith}
 use mathlib.Core.Bool.{false≢true}
-use borrow.Author.Tests.{eqb_false}
+use borrow.Author.Tests.{eqb-false}
 use Rattle.words.specs.Sizes.{body_size, pdu_size}
 use Rattle.answers.specs.declared.Answer.TheVariants.{Done}
 use Rattle.bodies.specs.Cancel.{cancel_bytes}
@@ -42,18 +42,18 @@ module _ (c : Client) (lent out : List ℕ) (short : length lent ≤ body_size) 
   unfolding sent_out request_sent pdu_header sent_header
   unfacked Nothing e z = inl refl
   unfacked (Request f) e z =
-      inr (sent_other _ lent out (sized_as 0 _ _ z) (omega arith) refl short (eqb_false 0 9 refl) room _
+      inr (sent_other _ lent out (sized_as 0 _ _ z) (omega arith) refl short (eqb-false 0 9 refl) room _
       (posted_whole _ lent out room (omega arith) refl short))
   unfacked SendPing e z =
-      inr (sent_other _ [] out (sized_as 1 0 0 z) (omega arith) refl (omega arith) (eqb_false 1 9 refl) room _
+      inr (sent_other _ [] out (sized_as 1 0 0 z) (omega arith) refl (omega arith) (eqb-false 1 9 refl) room _
       (empty_whole c out room 1 (omega arith)))
   unfacked AckPdu e z =
-      inr (sent_other _ [] out (sized_as 7 0 0 z) (omega arith) refl (omega arith) (eqb_false 7 9 refl) room _
+      inr (sent_other _ [] out (sized_as 7 0 0 z) (omega arith) refl (omega arith) (eqb-false 7 9 refl) room _
       (empty_whole c out room 7 (omega arith)))
   unfacked (SendFack serial count) e z = absurd (false≢true (sym e))
   unfacked (SendCancel n) e z =
       inr (sent_other _ (cancel_bytes n) out (sized_as 8 0 0 z) (omega arith) refl (unfold cancel_bytes in omega arith)
-      (eqb_false 8 9 refl) room _
+      (eqb-false 8 9 refl) room _
       (cancel_whole c out room n))
 
 -- A start sends nothing.

@@ -8,7 +8,7 @@ use native.Mathlib.Nat.{lt_of_lt_of_le}
 use lib.Dec.{eqb}
 use lib.ListN.{length, drop, get_or, length-drop}
 use lib.Pow.{pow_mono}
-use borrow.Author.Tests.{eqb-true, eqb_false}
+use borrow.Author.Tests.{eqb-true, eqb-false}
 use Rattle.words.specs.Bit.{bit}
 use Rattle.words.specs.Choice.{choose}
 use Rattle.words.specs.Sizes.{body_size, pdu_size, window_size}
@@ -43,7 +43,7 @@ count-acknowledged count small = by_count (eqb count 0) refl
     by_count : (t : Bool) → eqb count 0 ≡ t
         → choose (eqb (choose t 65535 (count - 1)) 65535) 0 (choose t 65535 (count - 1) + 1) ≡ count
     by_count true e = sym (eqb-true count 0 e)
-    by_count false e = by_number (eqb (count - 1) 65535) refl (eqb_false count 0 e)
+    by_count false e = by_number (eqb (count - 1) 65535) refl (eqb-false count 0 e)
 
 -- It fits its field.
 pub number_small : (count : ℕ) → count ≤ window_size → last_contiguous count < 65536

@@ -8,7 +8,7 @@ use mathlib.Core.Path.{◌≡◌, refl, sym, ap, subst, ◌∙◌}
 use native.Mathlib.Omega.{arith}
 use lib.Dec.{eqb}
 use lib.ListN.{length, drop, take-append-drop, get_or}
-use borrow.Author.Tests.{eqb-true, eqb_false, eq-eqb, ltb-true, lt-ltb, le-ltb}
+use borrow.Author.Tests.{eqb-true, eqb-false, eq-eqb, ltb-true, lt-ltb, le-ltb}
 use Rattle.words.specs.Choice.{choose, both, either}
 use Rattle.words.specs.Sizes.{body_size, window_size, slots_size}
 use Rattle.words.proofs.Tests.{either_false}
@@ -164,7 +164,7 @@ module _ (m : Incoming) (slots message : List ℕ) (flags1 f : ℕ) (body : List
           rw (same, stored-slot-same m f (length body) (is_last flags1) here)
           (filled_here f body slots holds.buffer short number ∙ part.bytes)
       by_number false e =
-          let apart = eqb_false g f e in
+          let apart = eqb-false g f e in
           let other = stored_slot_other m f (length body) (is_last flags1) g apart in
           let before : (slot_at m g).held ≡ true = sym (ap (λ (s : Slot). s.held) other) ∙ h in
           rw other
@@ -175,7 +175,7 @@ module _ (m : Incoming) (slots message : List ℕ) (flags1 f : ℕ) (body : List
     where
       by_number : (t : Bool) → eqb g f ≡ t → g < fragments (length message)
       by_number true e = rw (eqb-true g f e) part.below
-      by_number false e = holds.below g (sym (stored_held_other m f (length body) (is_last flags1) g (eqb_false g f e)) ∙ h)
+      by_number false e = holds.below g (sym (stored_held_other m f (length body) (is_last flags1) g (eqb-false g f e)) ∙ h)
 
   -- What is known of the last after the put: it is the fragment where that is the last, else as before.
   put_last : (t : Bool) → is_last flags1 ≡ t → (k : ℕ) → last_with m.last f t ≡ At k → (k + 1 ≡ fragments (length message)) × (held (stored m f (length body) (is_last flags1)) k ≡ true)
@@ -189,7 +189,7 @@ module _ (m : Incoming) (slots message : List ℕ) (flags1 f : ℕ) (body : List
   put_last false e k h =
       let end = holds.last k h in
       let apart : k ≡ f → ⊥ = λ (same : k ≡ f).
-      eqb_false (f + 1) (fragments (length message)) (sym part.last ∙ e) (ap (λ (j : ℕ). j + 1) (sym same) ∙ end) in
+      eqb-false (f + 1) (fragments (length message)) (sym part.last ∙ e) (ap (λ (j : ℕ). j + 1) (sym same) ∙ end) in
       (end, stored_held_other m f (length body) (is_last flags1) k apart ∙ holds.known k h)
 
   put_end : (t : Bool) → is_last flags1 ≡ t → (k : ℕ) → k + 1 ≡ fragments (length message)
@@ -201,7 +201,7 @@ module _ (m : Incoming) (slots message : List ℕ) (flags1 f : ℕ) (body : List
       ap At same
   put_end false e k n h =
       let apart : k ≡ f → ⊥ = λ (same : k ≡ f).
-      eqb_false (f + 1) (fragments (length message)) (sym part.last ∙ e) (ap (λ (j : ℕ). j + 1) (sym same) ∙ n) in
+      eqb-false (f + 1) (fragments (length message)) (sym part.last ∙ e) (ap (λ (j : ℕ). j + 1) (sym same) ∙ n) in
       holds.end k n (sym (stored_held_other m f (length body) (is_last flags1) k apart) ∙ h)
 
   -- After it all that is held is of the message.
@@ -276,7 +276,7 @@ module _ (m : Incoming) (slots message : List ℕ) (holds : Holding m slots mess
           by_number : (t : Bool) → eqb f 0 ≡ t → ⊥
           by_number true z = false≢true (sym can.new ∙ ap (held m) (eqb-true f 0 z) ∙ e)
           by_number false z =
-              let apart = eqb_false f 0 z in
+              let apart = eqb-false f 0 z in
               let above : above_last m.last f ≡ true = ap (λ (l : Last). above_last l f) known ∙ lt-ltb 0 f (omega arith) in
               true≢false (sym above ∙ (either_false (above_last m.last f) _ can.fits).0)
 
@@ -324,7 +324,7 @@ flags-last count f mark below = by_tests (eqb count 1) (eqb (f + 1) count) refl 
     by_tests true true p q false = refl
     by_tests true false p q t =
         let single : count ≡ 1 = eqb-true count 1 p in
-        absurd (eqb_false (f + 1) count q (omega arith))
+        absurd (eqb-false (f + 1) count q (omega arith))
     by_tests false true p q true = refl
     by_tests false true p q false = refl
     by_tests false false p q true = refl

@@ -7,7 +7,7 @@ use mathlib.Core.Path.{◌≡◌, refl, sym, ap, subst, ◌∙◌}
 use native.Mathlib.Omega.{arith}
 use lib.Dec.{eqb}
 use lib.ListN.{length}
-use borrow.Author.Tests.{eqb-true, eqb_false}
+use borrow.Author.Tests.{eqb-true, eqb-false}
 use Rattle.words.specs.Choice.{choose}
 use Rattle.words.specs.Sizes.{pdu_size}
 use Rattle.answers.specs.declared.Answer.{Answer}
@@ -189,7 +189,7 @@ module _ (w : World) (inv : Inv w) (o : ℕ) (h : Header) (little : Bool) (body 
 
   -- Another type is no request.
   other_type : (kind : ℕ) → eqb kind 0 ≡ false → h.kind ≡ kind → IsRequest h.kind → order_for s h ≡ Equal
-  other_type kind other is request = absurd (eqb_false kind 0 other (sym is ∙ request))
+  other_type kind other is request = absurd (eqb-false kind 0 other (sym is ∙ request))
 
   -- Each row. Data that is held is sent again by transmit, a fault at once; a fack moves only what is acknowledged; a call that
   -- is spent is done; a cancel moves only the number last seen.

@@ -7,7 +7,7 @@ use mathlib.Core.Path.{◌≡◌, refl, sym, ap, subst, ◌∙◌}
 use native.Mathlib.Omega.{arith}
 use lib.Dec.{eqb}
 use lib.ListN.{length}
-use borrow.Author.Tests.{eqb-true, eqb_false}
+use borrow.Author.Tests.{eqb-true, eqb-false}
 use Rattle.words.specs.Choice.{choose, both}
 use Rattle.words.specs.Sizes.{pdu_size}
 use Rattle.calls.specs.declared.Call.{Call}
@@ -261,7 +261,7 @@ module _ (s : Server) (o : ℕ) (slots : List ℕ) (starts : List Started) (disp
           let one = times-same dispatches (dispatch bytes) t.ordinal same in
           omega arith
       by_ordinal false e =
-          let other = times_other dispatches (dispatch bytes) t.ordinal (eqb_false t.ordinal o e) in
+          let other = times_other dispatches (dispatch bytes) t.ordinal (eqb-false t.ordinal o e) in
           rw other (calls.once t m mark)
 
   -- and the calls on the books stay as they are known.

@@ -7,7 +7,7 @@ use mathlib.Core.Path.{◌≡◌, refl, sym, ap, subst, ◌∙◌}
 use native.Mathlib.Omega.{arith}
 use lib.Dec.{eqb}
 use lib.ListN.{length}
-use borrow.Author.Tests.{eqb-true, eqb_false}
+use borrow.Author.Tests.{eqb-true, eqb-false}
 use Rattle.words.specs.Choice.{choose}
 use Rattle.words.specs.Sizes.{pdu_size}
 use Rattle.words.proofs.Tests.{both_true}
@@ -125,11 +125,11 @@ pub others_known : (P : ℕ → Header → List ℕ → Type 0) (o : ℕ) (send 
 unfolding reply_header echo_header sent_header
 others_known P o Nothing s h message e = tt
 others_known P o (SendResponse f) s h message e = absurd (false≢true (sym e))
-others_known P o (SendFault status) s h message e = (other_known IsResponse P o (reply_header 3 0 0 s) (status_bytes status) (eqb_false 3 2 refl), tt)
-others_known P o Working s h message e = (other_known IsResponse P o (echo_header 4 0 s h) [] (eqb_false 4 2 refl), tt)
-others_known P o Nocall s h message e = (other_known IsResponse P o (echo_header 5 0 s h) [] (eqb_false 5 2 refl), tt)
-others_known P o (Fack serial count) s h message e = (other_known IsResponse P o (echo_header 9 _ s h) _ (eqb_false 9 2 refl), tt)
-others_known P o (CancelAck n accepts) s h message e = (other_known IsResponse P o (echo_header 10 0 s h) _ (eqb_false 10 2 refl), tt)
+others_known P o (SendFault status) s h message e = (other_known IsResponse P o (reply_header 3 0 0 s) (status_bytes status) (eqb-false 3 2 refl), tt)
+others_known P o Working s h message e = (other_known IsResponse P o (echo_header 4 0 s h) [] (eqb-false 4 2 refl), tt)
+others_known P o Nocall s h message e = (other_known IsResponse P o (echo_header 5 0 s h) [] (eqb-false 5 2 refl), tt)
+others_known P o (Fack serial count) s h message e = (other_known IsResponse P o (echo_header 9 _ s h) _ (eqb-false 9 2 refl), tt)
+others_known P o (CancelAck n accepts) s h message e = (other_known IsResponse P o (echo_header 10 0 s h) _ (eqb-false 10 2 refl), tt)
 
 -- A response that transmit sends is a fragment of the reply that is out.
 module _ (s : Server) (standing : ℕ) (starts : List Started) (replies : List Replied) (message : List ℕ) (called : CalledStart s standing starts)

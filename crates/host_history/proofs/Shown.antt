@@ -4,7 +4,7 @@ use mathlib.Core.Bool.{Bool, true, false}
 use mathlib.Core.List.{List}
 use mathlib.Core.Path.{◌≡◌, refl, sym, ap, subst, ◌∙◌}
 use lib.ListN.{length}
-use borrow.Author.Tests.{eqb_false}
+use borrow.Author.Tests.{eqb-false}
 use Rattle.words.specs.Choice.{choose}
 use Rattle.words.specs.Place.{placed}
 use Rattle.answers.specs.declared.Answer.{Answer}
@@ -53,7 +53,7 @@ module _ {Machine : Type 0} (record_in : List ℕ → Machine) (bytes_of : Machi
       (λ (e : is_done a ≡ false).
       record {
         canonical = canonical;
-        same = sym (stays (λ (done : a ≡ Done). eqb_false (number_of a) 0 e (ap number_of done)));
+        same = sym (stays (λ (done : a ≡ Done). eqb-false (number_of a) 0 e (ap number_of done)));
       })
 
   -- An export that gives back what a turn gives, and leaves the bytes of its record where it is answered 0.

@@ -6,7 +6,7 @@ use mathlib.Core.Path.{◌≡◌}
 use native.Mathlib.Omega.{arith}
 use lib.Dec.{eqb}
 use lib.ListN.{length}
-use borrow.Author.Tests.{eqb_false}
+use borrow.Author.Tests.{eqb-false}
 use Rattle.words.specs.Sizes.{pdu_size}
 use Rattle.pdu.specs.declared.Header.{Header}
 use Rattle.writer.specs.Writing.{writing}
@@ -42,7 +42,7 @@ sent_of_fits : (n : ℕ) → n ≤ pdu_size → FitsSent (sent_of n)
 unfolding sent_of
 sent_of_fits n short =
     choice_by FitsSent (eqb n 0) Unsent (Pdu n) (λ (e : eqb n 0 ≡ true). tt)
-    (λ (e : eqb n 0 ≡ false). (omega (arith, eqb_false n 0 e), short))
+    (λ (e : eqb n 0 ≡ false). (omega (arith, eqb-false n 0 e), short))
 
 posted_fits : (h : Header) (body out : List ℕ) → FitsSent (posting h body out).sent
 unfolding posting

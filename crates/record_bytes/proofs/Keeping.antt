@@ -6,7 +6,7 @@ use mathlib.Core.Path.{◌≡◌, refl, ◌∙◌}
 use native.Mathlib.Omega.{arith}
 use lib.Dec.{ltb, eqb}
 use lib.ListN.{length, replicate, set, length-set}
-use borrow.Author.Tests.{ltb-true, eqb_false}
+use borrow.Author.Tests.{ltb-true, eqb-false}
 use Rattle.words.specs.Choice.{choose}
 use Rattle.words.specs.Sizes.{window_size}
 use Rattle.calls.specs.Sent.{blank_call}
@@ -157,7 +157,7 @@ unfolding next_ticket used_up
 next_ticket_fits tickets h =
     choice_by (λ (n : ℕ). n < 18446744073709551616) (eqb tickets 18446744073709551615) tickets (tickets + 1)
     (λ (e : eqb tickets 18446744073709551615 ≡ true). h)
-    (λ (e : eqb tickets 18446744073709551615 ≡ false). omega (arith, eqb_false tickets 18446744073709551615 e))
+    (λ (e : eqb tickets 18446744073709551615 ≡ false). omega (arith, eqb-false tickets 18446744073709551615 e))
 
 pub armed_fits : (tickets : ℕ) → tickets < 18446744073709551616 → FitsTimer (armed_afresh tickets)
 unfolding armed_afresh

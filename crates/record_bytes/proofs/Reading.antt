@@ -7,7 +7,7 @@ use native.Mathlib.Omega.{arith}
 use lib.Dec.{eqb, leb, ltb}
 use lib.ListN.{get_or, drop, replicate}
 use lib.Seq.{get_or-drop}
-use borrow.Author.Tests.{ltb-true, leb-true, eqb-true, eqb_false}
+use borrow.Author.Tests.{ltb-true, leb-true, eqb-true, eqb-false}
 use Rattle.words.specs.Choice.{choose, both, either, mark_of}
 use Rattle.words.specs.Number.{part, number}
 use Rattle.words.specs.Sizes.{retry_limit}
@@ -30,7 +30,7 @@ each_of all one step (suc n) e i h =
     last_or_before : (t : Bool) → eqb i n ≡ t → one n ≡ true → (i < n → one i ≡ true) → one i ≡ true
     last_or_before true p here before = ap one (eqb-true i n p) ∙ here
     last_or_before false p here before =
-        let other : i ≡ n → ⊥ = eqb_false i n p in
+        let other : i ≡ n → ⊥ = eqb-false i n p in
         before (omega (arith, other))
 
 -- Bytes that are clear are zeros.
@@ -58,7 +58,7 @@ clear-part n s at e =
 -- A mark is 1, or else 0;
 pub mark_zero : (m : ℕ) → leb m 1 ≡ true → eqb m 1 ≡ false → m ≡ 0
 mark_zero m e p =
-    let other : m ≡ 1 → ⊥ = eqb_false m 1 p in
+    let other : m ≡ 1 → ⊥ = eqb-false m 1 p in
     omega (arith, leb-true m 1 e, other)
 
 pub mark_again : (m : ℕ) → leb m 1 ≡ true → mark_of (eqb m 1) ≡ m

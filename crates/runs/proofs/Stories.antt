@@ -7,7 +7,7 @@ use mathlib.Core.Path.{◌≡◌, refl, sym, ap, subst, ◌∙◌}
 use native.Mathlib.Omega.{arith}
 use lib.Dec.{ltb, eqb}
 use lib.ListN.{length, drop, get_or}
-use borrow.Author.Tests.{ltb-true, eqb_false}
+use borrow.Author.Tests.{ltb-true, eqb-false}
 use Rattle.words.specs.Choice.{choose}
 use Rattle.words.specs.Sizes.{body_size}
 use Rattle.answers.specs.declared.Refusal.{Refusal}
@@ -86,7 +86,7 @@ pub refused : {w next after : World} {e : Event} {number : ℕ} {notice : Notice
     → Makes w e number notice next → eqb number 0 ≡ false → Plays next story notices after
     → Plays w ((e, number) ∷ story) (notice ∷ notices) after
 refused {number = number} m undone rest =
-    onward m (λ done. absurd (eqb_false number 0 undone (sym m.answered ∙ ap number_of done))) rest
+    onward m (λ done. absurd (eqb-false number 0 undone (sym m.answered ∙ ap number_of done))) rest
 
 -- a story behind another.
 notices_joined : (w : World) (one two : Story)
@@ -106,14 +106,14 @@ joined {after = after} [] two {second = second} p q =
       tells = λ i. p.tells i ++ subst (λ (v : World). notices_to v (events_of two) ≡ second) back q.tells i;
       ends = subst (λ (v : World). run v (events_of two) ≡ after) back q.ends;
     }
-joined {w} {next} {after} (t ∷ ts) two {second = second} p q =
+joined {w = w} {next = next} {after = after} (t ∷ ts) two {second = second} p q =
     let later : Plays (step w t.0) ts (notices_to (step w t.0) (events_of ts)) next = record {
       fair = p.fair.1;
       answers = ap (drop 1) p.answers;
       tells = refl;
       ends = p.ends;
     } in
-    let rest = joined ts two later q in
+    let rest = joined {w = step w t.0} ts two later q in
     record {
       fair = (p.fair.0, rest.fair);
       answers = λ i. get_or (p.answers i) 0 0 ∷ rest.answers i;

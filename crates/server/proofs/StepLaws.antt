@@ -5,7 +5,7 @@ use mathlib.Core.Bool.{Bool, true, false}
 use mathlib.Core.Path.{◌≡◌, refl, sym, subst, ◌∙◌}
 use native.Mathlib.Omega.{arith}
 use lib.Dec.{leb}
-use borrow.Author.Tests.{le-leb, eqb_false}
+use borrow.Author.Tests.{le-leb, eqb-false}
 use Rattle.words.specs.Choice.{choose, both}
 use Rattle.words.specs.Sizes.{last_number, message_size, retry_limit}
 use Rattle.calls.specs.declared.Notice.TheVariants.{Nothing as Untold}
@@ -142,7 +142,7 @@ module _ (s : Server) (kept : sound s ≡ true) where
       let told = sent_told can.row in
       let below = (fragment_left can.row).0 in
       let more = sent_more_lem s.outgoing below (fragment_left can.row).1 in
-      let other = eqb_false (s.outgoing.sent + 1) s.outgoing.count can.more in
+      let other = eqb-false (s.outgoing.sent + 1) s.outgoing.count can.more in
       rules_hold (transmitted s)
       (record {
         count = r.count;

@@ -6,7 +6,7 @@ use mathlib.Core.Logic.{inl, inr}
 use mathlib.Core.Path.{◌≡◌, refl, sym, ap, subst, ◌∙◌}
 use native.Mathlib.Omega.{arith}
 use lib.ListN.{length}
-use borrow.Author.Tests.{eqb_false}
+use borrow.Author.Tests.{eqb-false}
 use Rattle.words.specs.Sizes.{body_size, pdu_size}
 use Rattle.answers.specs.declared.Answer.TheVariants.{Done}
 use Rattle.bodies.specs.Status.{status_bytes}
@@ -66,17 +66,17 @@ module _ (s : Server) (h : Header) (lent out : List ℕ) (short : length lent �
   unfolding sent_out response_sent reply_header echo_header sent_header
   unfacked Nothing e = inl refl
   unfacked (Response f) e =
-      inr (sent_other _ lent out (reply-sized 2 _ _) (omega arith) refl short (eqb_false 2 9 refl) room _
+      inr (sent_other _ lent out (reply-sized 2 _ _) (omega arith) refl short (eqb-false 2 9 refl) room _
       (posted_whole _ lent out room (omega arith) refl short))
   unfacked (Fault status) e =
-      inr (sent_other _ (status_bytes status) out (reply-sized 3 _ _) (omega arith) refl (omega arith) (eqb_false 3 9 refl)
+      inr (sent_other _ (status_bytes status) out (reply-sized 3 _ _) (omega arith) refl (omega arith) (eqb-false 3 9 refl)
       room _ (fault_whole s out room status))
-  unfacked SendWorking e = echo_other 4 (omega arith) (eqb_false 4 9 refl)
-  unfacked SendNocall e = echo_other 5 (omega arith) (eqb_false 5 9 refl)
+  unfacked SendWorking e = echo_other 4 (omega arith) (eqb-false 4 9 refl)
+  unfacked SendNocall e = echo_other 5 (omega arith) (eqb-false 5 9 refl)
   unfacked (Fack serial count) e = absurd (false≢true (sym e))
   unfacked (CancelAck n accepts) e =
       inr (sent_other _ (cancel_ack_bytes n accepts) out (echo_sized 10) (omega arith) refl (cancel_ack_short n accepts)
-      (eqb_false 10 9 refl) room _ (cancel_ack_whole s out room n accepts h))
+      (eqb-false 10 9 refl) room _ (cancel_ack_whole s out room n accepts h))
 
 -- A row that puts no fragment sends no fack,
 pub others_send : (s : Server) (h : Header) (row : Row) → puts_fragment row ≡ false → is_fack (step_of row s h).send ≡ false

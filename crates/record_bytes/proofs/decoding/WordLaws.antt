@@ -6,7 +6,7 @@ use mathlib.Core.Path.{◌≡◌, refl, sym, ap, ◌∙◌}
 use native.Mathlib.Omega.{arith}
 use lib.Dec.{eqb, leb, ltb}
 use lib.ListN.{get_or}
-use borrow.Author.Tests.{leb-true, leb-false, eqb-true, eqb_false, lt-ltb, le-ltb}
+use borrow.Author.Tests.{leb-true, leb-false, eqb-true, eqb-false, lt-ltb, le-ltb}
 use Rattle.words.specs.Choice.{choose, both}
 use Rattle.words.specs.Number.{number}
 use Rattle.record_bytes.specs.Held.{slot_of, slot_in, slot_readable}
@@ -28,7 +28,7 @@ word_small a b c d n p q e = by_tests (leb c 1) refl (eqb d 0) refl
     by_tests : (mark : Bool) → leb c 1 ≡ mark → (spare : Bool) → eqb d 0 ≡ spare
         → ltb n 131072 ≡ choose mark spare false
     by_tests true h true k = lt-ltb n 131072 (omega (arith, leb-true c 1 h, eqb-true d 0 k))
-    by_tests true h false k = le-ltb n 131072 (omega (arith, eqb_false d 0 k))
+    by_tests true h false k = le-ltb n 131072 (omega (arith, eqb-false d 0 k))
     by_tests false h spare k = le-ltb n 131072 (omega (arith, leb-false c 1 h))
 
 module _ (s : List ℕ) (octets : (i : ℕ) → get_or s i 0 < 256) (f : ℕ) where

@@ -7,7 +7,7 @@ use native.Mathlib.Omega.{arith}
 use lib.Dec.{eqb, leb, ltb}
 use lib.ListN.{get_or, drop}
 use borrow.Author.Rules.{rules}
-use borrow.Author.Tests.{eqb-true, eqb_false, lt-ltb, le-ltb}
+use borrow.Author.Tests.{eqb-true, eqb-false, lt-ltb, le-ltb}
 use Rattle.words.specs.Choice.{both}
 use Rattle.words.specs.Number.{number}
 use Rattle.record_bytes.specs.declared.Decoded.{Decoded}
@@ -48,7 +48,7 @@ module _ (s : List ℕ) (octets : (i : ℕ) → get_or s i 0 < 256) where
           lt-ltb (number 8 true s 48) 4294967296
           (omega (arith, halves, low_small, eqb-true (number 4 true s 52) 0 e))
       by_test false e =
-          le-ltb (number 8 true s 48) 4294967296 (omega (arith, halves, eqb_false (number 4 true s 52) 0 e))
+          le-ltb (number 8 true s 48) 4294967296 (omega (arith, halves, eqb-false (number 4 true s 52) 0 e))
 
   -- So what is decoded tells whether bytes are readable,
   decoded-readable : readable_by (decoded_in s) ≡ readable s

@@ -1,6 +1,6 @@
 -- `client::judge::of_call` meets its contract.
 use Rattle.std.proofs.Common.{◌≡◌, ℕ, ◌≤◌, Bool, true, false, eqb, ◌⊎◌, refl, inl, inr, arith, rules, eqb-true}
-use borrow.Author.Tests.{eqb_false}
+use borrow.Author.Tests.{eqb-false}
 use Rattle.client.proofs.judge.of_call.Statement.{statement}
 use Rattle.client.proofs.judge.of_call.Tie as tie
 
@@ -10,7 +10,7 @@ failures kind low high response working nocall = by_test (eqb kind 3) refl
   where
     by_test : (t : Bool) → eqb kind 3 ≡ t → (kind ≡ 3) ⊎ (kind ≡ 6)
     by_test true e = inl (eqb-true kind 3 e)
-    by_test false e = let fault = eqb_false kind 3 e in inr (omega arith)
+    by_test false e = let fault = eqb-false kind 3 e in inr (omega arith)
 
 pub of_call_spec : {M : Type 1} → statement M
 of_call_spec =
