@@ -1,0 +1,13 @@
+-- `bodies::read_fack` meets its contract.
+use borrow.Author.Rules.{rules}
+use Rattle.words.proofs.Tests.{tests}
+use Rattle.bodies.specs.Fack.{fack_reading}
+use Rattle.bodies.proofs.read_fack.Goals as goal
+
+pub returns-then-malformed : goal.returns-then-malformed
+unfolding fack_reading
+returns-then-malformed c = rw (c.no_fack.ensures, ← c.is_fack_malformed-malformed.ensures) (search tests)
+
+pub returns : goal.returns
+unfolding fack_reading
+returns c = rw (c.fack_of.ensures, ← c.is_fack_malformed-malformed.ensures) (search tests)

@@ -1,0 +1,6 @@
+-- `bodies::status` meets its contract.
+use borrow.Author.Rules.{rules}
+use Rattle.bodies.proofs.status.Goals as goal
+
+pub returns : goal.returns
+returns c = c.number32.ensures

@@ -1,0 +1,6 @@
+-- `incoming::reaches` meets its contract.
+use borrow.Author.Rules.{rules}
+use Rattle.incoming.proofs.reaches.Goals as goal
+
+pub returns-in-At : goal.returns-in-At
+returns-in-At c = rw c.in-At.is

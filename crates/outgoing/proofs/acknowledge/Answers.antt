@@ -1,0 +1,8 @@
+-- `outgoing::acknowledge` meets its contract.
+use Rattle.std.proofs.Common.{rules}
+use Rattle.outgoing.specs.Sending.{acknowledged_to}
+use Rattle.outgoing.proofs.acknowledge.Goals as goal
+
+pub returns : goal.returns
+unfolding acknowledged_to
+returns c = cc

@@ -1,0 +1,8 @@
+-- `outgoing::rewind` meets its contract.
+use Rattle.std.proofs.Common.{rules}
+use Rattle.outgoing.specs.Sending.{rewound}
+use Rattle.outgoing.proofs.rewind.Goals as goal
+
+pub returns : goal.returns
+unfolding rewound
+returns c = cc
