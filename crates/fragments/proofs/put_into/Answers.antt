@@ -1,0 +1,6 @@
+-- `fragments::put_into` meets its contract.
+use borrow.Author.Rules.{rules}
+use Rattle.fragments.proofs.put_into.Goals as goal
+
+pub returns : goal.returns
+returns c = rw c.with.ensures
