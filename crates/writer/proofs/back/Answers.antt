@@ -1,0 +1,6 @@
+-- `writer::back` meets its contract.
+use borrow.Author.Rules.{rules}
+use Rattle.writer.proofs.back.Goals as goal
+
+pub returns : goal.returns
+returns c = rw c.split16-a.ensures
