@@ -1,0 +1,8 @@
+-- `facks::mask` meets its contract.
+use borrow.Author.Rules.{rules}
+use Rattle.facks.specs.Mask.{mask_from}
+use Rattle.facks.proofs.mask.Goals as goal
+
+pub returns : goal.returns
+unfolding mask_from
+returns c = c.word_from.ensures
