@@ -1,0 +1,16 @@
+-- `client::records::outgoing_is_sound` meets its contract.
+use Rattle.client.specs.records.Rules.{outgoing_sound}
+use Rattle.std.proofs.Common.{rules}
+use Rattle.client.proofs.records.outgoing_is_sound.Goals as goal
+
+pub returns : goal.returns
+unfolding outgoing_sound
+returns c =
+    rw (
+      c.both.ensures,
+      c.message_rule.ensures,
+      c.both-unsent.ensures,
+      c.has_nothing-nothing.ensures,
+      c.has_message-message.ensures,
+      c.is_bounded-bounded.ensures,
+    )

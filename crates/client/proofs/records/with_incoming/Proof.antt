@@ -1,9 +1,0 @@
--- `client::records::with_incoming` meets its contract.
-use Rattle.client.specs.records.Record.{with_incoming}
-use Rattle.words.proofs.Tests.{tests}
-use Rattle.client.proofs.records.with_incoming.Statement.{statement}
-use Rattle.client.proofs.records.with_incoming.Tie as tie
-
-pub with_incoming_spec : {M : Type 1} → statement M
-unfolding with_incoming
-with_incoming_spec = tie.close (tie.spec (λ c. search tests))

@@ -1,9 +1,0 @@
--- `client::step::going` meets its contract.
-use Rattle.words.proofs.Tests.{tests}
-use Rattle.client.specs.step.Plan.{going}
-use Rattle.client.proofs.step.going.Statement.{statement}
-use Rattle.client.proofs.step.going.Tie as tie
-
-pub going_spec : {M : Type 1} → statement M
-unfolding going
-going_spec = tie.close (tie.spec (λ c. search tests))

@@ -1,0 +1,6 @@
+-- `record_bytes::decoding::padded` meets its contract.
+use borrow.Author.Rules.{rules}
+use Rattle.record_bytes.proofs.decoding.padded.Goals as goal
+
+pub returns : goal.returns
+returns c = c.put.ensures

@@ -1,0 +1,6 @@
+-- `record_bytes::marks` meets its contract.
+use borrow.Author.Rules.{rules}
+use Rattle.record_bytes.proofs.marks.Goals as goal
+
+pub returns : goal.returns
+returns c = rw (c.mark-third.ensures, c.is_armed-2.ensures, c.mark-second.ensures, c.mark-first.ensures, c.is_armed.ensures)

@@ -1,0 +1,6 @@
+-- `record_bytes::slot_bytes` meets its contract.
+use borrow.Author.Rules.{rules}
+use Rattle.record_bytes.proofs.slot_bytes.Goals as goal
+
+pub returns : goal.returns
+returns c = rw (c.mark.ensures, c.length_where-n.ensures)

@@ -1,0 +1,8 @@
+-- `server::records::fresh` meets its contract.
+use Rattle.server.specs.records.Record.{fresh}
+use borrow.Author.Rules.{rules}
+use Rattle.server.proofs.records.fresh.Goals as goal
+
+pub returns : goal.returns
+unfolding fresh
+returns c = rw (c.empty.ensures, c.nothing.ensures, c.no_call.ensures)

@@ -1,0 +1,25 @@
+-- `server::records::is_held` meets its contract.
+use Rattle.words.proofs.Tests.{tests}
+use Rattle.server.specs.records.States.{is_held}
+use borrow.Author.Rules.{rules}
+use Rattle.server.proofs.records.is_held.Goals as goal
+
+pub returns-in-Idle : goal.returns-in-Idle
+unfolding is_held
+returns-in-Idle c = search tests
+
+pub returns-in-Collect : goal.returns-in-Collect
+unfolding is_held
+returns-in-Collect c = search tests
+
+pub returns-in-Running : goal.returns-in-Running
+unfolding is_held
+returns-in-Running c = search tests
+
+pub returns-in-Replying : goal.returns-in-Replying
+unfolding is_held
+returns-in-Replying c = search tests
+
+pub returns-in-Held : goal.returns-in-Held
+unfolding is_held
+returns-in-Held c = search tests

@@ -1,0 +1,8 @@
+-- `server::step::heard` meets its contract.
+use Rattle.server.specs.step.Steps.{heard_plan}
+use borrow.Author.Rules.{rules}
+use Rattle.server.proofs.step.heard.Goals as goal
+
+pub returns : goal.returns
+unfolding heard_plan
+returns c = rw c.with_seen.ensures
