@@ -5,7 +5,7 @@ ghost use Rattle.words.specs.Choice.{choose, both};
 ghost use Rattle.answers.specs.declared.Refusal.TheVariants.{TicketsUsedUp};
 ghost use Rattle.timers.specs.Tickets.{used_up};
 ghost use Rattle.client.specs.declared.judge.Verdict.TheVariants.{Refuse, Go};
-ghost use Rattle.client.specs.judge.Rows.{next_number, wait_row, timer_row as rowOfTimer, nocall_row, is_current, arms as armsRow};
+ghost use Rattle.client.specs.judge.Rows.{next_number, wait_row, timer_row as row_of_timer, nocall_row, is_current, arms as arms_row};
 ghost use Rattle.client.specs.judge.Refusals.{start_verdict, transmit_verdict, timer_verdict, may_cancel, cancel_verdict, is_old, pdu_verdict, activity_verdict, arrival_verdict};
 
 use crate::records;
@@ -64,7 +64,7 @@ const LAST_CANCEL_NUMBER: u32 = 4294967295;
 
 // Whether a row arms a timer.
 fn arms(c: Client, row: Row) -> bool
-    ensures { result ≡ armsRow c row }
+    ensures { result ≡ arms_row c row }
 {
     let call = c.call;
     let cancel = c.cancel;
@@ -86,7 +86,7 @@ fn arms(c: Client, row: Row) -> bool
 
 // A row of an event that nothing else refuses: 20 where it arms a timer and no ticket is left.
 fn with_ticket(c: Client, row: Row) -> Verdict
-    ensures { result ≡ choose (both (armsRow c row) (used_up c.tickets)) (Refuse TicketsUsedUp) (Go row) }
+    ensures { result ≡ choose (both (arms_row c row) (used_up c.tickets)) (Refuse TicketsUsedUp) (Go row) }
 {
     // Few counters are used up, so that is asked first.
     if timers::used_up(c.tickets) && arms(c, row) {
@@ -157,7 +157,7 @@ fn wait_row(waits: u8) -> Row
 
 // The row of a timer.
 fn timer_row(kind: TimerKind, c: Client) -> Row
-    ensures { result ≡ rowOfTimer kind c }
+    ensures { result ≡ row_of_timer kind c }
 {
     match kind {
         TimerKind::Wait => wait_row(c.waits),

@@ -10,7 +10,7 @@ ghost use Rattle.std.specs.Prelude.{◌≡◌, []};
 ghost use Rattle.calls.specs.Sent.{Posted};
 ghost use Rattle.client.specs.Sending.{pdu_header, request_sent, empty_sent, fack_sent, cancel_sent, sent_out};
 ghost use Rattle.calls.specs.Events.{Stepped, Arrived};
-ghost use Rattle.client.specs.Machine.{refused as refusedOutcome, done as doneOutcome, starting, sending, step_by, transmitting, timing, cancelling, acted, arriving, handed_up_of};
+ghost use Rattle.client.specs.Machine.{refused as refused_outcome, done as done_outcome, starting, sending, step_by, transmitting, timing, cancelling, acted, arriving, handed_up_of};
 
 use answers::{Answer, Refusal};
 use calls::{Call, Notice, Sent};
@@ -94,7 +94,7 @@ fn send_out(send: Send, c: Client, lent: &[u8], out: &mut [u8]) -> Sent
 
 // A refusal: the record stays, nothing is sent or told.
 fn refused(c: Client, refusal: Refusal) -> Outcome
-    ensures { result ≡ refusedOutcome c refusal }
+    ensures { result ≡ refused_outcome c refusal }
 {
     Outcome {
         answer: Answer::Refused(refusal),
@@ -106,7 +106,7 @@ fn refused(c: Client, refusal: Refusal) -> Outcome
 
 // What a row's plan gives back with what was sent.
 fn done(plan: Plan, sent: Sent) -> Outcome
-    ensures { result ≡ doneOutcome plan sent }
+    ensures { result ≡ done_outcome plan sent }
 {
     let client = plan.client;
     let notice = plan.notice;

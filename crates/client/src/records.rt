@@ -3,7 +3,7 @@
 ghost use Rattle.std.specs.Prelude.{◌≡◌};
 ghost use Rattle.client.specs.records.States.{may_start, is_queued, is_sending, is_active, is_dispatched, is_waiting, is_ack_pending};
 ghost use Rattle.client.specs.records.Rules.{counts_sound, message_rule, outgoing_sound, timers_sound, sound};
-ghost use Rattle.client.specs.records.Record.{fresh as freshRecord, timed, waiting, sending_again, ack_pending, unarmed, cancel_armed, cancel_disarmed, with_outgoing, with_incoming, with_waits, with_resends, with_cancels, with_call};
+ghost use Rattle.client.specs.records.Record.{fresh as fresh_record, timed, waiting, sending_again, ack_pending, unarmed, cancel_armed, cancel_disarmed, with_outgoing, with_incoming, with_waits, with_resends, with_cancels, with_call};
 ghost use Rattle.client.specs.records.Named.{named_timer, named_by};
 
 use calls::Call;
@@ -223,7 +223,7 @@ pub fn is_sound(c: Client) -> bool
 
 // A fresh client: QUEUED, nothing held or armed.
 pub fn fresh(activity: [u8; 16], tickets: u64) -> Client
-    ensures { result ≡ freshRecord activity tickets }
+    ensures { result ≡ fresh_record activity tickets }
 {
     Client {
         state: State::Queued,

@@ -1,7 +1,7 @@
 // What a row of the client's table makes of its record: the plan of the step, before anything is written.
 ghost use Rattle.std.specs.Prelude.{◌≡◌};
-ghost use Rattle.client.specs.step.Plan.{going as goingPlan, failed as failedPlan};
-ghost use Rattle.client.specs.step.Steps.{started as startedRecord, transmitted as transmittedRecord, pinged as pingedRecord, cancelled as cancelledRecord, put_record, received as receivedRecord, put_notice, fack_for, response_plan, working_plan, resent as resentRecord, acknowledged as acknowledgedRecord, step_of};
+ghost use Rattle.client.specs.step.Plan.{going as going_plan, failed as failed_plan};
+ghost use Rattle.client.specs.step.Steps.{started as started_record, transmitted as transmitted_record, pinged as pinged_record, cancelled as cancelled_record, put_record, received as received_record, put_notice, fack_for, response_plan, working_plan, resent as resent_record, acknowledged as acknowledged_record, step_of};
 
 use crate::judge::Row;
 use crate::records;
@@ -33,7 +33,7 @@ pub struct Plan {
 
 // A row that puts no fragment.
 fn going(c: Client, send: Send, notice: Notice) -> Plan
-    ensures { result ≡ goingPlan c send notice }
+    ensures { result ≡ going_plan c send notice }
 {
     Plan {
         client: c,
@@ -45,21 +45,21 @@ fn going(c: Client, send: Send, notice: Notice) -> Plan
 
 // The call fails: to FAULT, with nothing armed.
 fn failed(c: Client, notice: Notice) -> Plan
-    ensures { result ≡ failedPlan c notice }
+    ensures { result ≡ failed_plan c notice }
 {
     going(records::to_unarmed(c, State::Fault), Send::Nothing, notice)
 }
 
 // The record of a call that starts with that number.
 pub fn start(c: Client, number: u32, call: Call, length: u32) -> Client
-    ensures { result ≡ startedRecord c number call length }
+    ensures { result ≡ started_record c number call length }
 {
     records::with_call(c, State::SendFrags, number, call, outgoing::start(length))
 }
 
 // The record after the next fragment is sent; after the last, to DISPATCHED with WAIT armed.
 fn transmitted(last: bool, c: Client) -> Client
-    ensures { result ≡ transmittedRecord last c }
+    ensures { result ≡ transmitted_record last c }
 {
     let o = c.outgoing;
     let next = records::with_outgoing(c, outgoing::after_send(o));
@@ -71,7 +71,7 @@ fn transmitted(last: bool, c: Client) -> Client
 
 // The record after a ping: the serial goes up, WAIT is armed afresh, and its count is as told.
 fn pinged(c: Client, waits: u8) -> Client
-    ensures { result ≡ pingedRecord c waits }
+    ensures { result ≡ pinged_record c waits }
 {
     let o = c.outgoing;
     let state = c.state;
@@ -81,7 +81,7 @@ fn pinged(c: Client, waits: u8) -> Client
 
 // The record after a local cancel: CANCEL is armed if it is not, and the cancel number is as told.
 fn cancelled(c: Client, number: u32) -> Client
-    ensures { result ≡ cancelledRecord c number }
+    ensures { result ≡ cancelled_record c number }
 {
     records::with_cancels(records::arm_cancel(c), number)
 }
@@ -101,7 +101,7 @@ fn put_record(complete: bool, idempotent: bool, c: Client) -> Client
 
 // The record with what is held after a put, and the WAIT count 0.
 fn received(c: Client, m: Incoming) -> Client
-    ensures { result ≡ receivedRecord c m }
+    ensures { result ≡ received_record c m }
 {
     records::with_waits(records::with_incoming(c, m), 0)
 }
@@ -143,7 +143,7 @@ fn response(c: Client, p: Fragment) -> Plan
 
 // The record when the request goes out again, its count as told.
 fn resent(c: Client, resends: u8) -> Client
-    ensures { result ≡ resentRecord c resends }
+    ensures { result ≡ resent_record c resends }
 {
     let o = c.outgoing;
     let next = records::with_outgoing(c, outgoing::rewind(o));
@@ -152,7 +152,7 @@ fn resent(c: Client, resends: u8) -> Client
 
 // The record after a fack of that many fragments.
 fn acknowledged(c: Client, count: u16) -> Client
-    ensures { result ≡ acknowledgedRecord c count }
+    ensures { result ≡ acknowledged_record c count }
 {
     let o = c.outgoing;
     records::with_outgoing(c, outgoing::acknowledge(o, count))

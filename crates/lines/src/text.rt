@@ -2,7 +2,7 @@
 // does not fit is left out.
 ghost use Rattle.std.specs.Prelude.{◌≡◌};
 ghost use Rattle.lines.specs.Line.{line, put_byte, written};
-ghost use Rattle.lines.specs.Text.{decimal as decimalText};
+ghost use Rattle.lines.specs.Text.{decimal as decimal_text};
 
 // The byte, where there is room for it.
 fn put_byte(out: &mut [u8], used: usize, byte: u8) -> usize
@@ -30,7 +30,7 @@ pub fn put_text(out: &mut [u8], used: usize, text: &[u8]) -> usize
 
 // A number in decimal.
 pub fn put_number(out: &mut [u8], used: usize, number: u64) -> usize
-    ensures { line result out.new ≡ written (decimalText number) (line used out.old) }
+    ensures { line result out.new ≡ written (decimal_text number) (line used out.old) }
 {
     let mut digits = [0u8; 20];
     let count = io::decimal(number, &mut digits);

@@ -4,7 +4,7 @@ ghost use Rattle.std.specs.Prelude.{◌≤◌, ◌≡◌};
 ghost use Rattle.words.specs.Choice.{choose, either};
 ghost use Rattle.timers.specs.Tickets.{used_up};
 ghost use Rattle.server.specs.records.States.{is_replying, is_held};
-ghost use Rattle.server.specs.judge.Rows.{order_for, replay_row, ping_equal, running_cancel, cancel_equal, request_put as requestFragment, resend_held};
+ghost use Rattle.server.specs.judge.Rows.{order_for, replay_row, ping_equal, running_cancel, cancel_equal, request_put as request_fragment, resend_held};
 ghost use Rattle.server.specs.judge.Refusals.{reply_verdict, transmit_verdict, fault_verdict, timer_verdict, is_maybe_or_broadcast, agree, same_call, pdu_verdict, activity_verdict};
 ghost use Rattle.server.specs.judge.Parts.{ticketed, RequestIn, contradicts_call, entry_answer, read_verdict};
 
@@ -252,7 +252,7 @@ fn contradicts_call(s: Server, h: Header) -> bool
 
 // A request's fragment, put into these slots.
 fn request_put(m: Incoming, h: Header, body: &[u8]) -> Fragment
-    ensures { result ≡ requestFragment m h body.now }
+    ensures { result ≡ request_fragment m h body.now }
 {
     let length = fragments::body_length(body.len());
     fragments::put_of(m, h.flags1, h.serial, h.fragment, length)

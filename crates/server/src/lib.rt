@@ -8,10 +8,10 @@ mod step;
 
 ghost use Rattle.std.specs.Prelude.{◌≡◌, []};
 ghost use Rattle.calls.specs.Sent.{Posted};
-ghost use Rattle.server.specs.Sending.{reply_header, echoed as echoedCall, echo_header, response_sent, fault_sent, empty_sent, fack_sent, cancel_ack_sent, sent_out};
+ghost use Rattle.server.specs.Sending.{reply_header, echoed as echoed_call, echo_header, response_sent, fault_sent, empty_sent, fack_sent, cancel_ack_sent, sent_out};
 ghost use Rattle.calls.specs.Events.{Stepped, Arrived};
 ghost use Rattle.server.specs.judge.Parts.{read_verdict};
-ghost use Rattle.server.specs.Machine.{refused as refusedOutcome, done as doneOutcome, replying, sending, step_by, transmitting, timing, faulting, acted, arrival_by, arriving, handed_up_of};
+ghost use Rattle.server.specs.Machine.{refused as refused_outcome, done as done_outcome, replying, sending, step_by, transmitting, timing, faulting, acted, arrival_by, arriving, handed_up_of};
 
 use answers::{Answer, Refusal};
 use calls::{Call, Notice, Sent};
@@ -44,7 +44,7 @@ fn reply_header(kind: u8, flags1: u8, fragment: u16, s: Server) -> Header
 
 // The data of the PDU answered, as a call's.
 fn echoed(h: Header) -> Call
-    ensures { result ≡ echoedCall h }
+    ensures { result ≡ echoed_call h }
 {
     let object = h.object;
     let interface = h.interface;
@@ -138,7 +138,7 @@ fn send_out(send: Send, s: Server, h: Header, lent: &[u8], out: &mut [u8]) -> Se
 
 // A refusal: the record stays, nothing is sent or told.
 fn refused(s: Server, refusal: Refusal) -> Outcome
-    ensures { result ≡ refusedOutcome s refusal }
+    ensures { result ≡ refused_outcome s refusal }
 {
     Outcome {
         answer: Answer::Refused(refusal),
@@ -150,7 +150,7 @@ fn refused(s: Server, refusal: Refusal) -> Outcome
 
 // What a row's plan gives back with what was sent.
 fn done(plan: Plan, sent: Sent) -> Outcome
-    ensures { result ≡ doneOutcome plan sent }
+    ensures { result ≡ done_outcome plan sent }
 {
     let server = plan.server;
     let notice = plan.notice;

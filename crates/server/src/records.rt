@@ -3,7 +3,7 @@
 ghost use Rattle.std.specs.Prelude.{◌≡◌};
 ghost use Rattle.server.specs.records.States.{never_called, is_fresh, is_running, is_replying, is_held};
 ghost use Rattle.server.specs.records.Rules.{idle_rule, held_rule, message_rule, outgoing_sound, sound};
-ghost use Rattle.server.specs.records.Record.{fresh as freshRecord, timed, holding, unarmed, with_outgoing, with_incoming, with_resends, with_seen, with_call};
+ghost use Rattle.server.specs.records.Record.{fresh as fresh_record, timed, holding, unarmed, with_outgoing, with_incoming, with_resends, with_seen, with_call};
 ghost use Rattle.server.specs.records.Repeatable.{runs_again};
 
 use calls::Call;
@@ -186,7 +186,7 @@ pub fn is_sound(s: Server) -> bool
 
 // A fresh server: IDLE fresh, nothing held or armed.
 pub fn fresh(activity: [u8; 16], boot: u32, tickets: u64) -> Server
-    ensures { result ≡ freshRecord activity boot tickets }
+    ensures { result ≡ fresh_record activity boot tickets }
 {
     Server {
         state: State::Idle(Idle::Fresh),

@@ -1,8 +1,8 @@
 // What a row of the server's table makes of its record: the plan of the step, before anything is written.
 ghost use Rattle.std.specs.Prelude.{◌≡◌};
 ghost use Rattle.server.specs.records.Record.{holding, unarmed, with_resends};
-ghost use Rattle.server.specs.step.Plan.{going as goingPlan};
-ghost use Rattle.server.specs.step.Steps.{answered as answeredRecord, transmitted as transmittedRecord, repeatable as repeatableRecord, rewinding as rewindingRecord, call_of, begun as begunRecord, put_state, put_notice, fack_for, put_plan, acknowledged as acknowledgedRecord, heard_plan, step_of};
+ghost use Rattle.server.specs.step.Plan.{going as going_plan};
+ghost use Rattle.server.specs.step.Steps.{answered as answered_record, transmitted as transmitted_record, repeatable as repeatable_record, rewinding as rewinding_record, call_of, begun as begun_record, put_state, put_notice, fack_for, put_plan, acknowledged as acknowledged_record, heard_plan, step_of};
 
 use crate::judge::Row;
 use crate::records;
@@ -36,7 +36,7 @@ pub struct Plan {
 
 // A row that puts no fragment and tells the stub nothing.
 fn going(s: Server, send: Send) -> Plan
-    ensures { result ≡ goingPlan s send }
+    ensures { result ≡ going_plan s send }
 {
     Plan {
         server: s,
@@ -48,7 +48,7 @@ fn going(s: Server, send: Send) -> Plan
 
 // The record of a reply that was given: to REPLYING, nothing sent or acknowledged.
 fn answered(s: Server, length: u32) -> Server
-    ensures { result ≡ answeredRecord s length }
+    ensures { result ≡ answered_record s length }
 {
     let o = s.outgoing;
     let next = records::with_outgoing(s, outgoing::reply(o, length));
@@ -57,7 +57,7 @@ fn answered(s: Server, length: u32) -> Server
 
 // The record after the next fragment is sent.
 fn transmitted(s: Server) -> Server
-    ensures { result ≡ transmittedRecord s }
+    ensures { result ≡ transmitted_record s }
 {
     let o = s.outgoing;
     records::with_outgoing(s, outgoing::after_send(o))
@@ -65,7 +65,7 @@ fn transmitted(s: Server) -> Server
 
 // The record of a call that can be run again: to IDLE repeatable.
 fn repeatable(s: Server) -> Server
-    ensures { result ≡ repeatableRecord s }
+    ensures { result ≡ repeatable_record s }
 {
     records::to_unarmed(s, State::Idle(Idle::Repeatable))
 }
@@ -86,7 +86,7 @@ fn reply_held(s: Server) -> Server
 
 // A fault is sent and held, with RESEND armed.
 fn fault_held(s: Server, status: u32) -> Plan
-    ensures { result ≡ goingPlan (holding s (Reply.Fault status)) (Send.Fault status) }
+    ensures { result ≡ going_plan (holding s (Reply.Fault status)) (Send.Fault status) }
 {
     going(
         records::to_holding(s, Reply::Fault(status)),
@@ -96,7 +96,7 @@ fn fault_held(s: Server, status: u32) -> Plan
 
 // The record of a reply that goes out again: to REPLYING at the first unacknowledged fragment.
 fn rewinding(s: Server) -> Server
-    ensures { result ≡ rewindingRecord s }
+    ensures { result ≡ rewinding_record s }
 {
     let o = s.outgoing;
     let next = records::with_outgoing(s, outgoing::rewind(o));
@@ -105,7 +105,7 @@ fn rewinding(s: Server) -> Server
 
 // The same by RESEND, its count as told.
 fn resent(s: Server, resends: u8) -> Server
-    ensures { result ≡ rewindingRecord (with_resends s resends) }
+    ensures { result ≡ rewinding_record (with_resends s resends) }
 {
     rewinding(records::with_resends(s, resends))
 }
@@ -127,7 +127,7 @@ fn call_of(h: Header) -> Call
 
 // The record of a call that begins.
 fn begun(s: Server, h: Header) -> Server
-    ensures { result ≡ begunRecord s h }
+    ensures { result ≡ begun_record s h }
 {
     records::with_call(s, State::Collect, h.number, call_of(h))
 }
@@ -178,7 +178,7 @@ fn put(s: Server, p: Fragment) -> Plan
 
 // The record after a fack of that many fragments.
 fn acknowledged(s: Server, count: u16) -> Server
-    ensures { result ≡ acknowledgedRecord s count }
+    ensures { result ≡ acknowledged_record s count }
 {
     let o = s.outgoing;
     records::with_outgoing(s, outgoing::acknowledge(o, count))

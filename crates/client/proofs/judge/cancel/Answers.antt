@@ -23,6 +23,6 @@ unfolding cancel_verdict cancel_refusals cancel_row first_of
 returns c = rw (
   ← c.is_sound.ensures,
   ← c.may_cancel.ensures,
-  ← c.wrapping_add_u32.ensures,
+  ← c.wrapping_add_u32.ensures.value,
   ← c.with_ticket.ensures,
 ) (search tests)

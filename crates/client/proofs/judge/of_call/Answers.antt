@@ -12,7 +12,6 @@ failures kind low high response working nocall = by_test (eqb kind 3) refl
     by_test false e = let fault = eqb-false kind 3 e in inr (omega arith)
 
 pub failure-requires : goal.failure-requires
-failure-requires c = λ c κs.
-    let kind = c.args.h.kind in
+failure-requires c =
     let range = c.requires in
-    failures kind range.0 range.1 c.in_default.rest.0.0.1 c.in_default.rest.0.1 c.in_default.rest.1
+    failures c.args.h.kind range.0 range.1 (λ e. omega arith) (λ e. omega arith) (λ e. omega arith)

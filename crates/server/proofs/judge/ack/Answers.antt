@@ -19,7 +19,7 @@ returns-in_default-order c =
     rw (
       ack_lines,
       ← c.order_for-order.ensures,
-      is_newer c.order_for-order.result c.in_default.keys2 c.in_default-order.keys2,
+      is_newer c.order_for-order.result c.in_default.not-Below c.in_default-order.not-Equal,
     )
 
 pub returns-then-not-is_replied : goal.returns-then-not-is_replied

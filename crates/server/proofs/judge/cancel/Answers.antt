@@ -17,7 +17,7 @@ pub returns-then-is_cancel_malformed : goal.returns-then-is_cancel_malformed
 unfolding is_below cancel_cell choose
 returns-then-is_cancel_malformed c =
     let kind = c.requires in
-    let above = not_below c.order_for-order.result c.in_default.keys2 in
+    let above = not_below c.order_for-order.result c.in_default.not-Below in
     rw (
       cancel_lines,
       ← c.order_for-order.ensures,
@@ -32,7 +32,7 @@ returns-in_default-order c =
       cancel_lines,
       ← c.order_for-order.ensures,
       ← c.is_cancel_malformed.ensures,
-      is_newer c.order_for-order.result c.in_default.keys2 c.in_default-order.keys2,
+      is_newer c.order_for-order.result c.in_default.not-Below c.in_default-order.not-Equal,
     ) (search tests)
 
 pub returns : goal.returns

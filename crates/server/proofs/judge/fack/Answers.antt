@@ -18,7 +18,7 @@ pub returns-then-is_fack_malformed : goal.returns-then-is_fack_malformed
 unfolding acknowledges_more is_below acknowledgement_cell choose
 returns-then-is_fack_malformed c =
     let kind = c.requires in
-    let above = not_below c.order_for-order.result c.in_default.keys2 in
+    let above = not_below c.order_for-order.result c.in_default.not-Below in
     rw (
       fack_lines,
       ← c.order_for-order.ensures,
@@ -33,7 +33,7 @@ returns-in_default-order c =
       fack_lines,
       ← c.order_for-order.ensures,
       ← c.is_fack_malformed.ensures,
-      is_newer c.order_for-order.result c.in_default.keys2 c.in_default-order.keys2,
+      is_newer c.order_for-order.result c.in_default.not-Below c.in_default-order.not-Equal,
     ) (search tests)
 
 pub returns-then-not-is_replied : goal.returns-then-not-is_replied

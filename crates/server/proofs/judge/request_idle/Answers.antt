@@ -33,4 +33,4 @@ returns c =
     ) (search tests)
 
 pub returns-in_default : goal.returns-in_default
-returns-in_default c = rw (not_repeatable _ _ _ _ _ c.in_default.keys2 c.requires)
+returns-in_default c = rw (not_repeatable _ _ _ _ _ c.in_default.not-Repeatable c.requires)

@@ -10,7 +10,7 @@ use Rattle.server.proofs.judge.timer.Goals as goal
 pub returns-in_default : goal.returns-in_default
 returns-in_default c =
     rw (
-      untimed_lines c.args.s (not_held c.args.s.state c.args.s.resends c.in_default.keys2),
+      untimed_lines c.args.s (not_held c.args.s.state c.args.s.resends c.in_default.not-Held),
       ← c.is_sound.ensures,
     ) (search tests)
 
