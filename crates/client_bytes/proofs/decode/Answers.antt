@@ -10,8 +10,7 @@ use Rattle.record_bytes.specs.declared.Decoded.{Decoded}
 use Rattle.record_bytes.specs.Layout.{fields_in, decoded_in}
 use Rattle.record_bytes.proofs.NumberLaws.{clear-number}
 use Rattle.client_bytes.specs.Layout.{readable, client_of, client_in}
-use Rattle.client_bytes.proofs.decode.Statement.{statement}
-use Rattle.client_bytes.proofs.decode.Tie as tie
+use Rattle.client_bytes.proofs.decode.Goals as goal
 
 -- Whether bytes are readable, by what is decoded of them: there is no boot where its number is 0.
 abbrev readable_by : Decoded → Bool
@@ -23,17 +22,7 @@ by_decoded s d e =
     ap (λ (x : Decoded). client_of (readable_by x) x.fields) e
     ∙ ap (λ (r : Bool). client_of r (fields_in s)) (rw (clear-number 4 s 28))
 
-returns : tie.Need-returns
+pub returns : goal.returns
 returns c =
-    rw (c.client-of.ensures, c.before.both2.ensures, c.before.before.both.ensures)
-    (by_decoded _ _ c.before.before.before.before.before.before.decode.ensures)
-
-pub decode_spec : {M : Type 1} → statement M
-decode_spec =
-    tie.close
-    (tie.spec
-    (λ c κs. search rules)
-    (λ c κs. search rules)
-    (λ c κs. search rules)
-    (λ c κs. search rules)
-    returns)
+    rw (c.client_of.ensures, c.both-readable.ensures, c.both.ensures)
+    (by_decoded _ _ c.decode-d.ensures)

@@ -15,8 +15,7 @@ use Rattle.record_bytes.specs.Parts.{clear}
 use Rattle.record_bytes.specs.Layout.{fields_in, decoded_in}
 use Rattle.record_bytes.proofs.NumberLaws.{number_four, number_halves, clear-number, clear_joined}
 use Rattle.server_bytes.specs.Layout.{readable, server_of, server_in}
-use Rattle.server_bytes.proofs.decode.Statement.{statement}
-use Rattle.server_bytes.proofs.decode.Tie as tie
+use Rattle.server_bytes.proofs.decode.Goals as goal
 
 -- Whether bytes are readable, by what is decoded of them.
 abbrev readable_by : Decoded → Bool
@@ -63,32 +62,17 @@ module _ (s : List ℕ) (octets : (i : ℕ) → get_or s i 0 < 256) where
       ap (λ (x : Decoded). server_of (readable_by x) (x.fields.word % 4294967296) x.fields) e
       ∙ (λ i. server_of (decoded-readable i) (status_low i) (fields_in s))
 
-returns : tie.Need-returns
+pub returns : goal.returns
 returns c =
-    let s = c.before.before.before.before.before.before.before.before.before.before.before.before.before.before.before.before.before.args.s.now in
+    let s = c.args.s.now in
     let octets : (i : ℕ) → get_or s i 0 < 256 =
-    λ (i : ℕ). omega (arith, c.before.before.before.before.before.before.before.before.before.before.before.before.before.before.before.before.shared-slice-known.given i) in
+    λ (i : ℕ). omega (arith, c.shared_slice_known-1.given i) in
     rw (
-      c.server-of.ensures,
-      c.before.before.both6.ensures,
-      c.before.before.before.both5.ensures,
-      c.before.before.before.before.before.both4.ensures,
-      c.before.before.before.before.before.before.both3.ensures,
-      c.before.before.before.before.before.before.before.before.both2.ensures,
-      c.before.before.before.before.before.before.before.before.before.before.before.both.ensures,
-    ) (by_decoded s octets _ c.before.before.before.before.before.before.before.before.before.before.before.before.before.before.before.decode.ensures)
-
-pub decode_spec : {M : Type 1} → statement M
-decode_spec =
-    tie.close
-    (tie.spec
-    (λ c κs. search rules)
-    (λ c κs. search rules)
-    (λ c κs. search rules)
-    (λ c κs. search rules)
-    (λ c κs. search rules)
-    (λ c κs. search rules)
-    (λ c κs. search rules)
-    (λ c. search rules)
-    (λ c κs. search rules)
-    returns)
+      c.server_of.ensures,
+      c.both-readable.ensures,
+      c.both-2.ensures,
+      c.both-spares.ensures,
+      c.both.ensures,
+      c.both-high.ensures,
+      c.both-unarmed.ensures,
+    ) (by_decoded s octets _ c.decode-d.ensures)
