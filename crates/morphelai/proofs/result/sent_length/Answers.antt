@@ -1,0 +1,8 @@
+-- `morphelai::result::sent_length` meets its contract.
+use borrow.Author.Rules.{rules}
+use mathlib.Core.Path.{sym, ap}
+use Rattle.morphelai.specs.Result.{sent_length}
+use Rattle.morphelai.proofs.result.sent_length.Goals as goal
+
+pub returns-in-Pdu : goal.returns-in-Pdu
+returns-in-Pdu c = sym (ap sent_length c.in-Pdu.is)

@@ -1,0 +1,15 @@
+-- `morphelai::server_door::morphelai_server_transmit` meets its contract.
+use borrow.Author.Rules.{rules}
+use Rattle.morphelai.specs.ServerDoor.{server_transmit}
+use Rattle.morphelai.proofs.Returns.{refused-length}
+use Rattle.morphelai.proofs.ServerReturns.{transmit_left}
+use Rattle.morphelai.proofs.server_door.morphelai_server_transmit.Goals as goal
+
+pub returns-then-bytes-ne-SIZE : goal.returns-then-bytes-ne-SIZE
+unfolding server_transmit
+returns-then-bytes-ne-SIZE c = refused-length _ _ _ _ c.if-bytes-ne-SIZE.true
+
+pub returns : goal.returns
+returns c =
+    transmit_left _ c.if-bytes-ne-SIZE.false _ c.decode.ensures _ _ _ _ _ _ c.transmit-o.ensures
+    c.keep.ensures c.given.ensures
