@@ -30,8 +30,7 @@ fn keep(o: Outcome, bytes: &mut [u8])
 }
 
 // Makes a fresh record of an activity, whose first ticket is one more than this.
-#[unsafe(no_mangle)]
-pub extern "C" fn morphelai_client_fresh(bytes: &mut [u8], activity: &[u8], tickets: u64) -> u64
+pub fn morphelai_client_fresh(bytes: &mut [u8], activity: &[u8], tickets: u64) -> u64
     ensures { Exported (client_fresh bytes.old activity.now tickets)
         result bytes.new [] [] }
 {
@@ -70,8 +69,7 @@ fn is_sized(bytes: &[u8], idempotent: u8, object: &[u8], interface: &[u8]) -> bo
 }
 
 // Start: a call with a message of this length.
-#[unsafe(no_mangle)]
-pub extern "C" fn morphelai_client_start(
+pub fn morphelai_client_start(
     bytes: &mut [u8],
     idempotent: u8,
     object: &[u8],
@@ -95,8 +93,7 @@ pub extern "C" fn morphelai_client_start(
 }
 
 // Transmit: the next fragment of the lent message.
-#[unsafe(no_mangle)]
-pub extern "C" fn morphelai_client_transmit(bytes: &mut [u8], message: &[u8], out: &mut [u8]) -> u64
+pub fn morphelai_client_transmit(bytes: &mut [u8], message: &[u8], out: &mut [u8]) -> u64
     ensures { Exported (client_transmit bytes.old message.now out.old)
         result bytes.new [] out.new }
 {
@@ -109,8 +106,7 @@ pub extern "C" fn morphelai_client_transmit(bytes: &mut [u8], message: &[u8], ou
 }
 
 // An arriving datagram.
-#[unsafe(no_mangle)]
-pub extern "C" fn morphelai_client_arrive(
+pub fn morphelai_client_arrive(
     bytes: &mut [u8],
     datagram: &[u8],
     slots: &mut [u8],
@@ -138,13 +134,7 @@ fn run_out(c: Client, kind: TimerKind, ticket: u64, bytes: &mut [u8], out: &mut 
 }
 
 // A timer of this kind that ran out, with its ticket: 1 is WAIT, 2 is ACK, 4 is CANCEL.
-#[unsafe(no_mangle)]
-pub extern "C" fn morphelai_client_timer(
-    bytes: &mut [u8],
-    kind: u8,
-    ticket: u64,
-    out: &mut [u8],
-) -> u64
+pub fn morphelai_client_timer(bytes: &mut [u8], kind: u8, ticket: u64, out: &mut [u8]) -> u64
     ensures { Exported (client_timer bytes.old kind ticket out.old)
         result bytes.new [] out.new }
 {
@@ -165,8 +155,7 @@ pub extern "C" fn morphelai_client_timer(
 }
 
 // Local cancel: the client's user asks that the call be stopped; the call goes on.
-#[unsafe(no_mangle)]
-pub extern "C" fn morphelai_client_cancel(bytes: &mut [u8], out: &mut [u8]) -> u64
+pub fn morphelai_client_cancel(bytes: &mut [u8], out: &mut [u8]) -> u64
     ensures { Exported (client_cancel bytes.old out.old)
         result bytes.new [] out.new }
 {
@@ -179,8 +168,7 @@ pub extern "C" fn morphelai_client_cancel(bytes: &mut [u8], out: &mut [u8]) -> u
 }
 
 // How long the part of the slot buffer is that is fragment f of what was received.
-#[unsafe(no_mangle)]
-pub extern "C" fn morphelai_client_part(bytes: &[u8], f: u16, slots: &[u8]) -> u64
+pub fn morphelai_client_part(bytes: &[u8], f: u16, slots: &[u8]) -> u64
     ensures { result ≡ client_part bytes.now f slots.now }
 {
     if bytes.len() != record_bytes::SIZE {

@@ -10,8 +10,7 @@ use words::HEADER_SIZE;
 use writer::Written;
 
 // How many bytes a record has.
-#[unsafe(no_mangle)]
-pub extern "C" fn morphelai_record_size() -> usize
+pub fn morphelai_record_size() -> usize
     ensures { result ≡ record_size }
 {
     record_bytes::SIZE
@@ -38,8 +37,7 @@ fn lay(header: Header, length: u16, little: bool, out: &mut [u8])
 }
 
 // Reads a datagram: the answer, and where it is 0 its header in the little-endian form.
-#[unsafe(no_mangle)]
-pub extern "C" fn morphelai_read(datagram: &[u8], out: &mut [u8]) -> u64
+pub fn morphelai_read(datagram: &[u8], out: &mut [u8]) -> u64
     ensures { Coded (codec_read datagram.now out.old) result out.new }
 {
     if out.len() != HEADER_SIZE {
@@ -67,8 +65,7 @@ fn written(w: Written) -> u64
 }
 
 // Writes the PDU of a header in its little-endian form and a body.
-#[unsafe(no_mangle)]
-pub extern "C" fn morphelai_write(header: &[u8], body: &[u8], out: &mut [u8]) -> u64
+pub fn morphelai_write(header: &[u8], body: &[u8], out: &mut [u8]) -> u64
     ensures { Coded (codec_write header.now body.now out.old)
         result out.new }
 {

@@ -28,13 +28,7 @@ fn keep(o: Outcome, bytes: &mut [u8])
 }
 
 // Makes a fresh record of an activity, whose first ticket is one more than this.
-#[unsafe(no_mangle)]
-pub extern "C" fn morphelai_server_fresh(
-    bytes: &mut [u8],
-    activity: &[u8],
-    boot: u32,
-    tickets: u64,
-) -> u64
+pub fn morphelai_server_fresh(bytes: &mut [u8], activity: &[u8], boot: u32, tickets: u64) -> u64
     ensures { Exported (server_fresh bytes.old activity.now boot tickets)
         result bytes.new [] [] }
 {
@@ -47,8 +41,7 @@ pub extern "C" fn morphelai_server_fresh(
 }
 
 // Transmit: the next fragment of the lent message.
-#[unsafe(no_mangle)]
-pub extern "C" fn morphelai_server_transmit(bytes: &mut [u8], message: &[u8], out: &mut [u8]) -> u64
+pub fn morphelai_server_transmit(bytes: &mut [u8], message: &[u8], out: &mut [u8]) -> u64
     ensures { Exported (server_transmit bytes.old message.now out.old)
         result bytes.new [] out.new }
 {
@@ -61,8 +54,7 @@ pub extern "C" fn morphelai_server_transmit(bytes: &mut [u8], message: &[u8], ou
 }
 
 // An arriving datagram.
-#[unsafe(no_mangle)]
-pub extern "C" fn morphelai_server_arrive(
+pub fn morphelai_server_arrive(
     bytes: &mut [u8],
     datagram: &[u8],
     slots: &mut [u8],
@@ -80,13 +72,7 @@ pub extern "C" fn morphelai_server_arrive(
 }
 
 // The timer of this kind that ran out, with its ticket: 3 is RESEND.
-#[unsafe(no_mangle)]
-pub extern "C" fn morphelai_server_timer(
-    bytes: &mut [u8],
-    kind: u8,
-    ticket: u64,
-    out: &mut [u8],
-) -> u64
+pub fn morphelai_server_timer(bytes: &mut [u8], kind: u8, ticket: u64, out: &mut [u8]) -> u64
     ensures { Exported (server_timer bytes.old kind ticket out.old)
         result bytes.new [] out.new }
 {
@@ -103,8 +89,7 @@ pub extern "C" fn morphelai_server_timer(
 }
 
 // Reply: a message of this length for the call that is running.
-#[unsafe(no_mangle)]
-pub extern "C" fn morphelai_server_reply(bytes: &mut [u8], length: u32) -> u64
+pub fn morphelai_server_reply(bytes: &mut [u8], length: u32) -> u64
     ensures { Exported (server_reply bytes.old length) result bytes.new [] [] }
 {
     if bytes.len() != record_bytes::SIZE {
@@ -116,8 +101,7 @@ pub extern "C" fn morphelai_server_reply(bytes: &mut [u8], length: u32) -> u64
 }
 
 // Fault: the call that is running fails with this status.
-#[unsafe(no_mangle)]
-pub extern "C" fn morphelai_server_fault(bytes: &mut [u8], status: u32, out: &mut [u8]) -> u64
+pub fn morphelai_server_fault(bytes: &mut [u8], status: u32, out: &mut [u8]) -> u64
     ensures { Exported (server_fault bytes.old status out.old)
         result bytes.new [] out.new }
 {
@@ -130,8 +114,7 @@ pub extern "C" fn morphelai_server_fault(bytes: &mut [u8], status: u32, out: &mu
 }
 
 // How long the part of the slot buffer is that is fragment f of what was received.
-#[unsafe(no_mangle)]
-pub extern "C" fn morphelai_server_part(bytes: &[u8], f: u16, slots: &[u8]) -> u64
+pub fn morphelai_server_part(bytes: &[u8], f: u16, slots: &[u8]) -> u64
     ensures { result ≡ server_part bytes.now f slots.now }
 {
     if bytes.len() != record_bytes::SIZE {
