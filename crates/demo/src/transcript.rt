@@ -5,12 +5,14 @@ use crate::reasons;
 use answers::Answer;
 use calls::{Notice, Sent};
 use client::State as ClientState;
-use libc::STDOUT_FILENO;
 use server::{Idle, State as ServerState};
 use timers::Timer;
 
+// The descriptor that a program's output goes to.
+const STANDARD_OUTPUT: i32 = 1;
+
 pub(crate) fn print(text: &[u8]) {
-    io::write_all(STDOUT_FILENO, text);
+    io::write_all(STANDARD_OUTPUT, text);
 }
 
 // A number, in a column of that width.
@@ -247,9 +249,9 @@ pub(crate) fn print_server(
 // What one side handed up, against what the other sent, and how often its stub was told to take it.
 pub(crate) fn print_report(message: &[u8], handed_up: &[u8], sent: &[u8], told: &[u8], times: u32) {
     print(message);
-    io::print_decimal(STDOUT_FILENO, handed_up.len() as u64);
+    io::print_decimal(STANDARD_OUTPUT, handed_up.len() as u64);
     print(b" of ");
-    io::print_decimal(STDOUT_FILENO, sent.len() as u64);
+    io::print_decimal(STANDARD_OUTPUT, sent.len() as u64);
     print(b" bytes handed up, ");
     if check::same(handed_up, sent) {
         print(b"equal");
@@ -257,6 +259,6 @@ pub(crate) fn print_report(message: &[u8], handed_up: &[u8], sent: &[u8], told: 
         print(b"DIFFERENT");
     }
     print(told);
-    io::print_decimal(STDOUT_FILENO, times as u64);
+    io::print_decimal(STANDARD_OUTPUT, times as u64);
     print(b"\n");
 }
