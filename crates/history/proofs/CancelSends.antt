@@ -22,7 +22,6 @@ use Rattle.client.specs.declared.records.State.{State}
 use Rattle.client.specs.declared.records.State.TheVariants.{Queued, SendFrags, Dispatched, ReceiveFrags, AckPending, Complete, Fault}
 use Rattle.client.specs.records.Record.{with_cancels, cancel_armed}
 use Rattle.client.specs.declared.step.Send.TheVariants.{Cancel as SendCancel}
-use Rattle.client.specs.declared.judge.Row.{Row}
 use Rattle.client.specs.declared.judge.Row.TheVariants.{Cancel}
 use Rattle.client.specs.declared.judge.Verdict.{Verdict}
 use Rattle.client.specs.declared.judge.Verdict.TheVariants.{Go}

@@ -11,9 +11,9 @@ use Rattle.client.specs.declared.records.Client.{Client}
 use Rattle.client.specs.declared.judge.Row.{Row}
 use Rattle.client.specs.declared.judge.Row.TheVariants.{Transmit, Ping, SendAck, Cancel, Response, Fault, Reject, Working, Resend, GiveUp, Fack, CancelAck}
 use Rattle.client.specs.records.States.{is_queued, is_active}
-use Rattle.client.specs.records.Record.{unarmed, waiting}
+use Rattle.client.specs.records.Record.{unarmed}
 use Rattle.client.specs.step.Plan.{going, failed}
-use Rattle.client.specs.step.Steps.{transmitted, fack_for, response_plan, working_plan, step_of}
+use Rattle.client.specs.step.Steps.{fack_for, response_plan, working_plan, step_of}
 use Rattle.client.specs.Machine.{sending}
 use Rattle.client.proofs.Judging.{CanTake, Judged}
 use Rattle.client.proofs.RowLaws.{Arrives}

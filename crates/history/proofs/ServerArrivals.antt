@@ -13,7 +13,6 @@ use Rattle.words.specs.Sizes.{pdu_size}
 use Rattle.answers.specs.declared.Answer.{Answer}
 use Rattle.answers.specs.declared.Answer.TheVariants.{Done}
 use Rattle.bodies.specs.Cancel.{cancel_reading}
-use Rattle.flags.specs.Flags.{idempotent, has_flag}
 use Rattle.fragments.specs.declared.Fragment.{Fragment}
 use Rattle.fragments.specs.declared.Stored.{Stored}
 use Rattle.fragments.specs.declared.Stored.TheVariants.{Nothing as Unstored}
@@ -26,16 +25,13 @@ use Rattle.pdu.specs.declared.Header.{Header}
 use Rattle.pdu.specs.Header.{body_of}
 use Rattle.reader.specs.Reading.{reading}
 use Rattle.writer.proofs.Returns.{Sized}
-use Rattle.server.specs.declared.records.Idle.TheVariants.{Repeatable}
 use Rattle.server.specs.declared.records.State.{State}
-use Rattle.server.specs.declared.records.State.TheVariants.{Idle as IdleState, Replying}
 use Rattle.server.specs.declared.records.Server.{Server}
 use Rattle.server.specs.declared.judge.Order.TheVariants.{Equal, Newer}
 use Rattle.server.specs.declared.judge.Row.{Row}
 use Rattle.server.specs.declared.judge.Row.TheVariants.{Reply, TransmitMore, TransmitRepeatable, TransmitHeld, FaultRepeatable, FaultHeld, ResendData, ResendFault, Spend, Begin, Put, Working, Nocall, Rewind, RepeatFault, Acknowledge, HearCancel, AcceptCancel, DeclineCancel}
 use Rattle.server.specs.declared.judge.Verdict.{Verdict}
-use Rattle.server.specs.declared.judge.Verdict.TheVariants.{Go}
-use Rattle.server.specs.records.States.{is_fresh, is_running, is_held}
+use Rattle.server.specs.records.States.{is_fresh}
 use Rattle.server.specs.records.Record.{with_outgoing}
 use Rattle.server.specs.judge.Rows.{order_for, request_put}
 use Rattle.server.specs.declared.step.Plan.{Plan}

@@ -22,7 +22,7 @@ use Rattle.incoming.proofs.SlotLaws.{cleared-sound}
 use Rattle.outgoing.specs.Sending.{no_message, bounded, has_nothing}
 use Rattle.pdu.specs.declared.Header.{Header}
 use Rattle.timers.proofs.TimerLaws.{off-sound}
-use Rattle.fragments.specs.Fragment.{is_last, wants_fack, body_length}
+use Rattle.fragments.specs.Fragment.{is_last, wants_fack}
 use Rattle.fragments.specs.Put.{put_of}
 use Rattle.fragments.proofs.FlagLaws.{body-length}
 use Rattle.server.specs.declared.records.Idle.TheVariants.{Repeatable}

@@ -17,7 +17,7 @@ use Rattle.bodies.specs.Status.{status_bytes}
 use Rattle.calls.specs.declared.Notice.{Notice}
 use Rattle.calls.specs.declared.Notice.TheVariants.{Nothing as Untold, Last, Count, Fault as FaultNotice, Reject, Cause, Dispatch, Cancel as CancelTold}
 use Rattle.calls.specs.Sent.{sent_header}
-use Rattle.flags.specs.Flags.{idempotent, with_flag}
+use Rattle.flags.specs.Flags.{with_flag}
 use Rattle.facks.specs.Mask.{last_contiguous, mask_from}
 use Rattle.outgoing.specs.Message.{fragments, fragment_of, flags_of}
 use Rattle.outgoing.specs.Sending.{has_message}

@@ -1,13 +1,11 @@
 -- What is known of the server stays known at the rows that go on with its call.
-use Prim.Native.Nat.{ℕ, ◌+◌}
+use Prim.Native.Nat.{ℕ}
 use mathlib.Core.Bool.{Bool, true, false, false≢true}
 use mathlib.Core.List.{List}
 use mathlib.Core.Path.{◌≡◌, refl, sym, ap, ◌∙◌}
-use lib.ListN.{length}
 use Rattle.outgoing.specs.Sending.{rewound}
 use Rattle.server.specs.declared.records.Idle.TheVariants.{Fresh, Spent, Repeatable}
 use Rattle.server.specs.declared.records.Reply.{Reply}
-use Rattle.server.specs.declared.records.Reply.TheVariants.{Data, Fault}
 use Rattle.server.specs.declared.records.State.{State}
 use Rattle.server.specs.declared.records.State.TheVariants.{Idle as IdleState, Collect, Running, Replying, Held}
 use Rattle.server.specs.declared.records.Server.{Server}

@@ -1,5 +1,4 @@
 -- `answers::refusal_number` meets its contract: each arm knows its variant, and the definition computes there.
-use borrow.Author.Rules.{rules}
 use Rattle.answers.proofs.refusal_number.Goals as goal
 
 pub returns-in-WrongLength : goal.returns-in-WrongLength

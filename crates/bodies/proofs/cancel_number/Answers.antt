@@ -1,5 +1,4 @@
 -- `bodies::cancel_number` meets its contract.
-use borrow.Author.Rules.{rules}
 use Rattle.bodies.proofs.cancel_number.Goals as goal
 
 pub returns : goal.returns

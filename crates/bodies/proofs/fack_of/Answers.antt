@@ -1,6 +1,5 @@
 -- `bodies::fack_of` meets its contract.
 use Rattle.bodies.specs.Fack.{fack_of}
-use borrow.Author.Rules.{rules}
 use Rattle.bodies.proofs.fack_of.Goals as goal
 
 pub returns : goal.returns

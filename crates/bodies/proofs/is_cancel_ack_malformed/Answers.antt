@@ -1,5 +1,4 @@
 -- `bodies::is_cancel_ack_malformed` meets its contract.
-use borrow.Author.Rules.{rules}
 use Rattle.words.specs.Choice.{either}
 use Rattle.words.proofs.Tests.{tests}
 use Rattle.bodies.specs.Cancel.{cancel_ack_malformed}

@@ -1,5 +1,4 @@
 -- `bodies::read_cancel` meets its contract.
-use borrow.Author.Rules.{rules}
 use Rattle.words.proofs.Tests.{tests}
 use Rattle.bodies.specs.Cancel.{cancel_reading}
 use Rattle.bodies.proofs.read_cancel.Goals as goal

@@ -1,5 +1,4 @@
 -- `bodies::read_fack` meets its contract.
-use borrow.Author.Rules.{rules}
 use Rattle.words.proofs.Tests.{tests}
 use Rattle.bodies.specs.Fack.{fack_reading}
 use Rattle.bodies.proofs.read_fack.Goals as goal

@@ -1,5 +1,4 @@
 -- `bodies::read_status` meets its contract.
-use borrow.Author.Rules.{rules}
 use Rattle.words.proofs.Tests.{tests}
 use Rattle.bodies.specs.Status.{status_reading}
 use Rattle.bodies.proofs.read_status.Goals as goal

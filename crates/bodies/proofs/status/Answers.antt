@@ -1,5 +1,4 @@
 -- `bodies::status` meets its contract.
-use borrow.Author.Rules.{rules}
 use Rattle.bodies.proofs.status.Goals as goal
 
 pub returns : goal.returns

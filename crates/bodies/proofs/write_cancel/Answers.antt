@@ -1,6 +1,5 @@
 -- `bodies::write_cancel` meets its contract.
 use Rattle.bodies.specs.Cancel.{cancel_bytes}
-use borrow.Author.Rules.{rules}
 use Rattle.bodies.proofs.write_cancel.Goals as goal
 
 pub returns : goal.returns

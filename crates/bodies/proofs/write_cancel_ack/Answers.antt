@@ -1,7 +1,6 @@
 -- `bodies::write_cancel_ack` meets its contract.
 use Rattle.bodies.proofs.Returns.{mark-digits}
 use Rattle.bodies.specs.Cancel.{cancel_ack_bytes}
-use borrow.Author.Rules.{rules}
 use Rattle.bodies.proofs.write_cancel_ack.Goals as goal
 
 pub returns : goal.returns

@@ -1,6 +1,5 @@
 -- `bodies::write_fack` meets its contract.
 use Rattle.bodies.specs.Fack.{fack_bytes}
-use borrow.Author.Rules.{rules}
 use Rattle.bodies.proofs.write_fack.Goals as goal
 
 pub returns : goal.returns

@@ -1,6 +1,5 @@
 -- `calls::post` meets its contract.
 use mathlib.Core.Path.{ap, ◌∙◌}
-use borrow.Author.Rules.{rules}
 use Rattle.writer.specs.declared.Written.{Written}
 use Rattle.calls.specs.Sent.{sent_of, posting}
 use Rattle.calls.proofs.post.Goals as goal

@@ -1,5 +1,4 @@
 -- `calls::sent_bytes` meets its contract.
-use borrow.Author.Rules.{rules}
 use Rattle.calls.specs.Sent.{sent_bytes}
 use Rattle.calls.proofs.sent_bytes.Goals as goal
 

@@ -1,5 +1,4 @@
 -- `client::act` meets its contract.
-use Rattle.std.proofs.Common.{rules}
 use Rattle.client.proofs.Returns.{step-refused, step_taken}
 use Rattle.client.proofs.act.Goals as goal
 

@@ -1,5 +1,4 @@
 -- `client::arrive` meets its contract.
-use Rattle.std.proofs.Common.{rules}
 use Rattle.client.specs.Machine.{arriving}
 use Rattle.client.proofs.Returns.{arrival-refused, arrival_taken}
 use Rattle.client.proofs.arrive.Goals as goal

@@ -1,5 +1,5 @@
 -- `client::cancel` meets its contract.
-use Rattle.std.proofs.Common.{refl, rules}
+use Rattle.std.proofs.Common.{refl}
 use Rattle.client.specs.Machine.{cancelling}
 use Rattle.client.proofs.Returns.{judged_as}
 use Rattle.client.proofs.cancel.Goals as goal

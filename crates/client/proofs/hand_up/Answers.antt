@@ -1,5 +1,4 @@
 -- `client::hand_up` meets its contract.
-use Rattle.std.proofs.Common.{rules}
 use Rattle.client.specs.Machine.{handed_up_of}
 use Rattle.client.proofs.hand_up.Goals as goal
 

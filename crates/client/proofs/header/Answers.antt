@@ -1,6 +1,5 @@
 -- `client::header` meets its contract.
 use Rattle.client.specs.Sending.{pdu_header}
-use Rattle.std.proofs.Common.{rules}
 use Rattle.client.proofs.header.Goals as goal
 
 pub returns : goal.returns

@@ -1,5 +1,4 @@
 -- `client::send` meets its contract.
-use Rattle.std.proofs.Common.{rules}
 use Rattle.client.proofs.Returns.{plan_sent}
 use Rattle.client.proofs.send.Goals as goal
 

@@ -1,7 +1,6 @@
 -- `client::send_cancel` meets its contract.
 use Rattle.client.specs.Sending.{cancel_sent}
 use Rattle.calls.proofs.PostLaws.{posted_as}
-use Rattle.std.proofs.Common.{rules}
 use Rattle.client.proofs.send_cancel.Goals as goal
 
 pub returns : goal.returns

@@ -1,5 +1,5 @@
 -- `client::send_empty` meets its contract.
-use Rattle.std.proofs.Common.{refl, rules}
+use Rattle.std.proofs.Common.{refl}
 use Rattle.client.specs.Sending.{empty_sent}
 use Rattle.calls.proofs.PostLaws.{posted_as}
 use Rattle.client.proofs.send_empty.Goals as goal

@@ -1,5 +1,5 @@
 -- `client::send_fack` meets its contract.
-use Rattle.std.proofs.Common.{ℕ, ap, ◌∙◌, rules}
+use Rattle.std.proofs.Common.{ℕ, ap, ◌∙◌}
 use Rattle.bodies.specs.Fack.{fack_bytes, fack_fields}
 use Rattle.calls.proofs.PostLaws.{posted_as}
 use Rattle.client.specs.Sending.{pdu_header, fack_sent}

@@ -1,5 +1,5 @@
 -- `client::send_out` meets its contract: each arm sends what its plan says.
-use Rattle.std.proofs.Common.{refl, rules}
+use Rattle.std.proofs.Common.{refl}
 use Rattle.client.specs.Sending.{sent_out}
 use Rattle.client.proofs.Returns.{sent_as}
 use Rattle.client.proofs.send_out.Goals as goal

@@ -1,5 +1,5 @@
 -- `client::send_request` meets its contract.
-use Rattle.std.proofs.Common.{ℕ, refl, ap, ◌∙◌, rules}
+use Rattle.std.proofs.Common.{ℕ, refl, ap, ◌∙◌}
 use Rattle.client.specs.Sending.{pdu_header, request_sent}
 use Rattle.calls.proofs.PostLaws.{posted_as}
 use Rattle.client.proofs.send_request.Goals as goal

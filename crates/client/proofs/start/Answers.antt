@@ -1,5 +1,4 @@
 -- `client::start` meets its contract.
-use Rattle.std.proofs.Common.{rules}
 use Rattle.client.specs.Machine.{start_by, starting}
 use Rattle.client.proofs.start.Goals as goal
 

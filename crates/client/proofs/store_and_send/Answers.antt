@@ -1,5 +1,4 @@
 -- `client::store_and_send` meets its contract.
-use Rattle.std.proofs.Common.{rules}
 use Rattle.client.proofs.Returns.{acted_on}
 use Rattle.client.proofs.store_and_send.Goals as goal
 

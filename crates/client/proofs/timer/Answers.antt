@@ -1,5 +1,5 @@
 -- `client::timer` meets its contract.
-use Rattle.std.proofs.Common.{refl, rules}
+use Rattle.std.proofs.Common.{refl}
 use Rattle.client.specs.Machine.{timing}
 use Rattle.client.proofs.Returns.{judged_as}
 use Rattle.client.proofs.timer.Goals as goal

@@ -1,5 +1,4 @@
 -- `client::transmit` meets its contract.
-use Rattle.std.proofs.Common.{rules}
 use Rattle.client.specs.Machine.{transmitting}
 use Rattle.client.proofs.Returns.{judged_as}
 use Rattle.client.proofs.transmit.Goals as goal

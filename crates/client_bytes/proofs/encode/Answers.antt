@@ -1,5 +1,4 @@
 -- `client_bytes::encode` meets its contract.
-use borrow.Author.Rules.{rules}
 use Rattle.client_bytes.specs.Layout.{bytes_of_client}
 use Rattle.client_bytes.proofs.encode.Goals as goal
 

@@ -1,5 +1,4 @@
 -- `client_bytes::fields_of` meets its contract.
-use borrow.Author.Rules.{rules}
 use Rattle.client_bytes.specs.Layout.{fields_of}
 use Rattle.client_bytes.proofs.fields_of.Goals as goal
 

@@ -1,5 +1,5 @@
 -- `demo::run` is safe and ends: the events are counted up. The lent buffers keep their lengths.
-use Rattle.std.proofs.Common.{◌≡◌, ◌-◌, ◌≤◌, length, arith, rules}
+use Rattle.std.proofs.Common.{arith}
 use Rattle.demo.proofs.run.Goals as goal
 
 -- What lies too far back for the search is named.

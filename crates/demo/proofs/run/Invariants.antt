@@ -1,5 +1,5 @@
 -- `demo::run` is safe and ends: the events are counted up. The lent buffers keep their lengths.
-use Rattle.std.proofs.Common.{◌≡◌, ◌-◌, ◌≤◌, length, arith, rules}
+use Rattle.std.proofs.Common.{◌≡◌, ◌-◌, ◌≤◌, length}
 use Rattle.demo.proofs.run.Given as goal
 
 abbrev pub invariant-loop-number : goal.invariant-loop-number

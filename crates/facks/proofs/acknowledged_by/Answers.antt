@@ -1,7 +1,6 @@
 -- `facks::acknowledged_by` meets its contract.
 use Rattle.words.proofs.Tests.{tests}
 use Rattle.facks.specs.Mask.{acknowledged_by}
-use borrow.Author.Rules.{rules}
 use Rattle.facks.proofs.acknowledged_by.Goals as goal
 
 pub returns-then-g-eq65535 : goal.returns-then-g-eq65535

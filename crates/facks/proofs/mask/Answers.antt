@@ -1,5 +1,4 @@
 -- `facks::mask` meets its contract.
-use borrow.Author.Rules.{rules}
 use Rattle.facks.specs.Mask.{mask_from}
 use Rattle.facks.proofs.mask.Goals as goal
 

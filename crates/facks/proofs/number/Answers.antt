@@ -1,7 +1,6 @@
 -- `facks::number` meets its contract.
 use Rattle.words.proofs.Tests.{tests}
 use Rattle.facks.specs.Mask.{last_contiguous}
-use borrow.Author.Rules.{rules}
 use Rattle.facks.proofs.number.Goals as goal
 
 pub returns-then-count-eq0 : goal.returns-then-count-eq0

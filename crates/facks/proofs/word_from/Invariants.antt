@@ -1,13 +1,10 @@
 -- `facks::word_from` meets its contract. Before each turn the word is that of the slots from i on.
-use Prim.Native.Nat.{◌≤◌, ◌-◌}
-use mathlib.Core.Logic.{◌⊎◌, inl, inr}
-use mathlib.Core.Path.{◌≡◌, sym, ap, ◌∙◌}
-use native.Mathlib.Omega.{arith}
-use borrow.Author.Rules.{rules}
-use lib.ListN.{length, drop, drop_of_length-le}
+use Prim.Native.Nat.{◌≤◌}
+use mathlib.Core.Logic.{◌⊎◌}
+use mathlib.Core.Path.{◌≡◌}
+use lib.ListN.{length, drop}
 use Rattle.words.specs.Sizes.{window_size}
 use Rattle.facks.specs.Mask.{held_word}
-use Rattle.facks.proofs.MaskLaws.{word_step, word_end}
 use Rattle.facks.proofs.word_from.Given as goal
 
 abbrev pub invariant-loop-i : goal.invariant-loop-i

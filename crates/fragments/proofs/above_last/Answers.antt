@@ -1,6 +1,5 @@
 -- `fragments::above_last` meets its contract.
 use Rattle.fragments.specs.Judgement.{above_last}
-use borrow.Author.Rules.{rules}
 use Rattle.fragments.proofs.above_last.Goals as goal
 
 pub returns-in-Unknown : goal.returns-in-Unknown

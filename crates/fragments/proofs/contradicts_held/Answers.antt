@@ -1,6 +1,5 @@
 -- `fragments::contradicts_held` meets its contract.
 use Rattle.fragments.specs.Judgement.{contradicts, last_below_held, held_above}
-use borrow.Author.Rules.{rules}
 use Rattle.fragments.proofs.contradicts_held.Goals as goal
 
 pub returns : goal.returns

@@ -1,6 +1,5 @@
 -- `fragments::fill` meets its contract: a body without a place changes nothing.
 use mathlib.Core.Path.{◌∙◌, sym}
-use borrow.Author.Rules.{rules}
 use Rattle.words.proofs.Tests.{choose_true, choose_false}
 use Rattle.fragments.specs.Slots.{filled}
 use Rattle.fragments.proofs.fill.Goals as goal

@@ -1,6 +1,5 @@
 -- `fragments::hand_up_where` meets its contract.
 use mathlib.Core.Path.{sym, ◌∙◌}
-use borrow.Author.Rules.{rules}
 use Rattle.words.proofs.Tests.{choose_true, choose_false}
 use Rattle.fragments.specs.Joined.{part_of}
 use Rattle.fragments.proofs.hand_up_where.Goals as goal

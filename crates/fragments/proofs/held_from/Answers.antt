@@ -1,10 +1,9 @@
 -- `fragments::held_from` meets its contract. Before each turn no slot from `from` to below i is held.
-use Prim.Native.Nat.{◌≤◌, ◌-◌}
-use mathlib.Core.Path.{◌≡◌, refl, sym, ap, ◌∙◌}
+use Prim.Native.Nat.{◌≤◌}
+use mathlib.Core.Path.{refl, sym, ap, ◌∙◌}
 use native.Mathlib.Omega.{arith}
 use borrow.Author.Rules.{rules}
-use lib.ListN.{length, drop, drop_of_length-le}
-use Rattle.words.specs.Sizes.{window_size}
+use lib.ListN.{length, drop_of_length-le}
 use Rattle.fragments.specs.Judgement.{any_held}
 use Rattle.fragments.proofs.FragmentLaws.{any_found, any_on}
 use Rattle.fragments.proofs.held_from.Goals as goal

@@ -1,6 +1,5 @@
 -- `fragments::is_handed_up` meets its contract.
 use Rattle.fragments.specs.Slots.{is_handed_up}
-use borrow.Author.Rules.{rules}
 use Rattle.fragments.proofs.is_handed_up.Goals as goal
 
 pub returns : goal.returns

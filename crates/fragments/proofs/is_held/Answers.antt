@@ -2,7 +2,6 @@
 use mathlib.Core.Path.{ap}
 use Rattle.incoming.specs.declared.Slot.{Slot}
 use Rattle.fragments.specs.Judgement.{held}
-use borrow.Author.Rules.{rules}
 use Rattle.fragments.proofs.is_held.Goals as goal
 
 pub returns : goal.returns

@@ -1,6 +1,5 @@
 -- `fragments::is_last` meets its contract.
 use Rattle.fragments.specs.Fragment.{is_last}
-use borrow.Author.Rules.{rules}
 use Rattle.fragments.proofs.is_last.Goals as goal
 
 pub returns : goal.returns

@@ -1,6 +1,5 @@
 -- `fragments::is_lent_right` meets its contract.
 use Rattle.fragments.specs.Fragment.{lent_right}
-use borrow.Author.Rules.{rules}
 use Rattle.fragments.proofs.is_lent_right.Goals as goal
 
 pub returns : goal.returns

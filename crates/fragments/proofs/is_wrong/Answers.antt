@@ -1,6 +1,5 @@
 -- `fragments::is_wrong` meets its contract.
 use Rattle.fragments.specs.Fragment.{wrong_fragment}
-use borrow.Author.Rules.{rules}
 use Rattle.fragments.proofs.is_wrong.Goals as goal
 
 pub returns : goal.returns

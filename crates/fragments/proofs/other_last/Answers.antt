@@ -1,6 +1,5 @@
 -- `fragments::other_last` meets its contract.
 use Rattle.fragments.specs.Judgement.{other_last}
-use borrow.Author.Rules.{rules}
 use Rattle.fragments.proofs.other_last.Goals as goal
 
 pub returns-in-Unknown : goal.returns-in-Unknown

@@ -1,5 +1,4 @@
 -- `fragments::put_into` meets its contract.
-use borrow.Author.Rules.{rules}
 use Rattle.fragments.proofs.put_into.Goals as goal
 
 pub returns : goal.returns

@@ -1,7 +1,6 @@
 -- `fragments::put_of` meets its contract.
 use Rattle.incoming.specs.Slots.{progress_of}
 use Rattle.fragments.specs.Put.{put_of}
-use borrow.Author.Rules.{rules}
 use Rattle.fragments.proofs.put_of.Goals as goal
 
 pub returns : goal.returns

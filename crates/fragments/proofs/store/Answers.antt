@@ -1,6 +1,5 @@
 -- `fragments::store` meets its contract.
 use Rattle.fragments.specs.Put.{storing}
-use borrow.Author.Rules.{rules}
 use Rattle.fragments.proofs.store.Goals as goal
 
 pub returns-in-Nothing : goal.returns-in-Nothing

@@ -1,6 +1,5 @@
 -- `fragments::wants_fack` meets its contract.
 use Rattle.fragments.specs.Fragment.{wants_fack}
-use borrow.Author.Rules.{rules}
 use Rattle.fragments.proofs.wants_fack.Goals as goal
 
 pub returns : goal.returns

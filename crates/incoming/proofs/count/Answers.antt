@@ -1,6 +1,5 @@
 -- `incoming::count` meets its contract.
 use Rattle.incoming.specs.Slots.{contiguous}
-use borrow.Author.Rules.{rules}
 use Rattle.incoming.proofs.count.Goals as goal
 
 pub returns : goal.returns

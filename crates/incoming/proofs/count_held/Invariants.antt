@@ -1,13 +1,9 @@
 -- `incoming::count_held` meets its contract. Before each turn all fragments below i are held.
 use Prim.Native.Nat.{◌+◌, ◌≤◌, ◌-◌}
-use mathlib.Core.Path.{◌≡◌, ap}
-use native.Mathlib.Omega.{arith}
-use borrow.Author.Rules.{rules}
-use borrow.Author.Tests.{not-true, not-false}
-use lib.ListN.{length, drop, drop_of_length-le}
+use mathlib.Core.Path.{◌≡◌}
+use lib.ListN.{length, drop}
 use Rattle.words.specs.Sizes.{window_size}
 use Rattle.incoming.specs.Slots.{contiguous_from}
-use Rattle.incoming.proofs.SlotLaws.{count_on, count_ends}
 use Rattle.incoming.proofs.count_held.Given as goal
 
 abbrev pub invariant-loop-i : goal.invariant-loop-i

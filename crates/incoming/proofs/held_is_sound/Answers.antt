@@ -1,5 +1,4 @@
 -- `incoming::held_is_sound` meets its contract.
-use borrow.Author.Rules.{rules}
 use Rattle.words.proofs.Tests.{tests}
 use Rattle.incoming.proofs.held_is_sound.Goals as goal
 

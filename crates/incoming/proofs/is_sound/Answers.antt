@@ -1,9 +1,7 @@
 -- `incoming::is_sound` meets its contract.
 use borrow.Author.Rules.{rules}
-use mathlib.Core.Path.{◌≡◌, sym, ◌∙◌}
-use lib.ListN.{length, length-map}
+use mathlib.Core.Path.{sym, ◌∙◌}
 use Rattle.words.specs.Choice.{both}
-use Rattle.words.specs.Sizes.{window_size}
 use Rattle.words.proofs.Tests.{choose_true, choose_false}
 use Rattle.incoming.proofs.RuleLaws.{sound_is}
 use Rattle.incoming.proofs.is_sound.Goals as goal

@@ -1,5 +1,4 @@
 -- `incoming::is_within` meets its contract.
-use borrow.Author.Rules.{rules}
 use Rattle.incoming.proofs.is_within.Goals as goal
 
 pub returns-in-At : goal.returns-in-At

@@ -1,5 +1,4 @@
 -- `incoming::progress_of` meets its contract.
-use borrow.Author.Rules.{rules}
 use Rattle.incoming.specs.Slots.{complete, progress_of}
 use Rattle.incoming.proofs.progress_of.Goals as goal
 

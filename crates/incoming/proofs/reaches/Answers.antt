@@ -1,5 +1,4 @@
 -- `incoming::reaches` meets its contract.
-use borrow.Author.Rules.{rules}
 use Rattle.incoming.proofs.reaches.Goals as goal
 
 pub returns-in-At : goal.returns-in-At

@@ -1,11 +1,9 @@
 -- `incoming::slots_are_sound` meets its contract. Before each turn the rules hold of all slots below i.
-use Prim.Native.Nat.{◌≤◌, ◌-◌}
-use mathlib.Core.Path.{◌≡◌, refl, sym, ap, ◌∙◌}
+use Prim.Native.Nat.{◌≤◌}
+use mathlib.Core.Path.{refl, sym, ap, ◌∙◌}
 use native.Mathlib.Omega.{arith}
 use borrow.Author.Rules.{rules}
-use borrow.Author.Tests.{not-true, not-false}
-use lib.ListN.{length, drop, drop_of_length-le}
-use Rattle.words.specs.Sizes.{window_size}
+use lib.ListN.{length, drop_of_length-le}
 use Rattle.incoming.specs.Slots.{sound_from}
 use Rattle.incoming.proofs.SlotLaws.{slot_by_held, slot-missing, sound_on, sound_fails}
 use Rattle.incoming.proofs.slots_are_sound.Goals as goal
@@ -32,7 +30,7 @@ loop-i-preserved c =
       l.invariant.1,
       l.invariant.2 ∙ sound_on last slots l.i l.i _ (omega arith)
           (elim c.if-slot.branch [
-            then-slot+else-not-held_is_sound w ↦ slot_by_held last l.i _ _ w.if-slot.true ∙ sym w.held_is_sound.ensures ∙ w.if-not-held_is_sound.false
+            | then-slot+else-not-held_is_sound w ↦ slot_by_held last l.i _ _ w.if-slot.true ∙ sym w.held_is_sound.ensures ∙ w.if-not-held_is_sound.false
             | else-slot w ↦ slot-missing last l.i _ _ w.if-slot.false
           ]),
     )

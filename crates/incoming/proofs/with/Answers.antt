@@ -1,6 +1,5 @@
 -- `incoming::with` meets its contract.
 use Rattle.incoming.specs.Slots.{stored}
-use borrow.Author.Rules.{rules}
 use Rattle.incoming.proofs.with.Goals as goal
 
 pub returns : goal.returns

@@ -1,5 +1,4 @@
 -- `outgoing::acknowledge` meets its contract.
-use Rattle.std.proofs.Common.{rules}
 use Rattle.outgoing.specs.Sending.{acknowledged_to}
 use Rattle.outgoing.proofs.acknowledge.Goals as goal
 

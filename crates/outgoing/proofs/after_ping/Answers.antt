@@ -1,6 +1,5 @@
 -- `outgoing::after_ping` meets its contract.
 use Rattle.outgoing.specs.Sending.{after_ping}
-use Rattle.std.proofs.Common.{rules}
 use Rattle.outgoing.proofs.after_ping.Goals as goal
 
 pub returns : goal.returns

@@ -1,5 +1,4 @@
 -- `outgoing::after_send` meets its contract.
-use Rattle.std.proofs.Common.{rules}
 use Rattle.outgoing.specs.Sending.{after_send}
 use Rattle.outgoing.proofs.after_send.Goals as goal
 

@@ -1,5 +1,4 @@
 -- `outgoing::counted` meets its contract.
-use Rattle.std.proofs.Common.{rules}
 use Rattle.words.proofs.Tests.{tests}
 use Rattle.outgoing.specs.Sending.{in_field}
 use Rattle.outgoing.proofs.counted.Goals as goal

@@ -1,5 +1,4 @@
 -- `outgoing::flags` meets its contract.
-use Rattle.std.proofs.Common.{rules}
 use Rattle.words.proofs.Tests.{tests}
 use Rattle.outgoing.specs.Message.{flags_of}
 use Rattle.outgoing.proofs.flags.Goals as goal

@@ -1,5 +1,5 @@
 -- `outgoing::fragment` meets its contract.
-use Rattle.std.proofs.Common.{◌≡◌, ◌+◌, ◌-◌, ◌*◌, arith, rules}
+use Rattle.std.proofs.Common.{◌≡◌, ◌+◌, ◌-◌, ◌*◌, arith}
 use Rattle.words.specs.Sizes.{body_size}
 use Rattle.outgoing.specs.Message.{fragment_of}
 use Rattle.outgoing.proofs.OutgoingLaws.{fragment_none, fragment_rest}

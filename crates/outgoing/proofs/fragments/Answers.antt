@@ -1,5 +1,5 @@
 -- `outgoing::fragments` meets its contract.
-use Rattle.std.proofs.Common.{arith, rules}
+use Rattle.std.proofs.Common.{arith}
 use Rattle.outgoing.proofs.OutgoingLaws.{fragments_sum}
 use Rattle.outgoing.proofs.fragments.Goals as goal
 

@@ -1,5 +1,5 @@
 -- `outgoing::has_message` meets its contract.
-use Rattle.std.proofs.Common.{ℕ, eqb, leb, ap, ◌∙◌, rules}
+use Rattle.std.proofs.Common.{ℕ, eqb, leb, ap, ◌∙◌}
 use Rattle.words.specs.Choice.{both}
 use Rattle.words.specs.Sizes.{message_size}
 use Rattle.outgoing.specs.Sending.{has_message}

@@ -1,5 +1,4 @@
 -- `outgoing::is_bounded` meets its contract.
-use Rattle.std.proofs.Common.{rules}
 use Rattle.outgoing.specs.Sending.{bounded}
 use Rattle.outgoing.proofs.is_bounded.Goals as goal
 

@@ -1,6 +1,5 @@
 -- `outgoing::is_same_message` meets its contract.
 use Rattle.outgoing.specs.Lent.{same_message}
-use Rattle.std.proofs.Common.{rules}
 use Rattle.outgoing.proofs.is_same_message.Goals as goal
 
 pub returns : goal.returns

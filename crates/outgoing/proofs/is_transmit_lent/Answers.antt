@@ -1,6 +1,5 @@
 -- `outgoing::is_transmit_lent` meets its contract.
 use Rattle.outgoing.specs.Lent.{transmit_lent}
-use Rattle.std.proofs.Common.{rules}
 use Rattle.outgoing.proofs.is_transmit_lent.Goals as goal
 
 pub returns : goal.returns

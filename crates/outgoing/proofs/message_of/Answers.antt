@@ -1,5 +1,4 @@
 -- `outgoing::message_of` meets its contract.
-use Rattle.std.proofs.Common.{rules}
 use Rattle.outgoing.specs.Sending.{message_of}
 use Rattle.outgoing.proofs.message_of.Goals as goal
 

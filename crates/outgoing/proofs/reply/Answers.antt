@@ -1,5 +1,4 @@
 -- `outgoing::reply` meets its contract.
-use Rattle.std.proofs.Common.{rules}
 use Rattle.outgoing.specs.Sending.{replied}
 use Rattle.outgoing.proofs.reply.Goals as goal
 

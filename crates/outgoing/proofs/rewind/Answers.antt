@@ -1,5 +1,4 @@
 -- `outgoing::rewind` meets its contract.
-use Rattle.std.proofs.Common.{rules}
 use Rattle.outgoing.specs.Sending.{rewound}
 use Rattle.outgoing.proofs.rewind.Goals as goal
 

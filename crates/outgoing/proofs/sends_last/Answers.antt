@@ -1,7 +1,6 @@
 -- `outgoing::sends_last` meets its contract.
 use Rattle.words.proofs.Tests.{tests}
 use Rattle.outgoing.specs.Sending.{sends_last}
-use Rattle.std.proofs.Common.{rules}
 use Rattle.outgoing.proofs.sends_last.Goals as goal
 
 pub returns : goal.returns

@@ -1,5 +1,4 @@
 -- `outgoing::sent_more` meets its contract.
-use Rattle.std.proofs.Common.{rules}
 use Rattle.words.proofs.Tests.{tests}
 use Rattle.outgoing.specs.Sending.{sent_more}
 use Rattle.outgoing.proofs.sent_more.Goals as goal

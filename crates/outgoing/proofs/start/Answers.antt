@@ -1,5 +1,4 @@
 -- `outgoing::start` meets its contract.
-use Rattle.std.proofs.Common.{rules}
 use Rattle.outgoing.specs.Sending.{started_message}
 use Rattle.outgoing.proofs.start.Goals as goal
 

@@ -1,6 +1,5 @@
 -- `pdu::fields` meets its contract.
 use mathlib.Core.Path.{◌∙◌, sym}
-use borrow.Author.Rules.{rules}
 use borrow.Author.Tests.{lt-ltb, le-ltb}
 use Rattle.words.proofs.Tests.{choose_true, choose_false}
 use Rattle.pdu.specs.Header.{header_in}

@@ -1,7 +1,6 @@
 -- `pdu::header_of` meets its contract.
 use Rattle.pdu.proofs.HeaderLaws.{same-header}
 use Rattle.pdu.specs.Header.{header_of}
-use borrow.Author.Rules.{rules}
 use Rattle.pdu.proofs.header_of.Goals as goal
 
 pub returns : goal.returns

@@ -1,7 +1,6 @@
 -- `pdu::uuid` meets its contract: the sixteen bytes are a stretch of the datagram.
 use mathlib.Core.Bool.{true, false}
 use mathlib.Core.Path.{◌∙◌}
-use borrow.Author.Rules.{rules}
 use Rattle.pdu.proofs.HeaderLaws.{uuid-stretch}
 use Rattle.pdu.proofs.uuid.Goals as goal
 

@@ -1,5 +1,4 @@
 -- `reader::judge` meets its contract.
-use borrow.Author.Rules.{rules}
 use Rattle.words.proofs.Tests.{tests}
 use Rattle.answers.specs.Table.{first_of}
 use Rattle.reader.specs.Reading.{reader_refusals}

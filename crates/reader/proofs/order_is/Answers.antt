@@ -1,5 +1,4 @@
 -- `reader::order_is` meets its contract.
-use borrow.Author.Rules.{rules}
 use Rattle.reader.specs.Reading.{order_is}
 use Rattle.reader.proofs.order_is.Goals as goal
 

@@ -1,5 +1,4 @@
 -- `reader::read` meets its contract. A datagram that passed has a whole header.
-use borrow.Author.Rules.{rules}
 use Rattle.reader.proofs.Returns.{read_accepted, read-refused}
 use Rattle.reader.proofs.read.Goals as goal
 

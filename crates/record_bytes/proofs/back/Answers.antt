@@ -1,7 +1,6 @@
 -- `record_bytes::back` meets its contract.
 use Rattle.words.specs.Choice.{choose}
 use Rattle.words.specs.Place.{put_at, placed}
-use borrow.Author.Rules.{rules}
 use Rattle.record_bytes.proofs.back.Goals as goal
 
 pub returns : goal.returns

@@ -1,5 +1,4 @@
 -- `record_bytes::front` meets its contract.
-use borrow.Author.Rules.{rules}
 use Rattle.record_bytes.proofs.front.Goals as goal
 
 pub returns : goal.returns

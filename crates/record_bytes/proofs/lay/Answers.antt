@@ -1,6 +1,5 @@
 -- `record_bytes::lay` meets its contract.
 use native.Mathlib.Omega.{arith}
-use borrow.Author.Rules.{rules}
 use Rattle.record_bytes.proofs.Laying.{laid_none, laid}
 use Rattle.record_bytes.proofs.lay.Goals as goal
 

@@ -1,5 +1,4 @@
 -- `record_bytes::lay_front` meets its contract.
-use borrow.Author.Rules.{rules}
 use Rattle.record_bytes.proofs.lay_front.Goals as goal
 
 pub returns : goal.returns

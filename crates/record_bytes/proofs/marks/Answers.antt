@@ -1,5 +1,4 @@
 -- `record_bytes::marks` meets its contract.
-use borrow.Author.Rules.{rules}
 use Rattle.record_bytes.proofs.marks.Goals as goal
 
 pub returns : goal.returns

@@ -1,5 +1,4 @@
 -- `record_bytes::numbers` meets its contract.
-use borrow.Author.Rules.{rules}
 use Rattle.record_bytes.proofs.numbers.Goals as goal
 
 pub returns : goal.returns

@@ -1,5 +1,4 @@
 -- `record_bytes::slot_bytes` meets its contract.
-use borrow.Author.Rules.{rules}
 use Rattle.record_bytes.proofs.slot_bytes.Goals as goal
 
 pub returns : goal.returns

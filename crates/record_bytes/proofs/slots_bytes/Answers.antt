@@ -1,13 +1,11 @@
 -- `record_bytes::slots_bytes` meets its contract. Before each turn the bytes of the slots below f stand at the front.
-use Prim.Native.Nat.{◌≤◌, ◌-◌}
 use mathlib.Core.List.{List}
 use mathlib.Core.Path.{◌≡◌, refl, ap, ◌∙◌}
 use native.Mathlib.Omega.{arith}
 use borrow.Author.Rules.{rules}
-use lib.ListN.{length, take, replicate}
+use lib.ListN.{take, replicate}
 use lib.Seq.{take_all}
 use Rattle.words.specs.Place.{placed}
-use Rattle.words.specs.Sizes.{window_size}
 use Rattle.incoming.specs.declared.Slot.{Slot}
 use Rattle.record_bytes.specs.Held.{slots_bytes}
 use Rattle.record_bytes.proofs.HeldLaws.{length-slots, bytes_more, placed-nothing, placed_all}

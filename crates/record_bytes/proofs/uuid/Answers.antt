@@ -1,4 +1,3 @@
-use borrow.Author.Rules.{rules}
 use Rattle.record_bytes.specs.Parts.{uuid_in}
 use Rattle.record_bytes.proofs.uuid.Goals as goal
 

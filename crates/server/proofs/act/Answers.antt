@@ -1,6 +1,5 @@
 -- `server::act` meets its contract.
 use Rattle.server.proofs.Returns.{refused-step, taken_step}
-use borrow.Author.Rules.{rules}
 use Rattle.server.proofs.act.Goals as goal
 
 pub returns-in-Go : goal.returns-in-Go

@@ -1,6 +1,5 @@
 -- `server::arrive` meets its contract.
 use Rattle.server.proofs.judge.EntryLaws.{entry-refused, entry_passed}
-use borrow.Author.Rules.{rules}
 use Rattle.server.proofs.arrive.Goals as goal
 
 pub returns-in-Refused : goal.returns-in-Refused

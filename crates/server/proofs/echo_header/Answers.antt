@@ -1,6 +1,5 @@
 -- `server::echo_header` meets its contract.
 use Rattle.server.specs.Sending.{echo_header}
-use borrow.Author.Rules.{rules}
 use Rattle.server.proofs.echo_header.Goals as goal
 
 pub returns : goal.returns

@@ -2,7 +2,6 @@
 use mathlib.Core.Path.{refl}
 use Rattle.server.specs.Machine.{faulting}
 use Rattle.server.proofs.Returns.{judged_step}
-use borrow.Author.Rules.{rules}
 use Rattle.server.proofs.fault.Goals as goal
 
 pub returns : goal.returns

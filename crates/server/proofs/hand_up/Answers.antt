@@ -1,6 +1,5 @@
 -- `server::hand_up` meets its contract.
 use Rattle.server.specs.Machine.{handed_up_of}
-use borrow.Author.Rules.{rules}
 use Rattle.server.proofs.hand_up.Goals as goal
 
 pub returns : goal.returns

@@ -6,7 +6,6 @@ use mathlib.Core.Path.{◌≡◌, refl, sym, ap, ◌∙◌}
 use Rattle.words.specs.Choice.{choose, both, either}
 use Rattle.words.specs.Same.{same}
 use Rattle.answers.specs.declared.Refusal.TheVariants.{WrongLength, BrokenRecord, OtherActivity, WrongSide, MaybeOrBroadcast, WrongFragment, OldCall, MalformedBody, NoRow, Repeated, Contradiction}
-use Rattle.answers.specs.declared.Answer.{Answer}
 use Rattle.answers.specs.Table.{Line, ◌when◌, first_of, answer_of, behind_answer}
 use Rattle.answers.proofs.TableLaws.{joined, by_answer}
 use Rattle.bodies.specs.Fack.{fack_malformed}
@@ -21,7 +20,6 @@ use Rattle.pdu.specs.declared.Header.{Header}
 use Rattle.pdu.specs.Header.{body_of}
 use Rattle.reader.specs.Reading.{read_refusals, reading}
 use Rattle.reader.proofs.Readable.{read_answers}
-use Rattle.server.specs.declared.records.Idle.{Idle}
 use Rattle.server.specs.declared.records.Idle.TheVariants.{Fresh, Spent, Repeatable}
 use Rattle.server.specs.declared.records.Reply.{Reply}
 use Rattle.server.specs.declared.records.State.{State}

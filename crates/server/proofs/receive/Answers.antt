@@ -1,6 +1,5 @@
 -- `server::receive` meets its contract.
 use Rattle.server.proofs.Returns.{refused-arrival, taken_arrival}
-use borrow.Author.Rules.{rules}
 use Rattle.server.proofs.receive.Goals as goal
 
 pub returns-in-Refuse : goal.returns-in-Refuse

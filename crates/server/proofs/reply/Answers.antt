@@ -1,6 +1,5 @@
 -- `server::reply` meets its contract.
 use Rattle.server.specs.Machine.{reply_by, replying}
-use borrow.Author.Rules.{rules}
 use Rattle.server.proofs.reply.Goals as goal
 
 pub returns-in-Refuse : goal.returns-in-Refuse

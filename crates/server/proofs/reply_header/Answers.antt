@@ -1,7 +1,6 @@
 -- `server::reply_header` meets its contract.
 use Rattle.words.proofs.Tests.{tests}
 use Rattle.server.specs.Sending.{reply_header}
-use borrow.Author.Rules.{rules}
 use Rattle.server.proofs.reply_header.Goals as goal
 
 pub returns : goal.returns

@@ -1,6 +1,5 @@
 -- `server::send` meets its contract.
 use Rattle.server.proofs.Returns.{sent_on}
-use borrow.Author.Rules.{rules}
 use Rattle.server.proofs.send.Goals as goal
 
 pub returns : goal.returns

@@ -1,7 +1,6 @@
 -- `server::send_cancel_ack` meets its contract.
 use Rattle.server.specs.Sending.{cancel_ack_sent}
 use Rattle.calls.proofs.PostLaws.{posted_as}
-use borrow.Author.Rules.{rules}
 use Rattle.server.proofs.send_cancel_ack.Goals as goal
 
 pub returns : goal.returns

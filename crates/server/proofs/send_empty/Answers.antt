@@ -2,7 +2,6 @@
 use mathlib.Core.Path.{refl}
 use Rattle.server.specs.Sending.{empty_sent}
 use Rattle.calls.proofs.PostLaws.{posted_as}
-use borrow.Author.Rules.{rules}
 use Rattle.server.proofs.send_empty.Goals as goal
 
 pub returns : goal.returns

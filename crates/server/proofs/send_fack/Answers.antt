@@ -4,7 +4,6 @@ use mathlib.Core.Path.{ap, ◌∙◌}
 use Rattle.bodies.specs.Fack.{fack_bytes, fack_fields}
 use Rattle.server.specs.Sending.{echo_header, fack_sent}
 use Rattle.calls.proofs.PostLaws.{posted_as}
-use borrow.Author.Rules.{rules}
 use Rattle.server.proofs.send_fack.Goals as goal
 
 pub returns : goal.returns

@@ -1,7 +1,6 @@
 -- `server::send_fault` meets its contract.
 use Rattle.server.specs.Sending.{fault_sent}
 use Rattle.calls.proofs.PostLaws.{posted_as}
-use borrow.Author.Rules.{rules}
 use Rattle.server.proofs.send_fault.Goals as goal
 
 pub returns : goal.returns

@@ -2,7 +2,6 @@
 use mathlib.Core.Path.{refl}
 use Rattle.server.specs.Sending.{sent_out}
 use Rattle.server.proofs.Returns.{sent_as}
-use borrow.Author.Rules.{rules}
 use Rattle.server.proofs.send_out.Goals as goal
 
 pub returns-in-Nothing : goal.returns-in-Nothing

@@ -3,7 +3,6 @@ use Prim.Native.Nat.{ℕ}
 use mathlib.Core.Path.{refl, ap, ◌∙◌}
 use Rattle.server.specs.Sending.{reply_header, response_sent}
 use Rattle.calls.proofs.PostLaws.{posted_as}
-use borrow.Author.Rules.{rules}
 use Rattle.server.proofs.send_response.Goals as goal
 
 pub returns : goal.returns

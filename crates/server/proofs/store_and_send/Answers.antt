@@ -1,6 +1,5 @@
 -- `server::store_and_send` meets its contract.
 use Rattle.server.proofs.Returns.{acted_on}
-use borrow.Author.Rules.{rules}
 use Rattle.server.proofs.store_and_send.Goals as goal
 
 pub returns : goal.returns

@@ -1,7 +1,6 @@
 -- `server::transmit` meets its contract.
 use Rattle.server.specs.Machine.{transmitting}
 use Rattle.server.proofs.Returns.{judged_step}
-use borrow.Author.Rules.{rules}
 use Rattle.server.proofs.transmit.Goals as goal
 
 pub returns : goal.returns

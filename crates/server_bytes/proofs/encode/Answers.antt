@@ -1,5 +1,4 @@
 -- `server_bytes::encode` meets its contract.
-use borrow.Author.Rules.{rules}
 use Rattle.server_bytes.specs.Layout.{bytes_of_server}
 use Rattle.server_bytes.proofs.encode.Goals as goal
 

@@ -1,5 +1,4 @@
 -- `server_bytes::fields_of` meets its contract.
-use borrow.Author.Rules.{rules}
 use Rattle.server_bytes.specs.Layout.{fields_of}
 use Rattle.server_bytes.proofs.fields_of.Goals as goal
 

@@ -1,5 +1,4 @@
 -- `server_bytes::server_of` meets its contract.
-use borrow.Author.Rules.{rules}
 use Rattle.server_bytes.specs.Layout.{server_of}
 use Rattle.server_bytes.proofs.server_of.Goals as goal
 

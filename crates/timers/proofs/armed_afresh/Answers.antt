@@ -1,6 +1,5 @@
 -- `timers::armed_afresh` meets its contract.
 use mathlib.Core.Path.{ap}
-use borrow.Author.Rules.{rules}
 use Rattle.timers.specs.declared.Timer.TheVariants.{Armed}
 use Rattle.timers.specs.Tickets.{armed_afresh}
 use Rattle.timers.proofs.armed_afresh.Goals as goal

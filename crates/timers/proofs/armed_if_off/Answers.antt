@@ -1,6 +1,5 @@
 -- `timers::armed_if_off` meets its contract.
 use Rattle.timers.specs.Tickets.{armed_if_off}
-use borrow.Author.Rules.{rules}
 use Rattle.timers.proofs.armed_if_off.Goals as goal
 
 pub returns-in-Off : goal.returns-in-Off

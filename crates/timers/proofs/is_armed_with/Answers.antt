@@ -1,5 +1,4 @@
 -- `timers::is_armed_with` meets its contract.
-use borrow.Author.Rules.{rules}
 use Rattle.timers.specs.Tickets.{armed_with}
 use Rattle.timers.proofs.is_armed_with.Goals as goal
 

@@ -1,5 +1,4 @@
 -- `timers::is_off` meets its contract.
-use borrow.Author.Rules.{rules}
 use Rattle.timers.specs.Tickets.{off}
 use Rattle.timers.proofs.is_off.Goals as goal
 

@@ -1,5 +1,4 @@
 -- `timers::is_sound` meets its contract.
-use borrow.Author.Rules.{rules}
 use Rattle.timers.specs.Tickets.{sound}
 use Rattle.timers.proofs.is_sound.Goals as goal
 

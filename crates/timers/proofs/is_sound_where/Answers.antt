@@ -1,6 +1,5 @@
 -- `timers::is_sound_where` meets its contract.
 use Rattle.timers.specs.Tickets.{timer_sound}
-use borrow.Author.Rules.{rules}
 use Rattle.timers.proofs.is_sound_where.Goals as goal
 
 pub returns : goal.returns

@@ -1,5 +1,4 @@
 -- `timers::next_ticket` meets its contract.
-use borrow.Author.Rules.{rules}
 use Rattle.words.proofs.Tests.{tests}
 use Rattle.timers.specs.Tickets.{used_up, next_ticket}
 use Rattle.timers.proofs.next_ticket.Goals as goal

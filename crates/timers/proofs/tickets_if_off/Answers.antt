@@ -1,6 +1,5 @@
 -- `timers::tickets_if_off` meets its contract.
 use Rattle.timers.specs.Tickets.{tickets_if_off}
-use borrow.Author.Rules.{rules}
 use Rattle.timers.proofs.tickets_if_off.Goals as goal
 
 pub returns-in-Off : goal.returns-in-Off

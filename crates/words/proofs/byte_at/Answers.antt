@@ -1,7 +1,6 @@
 -- `words::byte_at` meets its contract.
 use lib.ListN.{get_or-eq_default}
 use mathlib.Core.Path.{sym}
-use borrow.Author.Rules.{rules}
 use Rattle.words.proofs.byte_at.Goals as goal
 
 pub returns : goal.returns

@@ -1,5 +1,4 @@
 -- `words::join32` meets its contract.
-use borrow.Author.Rules.{rules}
 use native.Mathlib.Omega.{arith}
 use Rattle.words.proofs.join32.Goals as goal
 

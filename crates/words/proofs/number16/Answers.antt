@@ -2,7 +2,6 @@
 use Rattle.words.proofs.Number.{number_past, number_is}
 use mathlib.Core.Bool.{true, false}
 use mathlib.Core.Path.{sym}
-use borrow.Author.Rules.{rules}
 use Rattle.words.proofs.number16.Goals as goal
 
 pub returns-then-s-at : goal.returns-then-s-at

@@ -1,10 +1,10 @@
 -- `words::put` meets its contract. After i turns the first i bytes of src stand in their place.
-use Prim.Native.Nat.{◌≤◌, ◌-◌, zero-le}
+use Prim.Native.Nat.{zero-le}
 use mathlib.Core.Path.{◌≡◌, refl}
 use native.Mathlib.Omega.{arith}
 use native.Mathlib.Numerals.{add-one}
 use lib.ListN.{length, length-set}
-use lib.Seq.{paste, paste-zero, paste-suc}
+use lib.Seq.{paste-zero, paste-suc}
 use Rattle.words.proofs.Place.{placed_none, pasted}
 use Rattle.words.proofs.put.Goals as goal
 

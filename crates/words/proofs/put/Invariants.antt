@@ -1,11 +1,8 @@
 -- `words::put` meets its contract. After i turns the first i bytes of src stand in their place.
-use Prim.Native.Nat.{◌≤◌, ◌-◌, zero-le}
-use mathlib.Core.Path.{◌≡◌, refl}
-use native.Mathlib.Omega.{arith}
-use native.Mathlib.Numerals.{add-one}
-use lib.ListN.{length, length-set}
-use lib.Seq.{paste, paste-zero, paste-suc}
-use Rattle.words.proofs.Place.{placed_none, pasted}
+use Prim.Native.Nat.{◌≤◌, ◌-◌}
+use mathlib.Core.Path.{◌≡◌}
+use lib.ListN.{length}
+use lib.Seq.{paste}
 use Rattle.words.proofs.put.Given as goal
 
 abbrev pub invariant-loop-i : goal.invariant-loop-i

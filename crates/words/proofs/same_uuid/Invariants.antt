@@ -1,11 +1,8 @@
 -- `words::same_uuid` meets its contract. Before each turn all bytes below i are equal.
 use Prim.Native.Nat.{◌≤◌, ◌-◌}
-use mathlib.Core.Path.{◌≡◌, refl, sym, ◌∙◌}
-use native.Mathlib.Omega.{arith}
-use borrow.Author.Rules.{rules}
-use lib.ListN.{length, drop, drop_of_length-le}
+use mathlib.Core.Path.{◌≡◌}
+use lib.ListN.{length, drop}
 use Rattle.words.specs.Same.{same}
-use Rattle.words.proofs.SameLaws.{same_on, same_ends}
 use Rattle.words.proofs.same_uuid.Given as goal
 
 abbrev pub invariant-loop-i : goal.invariant-loop-i

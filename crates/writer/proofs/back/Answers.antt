@@ -1,5 +1,4 @@
 -- `writer::back` meets its contract.
-use borrow.Author.Rules.{rules}
 use Rattle.writer.proofs.back.Goals as goal
 
 pub returns : goal.returns

@@ -1,5 +1,4 @@
 -- `writer::hints` meets its contract.
-use borrow.Author.Rules.{rules}
 use Rattle.writer.proofs.hints.Goals as goal
 
 pub returns : goal.returns

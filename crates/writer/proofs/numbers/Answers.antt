@@ -1,5 +1,4 @@
 -- `writer::numbers` meets its contract.
-use borrow.Author.Rules.{rules}
 use Rattle.writer.proofs.numbers.Goals as goal
 
 pub returns : goal.returns

@@ -1,6 +1,5 @@
 -- `writer::put_behind` meets its contract: the three runs lie one behind the other, so they are one run.
 use native.Mathlib.Omega.{arith}
-use borrow.Author.Rules.{rules}
 use Rattle.words.proofs.Place.{put_three}
 use Rattle.writer.proofs.put_behind.Goals as goal
 

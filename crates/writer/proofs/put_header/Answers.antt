@@ -1,6 +1,6 @@
 -- `writer::put_header` meets its contract: the pieces lie one behind the other.
 use borrow.Author.Rules.{rules}
-use Rattle.writer.proofs.Returns.{Sized, header-put}
+use Rattle.writer.proofs.Returns.{header-put}
 use Rattle.writer.proofs.put_header.Goals as goal
 
 pub returns : goal.returns

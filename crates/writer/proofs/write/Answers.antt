@@ -2,7 +2,7 @@
 use mathlib.Core.Path.{refl}
 use native.Mathlib.Omega.{arith}
 use borrow.Author.Rules.{rules}
-use Rattle.writer.proofs.Returns.{Sized, writable_here, write_accepted, write-refused}
+use Rattle.writer.proofs.Returns.{writable_here, write_accepted, write-refused}
 use Rattle.writer.proofs.write.Goals as goal
 
 pub overflow_cast-body : goal.overflow_cast-body

@@ -3,7 +3,7 @@ use native.Mathlib.Omega.{arith}
 use borrow.Author.Rules.{rules}
 use Rattle.words.proofs.Place.{placed_none}
 use Rattle.pdu.specs.Header.{header_bytes}
-use Rattle.writer.proofs.Returns.{Sized, length-header}
+use Rattle.writer.proofs.Returns.{length-header}
 use Rattle.writer.proofs.write_header.Goals as goal
 
 pub returns-then-out-lt-HEADER_SIZE : goal.returns-then-out-lt-HEADER_SIZE

@@ -1,5 +1,4 @@
 -- `client::judge::arms` meets its contract.
-use Rattle.std.proofs.Common.{rules}
 use Rattle.client.specs.judge.Rows.{arms}
 use Rattle.client.proofs.judge.arms.Goals as goal
 

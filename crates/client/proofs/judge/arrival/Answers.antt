@@ -1,5 +1,5 @@
 -- `client::judge::arrival` meets its contract.
-use Rattle.std.proofs.Common.{◌≡◌, ℕ, not, List, sym, ap, ◌∙◌, rules}
+use Rattle.std.proofs.Common.{◌≡◌, ℕ, not, List, sym, ap, ◌∙◌}
 use Rattle.words.specs.Choice.{choose}
 use Rattle.words.proofs.Tests.{tests}
 use Rattle.answers.specs.declared.Refusal.TheVariants.{WrongLength, BrokenRecord}

@@ -1,5 +1,5 @@
 -- `client::judge::failure` meets its contract.
-use Rattle.std.proofs.Common.{◌≡◌, ℕ, Bool, not, eqb, ◌⊎◌, List, inl, inr, rules}
+use Rattle.std.proofs.Common.{◌≡◌, ℕ, Bool, not, eqb, ◌⊎◌, List, inl, inr}
 use Rattle.words.specs.Choice.{choose, both, either}
 use Rattle.words.proofs.Tests.{tests}
 use Rattle.answers.specs.Table.{first_of}

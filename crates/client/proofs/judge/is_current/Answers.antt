@@ -1,5 +1,4 @@
 -- `client::judge::is_current` meets its contract.
-use Rattle.std.proofs.Common.{rules}
 use Rattle.client.specs.judge.Rows.{is_current}
 use Rattle.client.proofs.judge.is_current.Goals as goal
 

@@ -1,5 +1,4 @@
 -- `client::judge::is_old` meets its contract.
-use Rattle.std.proofs.Common.{rules}
 use Rattle.client.specs.judge.Refusals.{is_old}
 use Rattle.client.proofs.judge.is_old.Goals as goal
 

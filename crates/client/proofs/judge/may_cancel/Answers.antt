@@ -1,5 +1,4 @@
 -- `client::judge::may_cancel` meets its contract.
-use Rattle.std.proofs.Common.{rules}
 use Rattle.client.specs.judge.Refusals.{may_cancel}
 use Rattle.client.proofs.judge.may_cancel.Goals as goal
 

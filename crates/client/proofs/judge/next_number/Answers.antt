@@ -1,5 +1,4 @@
 -- `client::judge::next_number` meets its contract.
-use Rattle.std.proofs.Common.{rules}
 use Rattle.words.proofs.Tests.{tests}
 use Rattle.client.specs.judge.Rows.{next_number}
 use Rattle.client.proofs.judge.next_number.Goals as goal

@@ -1,5 +1,5 @@
 -- `client::judge::nocall` meets its contract.
-use Rattle.std.proofs.Common.{◌≡◌, ℕ, Bool, false, not, ltb, List, rules}
+use Rattle.std.proofs.Common.{◌≡◌, ℕ, Bool, false, not, ltb, List}
 use Rattle.words.specs.Choice.{choose, both, either}
 use Rattle.words.specs.Sizes.{retry_limit}
 use Rattle.words.proofs.Tests.{tests}

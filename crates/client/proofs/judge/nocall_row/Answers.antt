@@ -1,5 +1,4 @@
 -- `client::judge::nocall_row` meets its contract.
-use Rattle.std.proofs.Common.{rules}
 use Rattle.words.proofs.Tests.{tests}
 use Rattle.client.specs.judge.Rows.{nocall_row}
 use Rattle.client.proofs.judge.nocall_row.Goals as goal

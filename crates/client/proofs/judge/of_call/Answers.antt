@@ -1,5 +1,5 @@
 -- `client::judge::of_call` meets its contract.
-use Rattle.std.proofs.Common.{◌≡◌, ℕ, ◌≤◌, Bool, true, false, eqb, ◌⊎◌, refl, inl, inr, arith, rules, eqb-true}
+use Rattle.std.proofs.Common.{◌≡◌, ℕ, ◌≤◌, Bool, true, false, eqb, ◌⊎◌, refl, inl, inr, arith, eqb-true}
 use borrow.Author.Tests.{eqb-false}
 use Rattle.client.proofs.judge.of_call.Goals as goal
 

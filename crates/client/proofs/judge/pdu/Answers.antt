@@ -1,5 +1,5 @@
 -- `client::judge::pdu` meets its contract: each arm knows the range of its numbers.
-use Rattle.std.proofs.Common.{◌≡◌, ℕ, ◌<◌, Bool, false, ◌⊎◌, List, sym, refl, inl, inr, arith, rules, ne_eqb}
+use Rattle.std.proofs.Common.{◌≡◌, ℕ, ◌<◌, Bool, false, ◌⊎◌, List, sym, refl, inl, inr, arith, ne_eqb}
 use Rattle.words.specs.Choice.{choose, either}
 use Rattle.answers.specs.Table.{first_of}
 use Rattle.answers.specs.declared.Refusal.TheVariants.{WrongSide}

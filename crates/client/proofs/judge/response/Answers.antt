@@ -1,5 +1,5 @@
 -- `client::judge::response` meets its contract.
-use Rattle.std.proofs.Common.{◌≡◌, ℕ, Bool, not, List, rules}
+use Rattle.std.proofs.Common.{◌≡◌, ℕ, Bool, not, List}
 use Rattle.words.specs.Choice.{choose, both, either}
 use Rattle.words.proofs.Tests.{tests}
 use Rattle.answers.specs.Table.{first_of}

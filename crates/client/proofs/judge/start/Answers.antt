@@ -1,5 +1,4 @@
 -- `client::judge::start` meets its contract.
-use Rattle.std.proofs.Common.{rules}
 use Rattle.words.proofs.Tests.{tests}
 use Rattle.answers.specs.Table.{first_of}
 use Rattle.client.specs.judge.Refusals.{start_refusals, start_verdict}

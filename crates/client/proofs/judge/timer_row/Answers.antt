@@ -1,5 +1,4 @@
 -- `client::judge::timer_row` meets its contract.
-use Rattle.std.proofs.Common.{rules}
 use Rattle.client.specs.judge.Rows.{timer_row}
 use Rattle.client.proofs.judge.timer_row.Goals as goal
 

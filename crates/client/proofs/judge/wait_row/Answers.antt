@@ -1,5 +1,4 @@
 -- `client::judge::wait_row` meets its contract.
-use Rattle.std.proofs.Common.{rules}
 use Rattle.words.proofs.Tests.{tests}
 use Rattle.client.specs.judge.Rows.{wait_row}
 use Rattle.client.proofs.judge.wait_row.Goals as goal

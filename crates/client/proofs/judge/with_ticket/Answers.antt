@@ -1,5 +1,5 @@
 -- `client::judge::with_ticket` meets its contract.
-use Rattle.std.proofs.Common.{◌≡◌, Bool, true, false, sym, refl, ap, ◌∙◌, rules}
+use Rattle.std.proofs.Common.{◌≡◌, Bool, true, false, sym, refl, ap, ◌∙◌}
 use Rattle.words.specs.Choice.{choose, both}
 use Rattle.words.proofs.Tests.{choose_true, choose_false, both_hold}
 use Rattle.client.proofs.judge.with_ticket.Goals as goal
@@ -24,6 +24,6 @@ returns-then-arms c =
 pub returns : goal.returns
 returns c =
     sym (choose_false _ _ _ (elim c.else-used_up.branch [
-      else-used_up-via-then-used_up+else-arms w ↦ both_left _ _ (sym w.arms.ensures ∙ w.if-arms.false)
+      | else-used_up-via-then-used_up+else-arms w ↦ both_left _ _ (sym w.arms.ensures ∙ w.if-arms.false)
       | else-used_up-via-else-used_up w ↦ both_right _ _ (sym c.used_up.ensures ∙ w.if-used_up.false)
     ]))

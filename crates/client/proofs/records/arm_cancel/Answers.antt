@@ -1,6 +1,5 @@
 -- `client::records::arm_cancel` meets its contract.
 use Rattle.client.specs.records.Record.{cancel_armed}
-use Rattle.std.proofs.Common.{rules}
 use Rattle.client.proofs.records.arm_cancel.Goals as goal
 
 pub returns : goal.returns

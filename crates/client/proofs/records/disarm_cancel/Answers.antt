@@ -1,6 +1,5 @@
 -- `client::records::disarm_cancel` meets its contract.
 use Rattle.client.specs.records.Record.{cancel_disarmed}
-use Rattle.std.proofs.Common.{rules}
 use Rattle.client.proofs.records.disarm_cancel.Goals as goal
 
 pub returns : goal.returns

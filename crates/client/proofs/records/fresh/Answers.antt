@@ -1,6 +1,5 @@
 -- `client::records::fresh` meets its contract.
 use Rattle.client.specs.records.Record.{fresh}
-use Rattle.std.proofs.Common.{rules}
 use Rattle.client.proofs.records.fresh.Goals as goal
 
 pub returns : goal.returns

@@ -1,7 +1,6 @@
 -- `client::records::is_ack_pending` meets its contract.
 use Rattle.words.proofs.Tests.{tests}
 use Rattle.client.specs.records.States.{is_ack_pending}
-use Rattle.std.proofs.Common.{rules}
 use Rattle.client.proofs.records.is_ack_pending.Goals as goal
 
 pub returns-in-Queued : goal.returns-in-Queued

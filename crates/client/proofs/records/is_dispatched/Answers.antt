@@ -1,7 +1,6 @@
 -- `client::records::is_dispatched` meets its contract.
 use Rattle.words.proofs.Tests.{tests}
 use Rattle.client.specs.records.States.{is_dispatched}
-use Rattle.std.proofs.Common.{rules}
 use Rattle.client.proofs.records.is_dispatched.Goals as goal
 
 pub returns-in-Queued : goal.returns-in-Queued

@@ -1,5 +1,4 @@
 -- `client::records::is_named` meets its contract.
-use Rattle.std.proofs.Common.{rules}
 use Rattle.client.specs.records.Named.{named_by}
 use Rattle.client.proofs.records.is_named.Goals as goal
 

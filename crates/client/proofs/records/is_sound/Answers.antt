@@ -1,5 +1,4 @@
 -- `client::records::is_sound` meets its contract.
-use Rattle.std.proofs.Common.{rules}
 use borrow.Author.Tests.{not-true, not-false}
 use Rattle.words.specs.Choice.{both}
 use Rattle.words.proofs.Tests.{tests}

@@ -1,7 +1,6 @@
 -- `client::records::may_start` meets its contract.
 use Rattle.words.proofs.Tests.{tests}
 use Rattle.client.specs.records.States.{may_start}
-use Rattle.std.proofs.Common.{rules}
 use Rattle.client.proofs.records.may_start.Goals as goal
 
 pub returns-in-Queued : goal.returns-in-Queued

@@ -1,7 +1,6 @@
 -- `client::records::message_rule` meets its contract.
 use Rattle.words.proofs.Tests.{tests}
 use Rattle.client.specs.records.Rules.{message_rule}
-use Rattle.std.proofs.Common.{rules}
 use Rattle.client.proofs.records.message_rule.Goals as goal
 
 pub returns-in-Queued : goal.returns-in-Queued

@@ -1,6 +1,5 @@
 -- `client::records::outgoing_is_sound` meets its contract.
 use Rattle.client.specs.records.Rules.{outgoing_sound}
-use Rattle.std.proofs.Common.{rules}
 use Rattle.client.proofs.records.outgoing_is_sound.Goals as goal
 
 pub returns : goal.returns

@@ -1,7 +1,6 @@
 -- `client::records::timer_of` meets its contract.
 use Rattle.client.specs.records.Named.{named_timer}
 use Rattle.words.proofs.Tests.{tests}
-use Rattle.std.proofs.Common.{rules}
 use Rattle.client.proofs.records.timer_of.Goals as goal
 
 pub returns-in-Wait : goal.returns-in-Wait

@@ -1,6 +1,5 @@
 -- `client::records::to_ack_pending` meets its contract.
 use Rattle.client.specs.records.Record.{ack_pending}
-use Rattle.std.proofs.Common.{rules}
 use Rattle.client.proofs.records.to_ack_pending.Goals as goal
 
 pub returns : goal.returns

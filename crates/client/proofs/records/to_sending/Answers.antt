@@ -1,6 +1,5 @@
 -- `client::records::to_sending` meets its contract.
 use Rattle.client.specs.records.Record.{sending_again}
-use Rattle.std.proofs.Common.{rules}
 use Rattle.client.proofs.records.to_sending.Goals as goal
 
 pub returns : goal.returns

@@ -1,6 +1,5 @@
 -- `client::records::to_waiting` meets its contract.
 use Rattle.client.specs.records.Record.{waiting}
-use Rattle.std.proofs.Common.{rules}
 use Rattle.client.proofs.records.to_waiting.Goals as goal
 
 pub returns : goal.returns

@@ -1,5 +1,4 @@
 -- `client::records::with_call` meets its contract.
-use Rattle.std.proofs.Common.{rules}
 use Rattle.client.proofs.records.with_call.Goals as goal
 
 pub returns : goal.returns

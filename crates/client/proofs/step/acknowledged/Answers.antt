@@ -1,5 +1,4 @@
 -- `client::step::acknowledged` meets its contract.
-use Rattle.std.proofs.Common.{rules}
 use Rattle.client.specs.step.Steps.{acknowledged}
 use Rattle.client.proofs.step.acknowledged.Goals as goal
 

@@ -1,5 +1,4 @@
 -- `client::step::cancelled` meets its contract.
-use Rattle.std.proofs.Common.{rules}
 use Rattle.client.specs.step.Steps.{cancelled}
 use Rattle.client.proofs.step.cancelled.Goals as goal
 

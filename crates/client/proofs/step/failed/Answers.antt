@@ -1,5 +1,4 @@
 -- `client::step::failed` meets its contract.
-use Rattle.std.proofs.Common.{rules}
 use Rattle.client.specs.step.Plan.{failed}
 use Rattle.client.proofs.step.failed.Goals as goal
 

@@ -1,5 +1,4 @@
 -- `client::step::pinged` meets its contract.
-use Rattle.std.proofs.Common.{rules}
 use Rattle.client.specs.step.Steps.{pinged}
 use Rattle.client.proofs.step.pinged.Goals as goal
 

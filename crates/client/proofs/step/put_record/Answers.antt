@@ -1,5 +1,4 @@
 -- `client::step::put_record` meets its contract.
-use Rattle.std.proofs.Common.{rules}
 use Rattle.words.proofs.Tests.{tests}
 use Rattle.client.specs.step.Steps.{put_record}
 use Rattle.client.proofs.step.put_record.Goals as goal

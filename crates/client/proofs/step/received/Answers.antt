@@ -1,5 +1,4 @@
 -- `client::step::received` meets its contract.
-use Rattle.std.proofs.Common.{rules}
 use Rattle.client.proofs.step.received.Goals as goal
 
 pub returns : goal.returns

@@ -1,5 +1,4 @@
 -- `client::step::resent` meets its contract.
-use Rattle.std.proofs.Common.{rules}
 use Rattle.client.specs.step.Steps.{resent}
 use Rattle.client.proofs.step.resent.Goals as goal
 

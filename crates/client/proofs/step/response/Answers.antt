@@ -1,5 +1,4 @@
 -- `client::step::response` meets its contract.
-use Rattle.std.proofs.Common.{rules}
 use Rattle.client.specs.step.Steps.{response_plan}
 use Rattle.client.proofs.step.response.Goals as goal
 

@@ -1,5 +1,4 @@
 -- `client::step::start` meets its contract.
-use Rattle.std.proofs.Common.{rules}
 use Rattle.client.specs.step.Steps.{started}
 use Rattle.client.proofs.step.start.Goals as goal
 

@@ -1,5 +1,4 @@
 -- `client::step::step` meets its contract.
-use Rattle.std.proofs.Common.{rules}
 use Rattle.client.specs.step.Steps.{step_of}
 use Rattle.client.proofs.step.step.Goals as goal
 

@@ -1,5 +1,4 @@
 -- `client::step::transmitted` meets its contract.
-use Rattle.std.proofs.Common.{rules}
 use Rattle.words.proofs.Tests.{tests}
 use Rattle.client.specs.step.Steps.{transmitted}
 use Rattle.client.proofs.step.transmitted.Goals as goal

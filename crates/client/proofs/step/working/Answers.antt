@@ -1,5 +1,4 @@
 -- `client::step::working` meets its contract.
-use Rattle.std.proofs.Common.{rules}
 use Rattle.client.specs.step.Steps.{working_plan}
 use Rattle.client.proofs.step.working.Goals as goal
 

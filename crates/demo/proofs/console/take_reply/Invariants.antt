@@ -1,5 +1,5 @@
 -- `demo::console::take_reply` is safe and ends: the fragment number rises to 32, and the lent buffer keeps its length.
-use Rattle.std.proofs.Common.{◌≡◌, ◌-◌, ◌≤◌, length, rules}
+use Rattle.std.proofs.Common.{◌≡◌, ◌-◌, ◌≤◌, length}
 use Rattle.words.specs.Sizes.{window_size}
 use Rattle.demo.proofs.console.take_reply.Given as goal
 

@@ -1,5 +1,4 @@
 use Prim.Native.Nat.{◌/◌}
-use borrow.Author.Rules.{rules}
 use Rattle.words.specs.Sizes.{body_size}
 use Rattle.lines.specs.Message.{byte_of}
 use Rattle.lines.proofs.MessageLaws.{byte_reduced}

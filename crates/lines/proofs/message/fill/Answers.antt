@@ -1,10 +1,8 @@
 -- `lines::message::fill` meets its contract: after i turns the first i bytes are the message's, and the others as they were.
-use Prim.Native.Nat.{◌+◌, ◌≤◌, ◌<◌, ◌-◌, zero-le}
-use mathlib.Core.List.{◌++◌}
-use mathlib.Core.Path.{◌≡◌, refl}
+use Prim.Native.Nat.{◌<◌, zero-le}
+use mathlib.Core.Path.{refl}
 use native.Mathlib.Omega.{arith}
-use borrow.Author.Rules.{rules}
-use lib.ListN.{length, drop, length-set}
+use lib.ListN.{length, length-set}
 use Rattle.lines.specs.Message.{message as message_of}
 use Rattle.lines.proofs.MessageLaws.{message-turn, message_end}
 use Rattle.lines.proofs.message.fill.Goals as goal

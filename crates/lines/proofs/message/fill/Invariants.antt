@@ -1,12 +1,9 @@
 -- `lines::message::fill` meets its contract: after i turns the first i bytes are the message's, and the others as they were.
-use Prim.Native.Nat.{◌+◌, ◌≤◌, ◌<◌, ◌-◌, zero-le}
+use Prim.Native.Nat.{◌≤◌, ◌-◌}
 use mathlib.Core.List.{◌++◌}
-use mathlib.Core.Path.{◌≡◌, refl}
-use native.Mathlib.Omega.{arith}
-use borrow.Author.Rules.{rules}
-use lib.ListN.{length, drop, length-set}
+use mathlib.Core.Path.{◌≡◌}
+use lib.ListN.{length, drop}
 use Rattle.lines.specs.Message.{message as message_of}
-use Rattle.lines.proofs.MessageLaws.{message-turn, message_end}
 use Rattle.lines.proofs.message.fill.Given as goal
 
 abbrev pub invariant-loop-i : goal.invariant-loop-i

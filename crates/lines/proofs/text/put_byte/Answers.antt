@@ -1,5 +1,4 @@
 use mathlib.Core.Path.{sym}
-use borrow.Author.Rules.{rules}
 use Rattle.lines.proofs.LineLaws.{byte_put, byte_left}
 use Rattle.lines.proofs.text.put_byte.Goals as goal
 

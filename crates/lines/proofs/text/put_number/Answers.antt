@@ -1,6 +1,5 @@
 -- `lines::text::put_number` meets its contract: the digits that `io::decimal` gives are the number's decimal text.
 use native.Mathlib.Omega.{arith}
-use borrow.Author.Rules.{rules}
 use Rattle.lines.proofs.TextLaws.{decimal_text}
 use Rattle.lines.proofs.text.put_number.Goals as goal
 

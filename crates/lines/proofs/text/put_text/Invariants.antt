@@ -1,11 +1,8 @@
 -- `lines::text::put_text` meets its contract: from the line so far on, the bytes that are left give the whole line.
-use Prim.Native.Nat.{◌≤◌, ◌-◌, zero-le}
-use mathlib.Core.Path.{◌≡◌, refl}
-use native.Mathlib.Omega.{arith}
-use borrow.Author.Rules.{rules}
+use Prim.Native.Nat.{◌≤◌, ◌-◌}
+use mathlib.Core.Path.{◌≡◌}
 use lib.ListN.{length, drop}
 use Rattle.lines.specs.Line.{line, written}
-use Rattle.lines.proofs.LineLaws.{copy_turn, copy_end}
 use Rattle.lines.proofs.text.put_text.Given as goal
 
 abbrev pub invariant-loop-i : goal.invariant-loop-i

@@ -1,5 +1,4 @@
 -- `morphelai::client_door::call_of` meets its contract.
-use borrow.Author.Rules.{rules}
 use Rattle.morphelai.specs.ClientDoor.{call_of}
 use Rattle.morphelai.proofs.client_door.call_of.Goals as goal
 

@@ -1,5 +1,4 @@
 -- `morphelai::client_door::given` meets its contract.
-use borrow.Author.Rules.{rules}
 use Rattle.morphelai.specs.ClientDoor.{client_result}
 use Rattle.morphelai.proofs.client_door.given.Goals as goal
 

@@ -1,5 +1,4 @@
 -- `morphelai::client_door::is_sized` meets its contract.
-use borrow.Author.Rules.{rules}
 use Rattle.morphelai.specs.ClientDoor.{start_sized}
 use Rattle.morphelai.specs.Export.{sized}
 use Rattle.morphelai.proofs.client_door.is_sized.Goals as goal

@@ -1,5 +1,4 @@
 -- `morphelai::client_door::keep` meets its contract.
-use borrow.Author.Rules.{rules}
 use Rattle.morphelai.specs.ClientDoor.{client_kept}
 use Rattle.morphelai.proofs.Returns.{kept_new, kept_old}
 use Rattle.morphelai.proofs.client_door.keep.Goals as goal

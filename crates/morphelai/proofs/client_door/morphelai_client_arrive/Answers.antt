@@ -1,5 +1,4 @@
 -- `morphelai::client_door::morphelai_client_arrive` meets its contract.
-use borrow.Author.Rules.{rules}
 use Rattle.morphelai.specs.ClientDoor.{client_arrive}
 use Rattle.morphelai.proofs.Returns.{refused-length}
 use Rattle.morphelai.proofs.ClientReturns.{arrive_left}

@@ -1,5 +1,4 @@
 -- `morphelai::client_door::morphelai_client_fresh` meets its contract.
-use borrow.Author.Rules.{rules}
 use Rattle.morphelai.proofs.ClientReturns.{fresh_left, fresh-refused}
 use Rattle.morphelai.proofs.client_door.morphelai_client_fresh.Goals as goal
 

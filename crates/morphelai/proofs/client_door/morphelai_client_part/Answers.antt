@@ -1,5 +1,4 @@
 -- `morphelai::client_door::morphelai_client_part` meets its contract.
-use borrow.Author.Rules.{rules}
 use Rattle.morphelai.proofs.ClientReturns.{part_none, part_length}
 use Rattle.morphelai.proofs.client_door.morphelai_client_part.Goals as goal
 

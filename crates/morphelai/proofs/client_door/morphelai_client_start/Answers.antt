@@ -1,5 +1,4 @@
 -- `morphelai::client_door::morphelai_client_start` meets its contract.
-use borrow.Author.Rules.{rules}
 use Rattle.morphelai.proofs.ClientReturns.{start_left, start-refused}
 use Rattle.morphelai.proofs.client_door.morphelai_client_start.Goals as goal
 

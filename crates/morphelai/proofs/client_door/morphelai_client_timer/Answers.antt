@@ -1,5 +1,4 @@
 -- `morphelai::client_door::morphelai_client_timer` meets its contract.
-use borrow.Author.Rules.{rules}
 use Rattle.morphelai.specs.ClientDoor.{client_timer}
 use Rattle.morphelai.proofs.Returns.{refused-length}
 use Rattle.morphelai.proofs.ClientReturns.{wait_left, ack_left, cancel_timer_left, other_left}

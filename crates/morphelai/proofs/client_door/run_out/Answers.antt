@@ -1,5 +1,4 @@
 -- `morphelai::client_door::run_out` meets its contract.
-use borrow.Author.Rules.{rules}
 use Rattle.morphelai.proofs.ClientReturns.{run_out_left}
 use Rattle.morphelai.proofs.client_door.run_out.Goals as goal
 

@@ -1,5 +1,4 @@
 -- `morphelai::codec_door::lay` meets its contract.
-use borrow.Author.Rules.{rules}
 use Rattle.morphelai.proofs.codec_door.lay.Goals as goal
 
 pub returns : goal.returns

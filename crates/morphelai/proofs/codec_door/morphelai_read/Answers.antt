@@ -1,5 +1,4 @@
 -- `morphelai::codec_door::morphelai_read` meets its contract.
-use borrow.Author.Rules.{rules}
 use mathlib.Core.Path.{ap}
 use lib.ListN.{length}
 use Rattle.morphelai.proofs.CodecReturns.{read-refused, read_laid, read_not}

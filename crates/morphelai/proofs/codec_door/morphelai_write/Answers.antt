@@ -1,5 +1,4 @@
 -- `morphelai::codec_door::morphelai_write` meets its contract.
-use borrow.Author.Rules.{rules}
 use Rattle.morphelai.proofs.CodecReturns.{write-refused, write_left}
 use Rattle.morphelai.proofs.codec_door.morphelai_write.Goals as goal
 

@@ -1,5 +1,4 @@
 -- `morphelai::codec_door::written` meets its contract.
-use borrow.Author.Rules.{rules}
 use Rattle.morphelai.specs.CodecDoor.{written_result}
 use Rattle.morphelai.proofs.codec_door.written.Goals as goal
 

@@ -1,5 +1,4 @@
 -- `morphelai::result::notice_kind` meets its contract.
-use borrow.Author.Rules.{rules}
 use Rattle.words.proofs.Tests.{tests}
 use Rattle.morphelai.proofs.result.notice_kind.Goals as goal
 

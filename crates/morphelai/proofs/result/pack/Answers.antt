@@ -1,5 +1,4 @@
 -- `morphelai::result::pack` meets its contract.
-use borrow.Author.Rules.{rules}
 use mathlib.Core.Path.{refl}
 use Rattle.morphelai.specs.Result.{packed}
 use Rattle.morphelai.proofs.result.pack.Goals as goal

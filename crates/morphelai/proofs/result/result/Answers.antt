@@ -1,5 +1,4 @@
 -- `morphelai::result::result` meets its contract.
-use borrow.Author.Rules.{rules}
 use Rattle.morphelai.specs.Result.{result_of}
 use Rattle.morphelai.proofs.result.result.Goals as goal
 

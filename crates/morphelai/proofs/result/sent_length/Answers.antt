@@ -1,5 +1,4 @@
 -- `morphelai::result::sent_length` meets its contract.
-use borrow.Author.Rules.{rules}
 use mathlib.Core.Path.{sym, ap}
 use Rattle.morphelai.specs.Result.{sent_length}
 use Rattle.morphelai.proofs.result.sent_length.Goals as goal

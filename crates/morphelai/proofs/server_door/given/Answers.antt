@@ -1,5 +1,4 @@
 -- `morphelai::server_door::given` meets its contract.
-use borrow.Author.Rules.{rules}
 use Rattle.morphelai.specs.ServerDoor.{server_result}
 use Rattle.morphelai.proofs.server_door.given.Goals as goal
 

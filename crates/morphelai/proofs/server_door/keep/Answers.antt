@@ -1,5 +1,4 @@
 -- `morphelai::server_door::keep` meets its contract.
-use borrow.Author.Rules.{rules}
 use Rattle.morphelai.specs.ServerDoor.{server_kept}
 use Rattle.morphelai.proofs.Returns.{kept_new, kept_old}
 use Rattle.morphelai.proofs.server_door.keep.Goals as goal

@@ -1,5 +1,4 @@
 -- `morphelai::server_door::morphelai_server_fault` meets its contract.
-use borrow.Author.Rules.{rules}
 use Rattle.morphelai.specs.ServerDoor.{server_fault}
 use Rattle.morphelai.proofs.Returns.{refused-length}
 use Rattle.morphelai.proofs.ServerReturns.{fault_left}

@@ -1,5 +1,4 @@
 -- `morphelai::server_door::morphelai_server_fresh` meets its contract.
-use borrow.Author.Rules.{rules}
 use Rattle.morphelai.proofs.ServerReturns.{fresh_left, fresh-refused}
 use Rattle.morphelai.proofs.server_door.morphelai_server_fresh.Goals as goal
 

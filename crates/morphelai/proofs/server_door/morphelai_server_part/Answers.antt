@@ -1,5 +1,4 @@
 -- `morphelai::server_door::morphelai_server_part` meets its contract.
-use borrow.Author.Rules.{rules}
 use Rattle.morphelai.proofs.ServerReturns.{part_none, part_length}
 use Rattle.morphelai.proofs.server_door.morphelai_server_part.Goals as goal
 

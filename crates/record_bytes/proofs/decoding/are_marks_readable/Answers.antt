@@ -1,5 +1,4 @@
 -- `record_bytes::decoding::are_marks_readable` meets its contract.
-use borrow.Author.Rules.{rules}
 use Rattle.record_bytes.specs.Layout.{marks_readable}
 use Rattle.record_bytes.proofs.decoding.are_marks_readable.Goals as goal
 

@@ -1,7 +1,6 @@
 -- `record_bytes::decoding::are_slots_readable` meets its contract. Before each turn it is known whether the slots below
 -- f are readable.
-use Prim.Native.Nat.{ℕ, ◌≤◌, ◌<◌, ◌-◌}
-use borrow.Author.Rules.{rules}
+use Prim.Native.Nat.{ℕ, ◌<◌}
 use lib.Dec.{ltb}
 use lib.ListN.{get_or}
 use mathlib.Core.Path.{◌≡◌, refl, ap, ◌∙◌}

@@ -1,5 +1,4 @@
 -- `record_bytes::decoding::are_spares_readable` meets its contract.
-use borrow.Author.Rules.{rules}
 use Rattle.record_bytes.specs.Layout.{spares_readable}
 use Rattle.record_bytes.proofs.NumberLaws.{spares_number}
 use Rattle.record_bytes.proofs.decoding.are_spares_readable.Goals as goal

@@ -1,5 +1,4 @@
 -- `record_bytes::decoding::call` meets its contract.
-use borrow.Author.Rules.{rules}
 use Rattle.record_bytes.specs.Layout.{call_in}
 use Rattle.record_bytes.proofs.decoding.call.Goals as goal
 

@@ -1,6 +1,5 @@
 -- `record_bytes::decoding::decoded` meets its contract.
 use Prim.Native.Nat.{ℕ, ◌<◌}
-use borrow.Author.Rules.{rules}
 use lib.ListN.{take}
 use lib.Seq.{get_or-take}
 use Rattle.record_bytes.specs.Layout.{decoded_in}

@@ -1,5 +1,4 @@
 -- `record_bytes::decoding::fields` meets its contract.
-use borrow.Author.Rules.{rules}
 use Rattle.record_bytes.specs.Layout.{fields_in}
 use Rattle.record_bytes.proofs.decoding.fields.Goals as goal
 

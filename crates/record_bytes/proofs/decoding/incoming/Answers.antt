@@ -1,5 +1,4 @@
 -- `record_bytes::decoding::incoming` meets its contract.
-use borrow.Author.Rules.{rules}
 use Rattle.record_bytes.specs.Layout.{incoming_in}
 use Rattle.record_bytes.proofs.Places.{rest_whole}
 use Rattle.record_bytes.proofs.decoding.incoming.Goals as goal

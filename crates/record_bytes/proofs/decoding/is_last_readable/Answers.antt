@@ -1,5 +1,4 @@
 -- `record_bytes::decoding::is_last_readable` meets its contract.
-use borrow.Author.Rules.{rules}
 use Rattle.record_bytes.specs.Layout.{last_readable}
 use Rattle.record_bytes.proofs.decoding.is_last_readable.Goals as goal
 

@@ -1,5 +1,4 @@
 -- `record_bytes::decoding::is_readable` meets its contract.
-use borrow.Author.Rules.{rules}
 use Rattle.record_bytes.specs.Layout.{readable}
 use Rattle.record_bytes.proofs.Places.{rest_whole}
 use Rattle.record_bytes.proofs.decoding.is_readable.Goals as goal

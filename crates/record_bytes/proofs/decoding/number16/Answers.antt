@@ -1,5 +1,4 @@
 -- `record_bytes::decoding::number16` meets its contract.
-use borrow.Author.Rules.{rules}
 use Rattle.words.specs.Number.{number}
 use Rattle.record_bytes.proofs.decoding.number16.Goals as goal
 

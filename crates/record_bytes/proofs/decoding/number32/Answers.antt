@@ -1,5 +1,4 @@
 -- `record_bytes::decoding::number32` meets its contract.
-use borrow.Author.Rules.{rules}
 use mathlib.Core.Path.{◌∙◌}
 use Rattle.record_bytes.proofs.NumberLaws.{number-bytes}
 use Rattle.record_bytes.proofs.decoding.number32.Goals as goal

@@ -1,5 +1,4 @@
 -- `record_bytes::decoding::number64` meets its contract.
-use borrow.Author.Rules.{rules}
 use Rattle.record_bytes.proofs.NumberLaws.{number_halves}
 use Rattle.record_bytes.proofs.decoding.number64.Goals as goal
 

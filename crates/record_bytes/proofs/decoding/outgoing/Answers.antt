@@ -1,5 +1,4 @@
 -- `record_bytes::decoding::outgoing` meets its contract.
-use borrow.Author.Rules.{rules}
 use Rattle.record_bytes.specs.Layout.{outgoing_in}
 use Rattle.record_bytes.proofs.decoding.outgoing.Goals as goal
 

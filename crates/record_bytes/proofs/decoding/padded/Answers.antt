@@ -1,5 +1,4 @@
 -- `record_bytes::decoding::padded` meets its contract.
-use borrow.Author.Rules.{rules}
 use Rattle.record_bytes.proofs.decoding.padded.Goals as goal
 
 pub returns : goal.returns

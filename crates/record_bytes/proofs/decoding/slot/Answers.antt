@@ -1,5 +1,4 @@
 -- `record_bytes::decoding::slot` meets its contract.
-use borrow.Author.Rules.{rules}
 use Rattle.record_bytes.specs.Held.{slot_of}
 use Rattle.record_bytes.proofs.decoding.slot.Goals as goal
 

@@ -1,13 +1,9 @@
 -- `record_bytes::decoding::slots` meets its contract. Before each turn the slots below f are as they stand in s.
-use Prim.Native.Nat.{ℕ, ◌-◌, ◌/◌, ◌%◌, ◌≤◌, ◌<◌}
-use borrow.Author.Rules.{rules}
-use lib.ListN.{length, get_or, length-set}
-use mathlib.Core.Path.{◌≡◌, refl, ap, ◌∙◌}
-use native.Mathlib.Omega.{arith}
+use Prim.Native.Nat.{◌-◌, ◌≤◌}
+use lib.ListN.{length}
+use mathlib.Core.Path.{◌≡◌}
 use Rattle.words.specs.Sizes.{window_size}
-use Rattle.record_bytes.specs.Held.{slot_of, slots_below, slots_in}
-use Rattle.record_bytes.proofs.HeldLaws.{slots_more}
-use Rattle.record_bytes.proofs.decoding.WordLaws.{word_slot}
+use Rattle.record_bytes.specs.Held.{slots_below}
 use Rattle.record_bytes.proofs.decoding.slots.Given as goal
 
 abbrev pub invariant-loop-f : goal.invariant-loop-f

@@ -1,5 +1,4 @@
 -- `record_bytes::decoding::timer_at` meets its contract.
-use borrow.Author.Rules.{rules}
 use Rattle.record_bytes.proofs.decoding.timer_at.Goals as goal
 
 pub returns : goal.returns

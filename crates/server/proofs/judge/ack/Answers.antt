@@ -2,7 +2,6 @@
 use Rattle.server.specs.judge.Rows.{acknowledgement_cell, ack_cell}
 use Rattle.server.proofs.judge.KindLaws.{replied_lines, ack_lines}
 use Rattle.server.proofs.judge.ArmLaws.{is_newer}
-use borrow.Author.Rules.{rules}
 use Rattle.words.proofs.Tests.{tests}
 use Rattle.server.proofs.judge.ack.Goals as goal
 

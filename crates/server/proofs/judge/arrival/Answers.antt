@@ -1,6 +1,5 @@
 -- `server::judge::arrival` meets its contract.
 use Rattle.answers.specs.Table.{behind_answer}
-use borrow.Author.Rules.{rules}
 use Rattle.server.proofs.judge.arrival.Goals as goal
 
 pub returns-in-Done : goal.returns-in-Done

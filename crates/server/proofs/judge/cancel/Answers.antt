@@ -3,7 +3,6 @@ use Rattle.words.specs.Choice.{choose}
 use Rattle.server.specs.judge.Rows.{cancel_cell}
 use Rattle.server.proofs.judge.KindLaws.{is_below, cancel_lines}
 use Rattle.server.proofs.judge.ArmLaws.{not_below, is_newer}
-use borrow.Author.Rules.{rules}
 use Rattle.words.proofs.Tests.{tests}
 use Rattle.server.proofs.judge.cancel.Goals as goal
 

@@ -1,6 +1,5 @@
 -- `server::judge::cancel_equal` meets its contract.
 use Rattle.server.specs.judge.Rows.{cancel_equal}
-use borrow.Author.Rules.{rules}
 use Rattle.server.proofs.judge.cancel_equal.Goals as goal
 
 pub returns-in-Collect : goal.returns-in-Collect

@@ -1,6 +1,5 @@
 -- `server::judge::contradicts_call` meets its contract.
 use Rattle.words.specs.Choice.{either}
-use borrow.Author.Rules.{rules}
 use Rattle.words.proofs.Tests.{tests}
 use Rattle.server.proofs.judge.contradicts_call.Goals as goal
 

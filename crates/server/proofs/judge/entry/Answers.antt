@@ -1,6 +1,5 @@
 -- `server::judge::entry` meets its contract.
 use Rattle.answers.specs.Table.{first_of}
-use borrow.Author.Rules.{rules}
 use Rattle.words.proofs.Tests.{tests}
 use Rattle.server.proofs.judge.entry.Goals as goal
 

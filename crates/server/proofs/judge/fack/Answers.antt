@@ -4,7 +4,6 @@ use Rattle.facks.specs.Mask.{acknowledges_more}
 use Rattle.server.specs.judge.Rows.{acknowledgement_cell}
 use Rattle.server.proofs.judge.KindLaws.{is_below, replied_lines, fack_lines}
 use Rattle.server.proofs.judge.ArmLaws.{not_below, is_newer}
-use borrow.Author.Rules.{rules}
 use Rattle.words.proofs.Tests.{tests}
 use Rattle.server.proofs.judge.fack.Goals as goal
 

@@ -1,6 +1,5 @@
 -- `server::judge::fault` meets its contract.
 use Rattle.server.proofs.judge.LocalLaws.{fault_lines}
-use borrow.Author.Rules.{rules}
 use Rattle.words.proofs.Tests.{tests}
 use Rattle.server.proofs.judge.fault.Goals as goal
 

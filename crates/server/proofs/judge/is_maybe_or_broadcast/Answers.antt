@@ -1,6 +1,5 @@
 -- `server::judge::is_maybe_or_broadcast` meets its contract.
 use Rattle.server.specs.judge.Refusals.{is_maybe_or_broadcast}
-use borrow.Author.Rules.{rules}
 use Rattle.server.proofs.judge.is_maybe_or_broadcast.Goals as goal
 
 pub returns : goal.returns

@@ -1,6 +1,5 @@
 -- `server::judge::is_replied` meets its contract.
 use Rattle.words.specs.Choice.{either}
-use borrow.Author.Rules.{rules}
 use Rattle.words.proofs.Tests.{tests}
 use Rattle.server.proofs.judge.is_replied.Goals as goal
 

@@ -2,7 +2,6 @@
 use borrow.Author.Tests.{not-true, not-false}
 use Rattle.words.specs.Choice.{both}
 use Rattle.server.specs.judge.Refusals.{same_call}
-use borrow.Author.Rules.{rules}
 use Rattle.words.proofs.Tests.{tests}
 use Rattle.server.proofs.judge.is_same_call.Goals as goal
 

@@ -1,6 +1,5 @@
 -- `server::judge::order_for` meets its contract.
 use Rattle.server.specs.judge.Rows.{order_by, order_of, order_for}
-use borrow.Author.Rules.{rules}
 use Rattle.words.proofs.Tests.{tests}
 use Rattle.server.proofs.judge.order_for.Goals as goal
 

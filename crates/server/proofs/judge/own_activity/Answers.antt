@@ -1,7 +1,6 @@
 -- `server::judge::own_activity` meets its contract.
 use Rattle.answers.specs.Table.{first_of}
 use Rattle.server.specs.judge.Refusals.{pdu_verdict, activity_verdict}
-use borrow.Author.Rules.{rules}
 use Rattle.words.proofs.Tests.{tests}
 use Rattle.server.proofs.judge.own_activity.Goals as goal
 

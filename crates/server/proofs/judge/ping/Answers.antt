@@ -1,7 +1,6 @@
 -- `server::judge::ping` meets its contract.
 use Rattle.server.specs.judge.Rows.{ping_cell}
 use Rattle.server.proofs.judge.KindLaws.{ping_lines}
-use borrow.Author.Rules.{rules}
 use Rattle.server.proofs.judge.ping.Goals as goal
 
 pub returns-in-Below : goal.returns-in-Below

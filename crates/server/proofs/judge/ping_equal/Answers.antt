@@ -1,6 +1,5 @@
 -- `server::judge::ping_equal` meets its contract.
 use Rattle.server.specs.judge.Rows.{ping_equal}
-use borrow.Author.Rules.{rules}
 use Rattle.server.proofs.judge.ping_equal.Goals as goal
 
 pub returns-in-Idle : goal.returns-in-Idle

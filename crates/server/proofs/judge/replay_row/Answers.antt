@@ -1,6 +1,5 @@
 -- `server::judge::replay_row` meets its contract.
 use Rattle.server.specs.judge.Rows.{replay_row}
-use borrow.Author.Rules.{rules}
 use Rattle.server.proofs.judge.replay_row.Goals as goal
 
 pub returns-in-Data : goal.returns-in-Data

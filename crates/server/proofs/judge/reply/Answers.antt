@@ -1,7 +1,6 @@
 -- `server::judge::reply` meets its contract.
 use Rattle.answers.specs.Table.{first_of}
 use Rattle.server.specs.judge.Refusals.{reply_refusals, reply_verdict}
-use borrow.Author.Rules.{rules}
 use Rattle.words.proofs.Tests.{tests}
 use Rattle.server.proofs.judge.reply.Goals as goal
 

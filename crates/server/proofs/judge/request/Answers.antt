@@ -1,7 +1,6 @@
 -- `server::judge::request` meets its contract.
 use mathlib.Core.Path.{refl, sym, ◌∙◌}
 use Rattle.server.proofs.judge.KindLaws.{request_lines, below_lines}
-use borrow.Author.Rules.{rules}
 use Rattle.words.proofs.Tests.{tests}
 use Rattle.server.proofs.judge.request.Goals as goal
 

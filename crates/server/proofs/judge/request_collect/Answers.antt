@@ -1,6 +1,5 @@
 -- `server::judge::request_collect` meets its contract.
 use Rattle.server.proofs.judge.KindLaws.{collect_lines}
-use borrow.Author.Rules.{rules}
 use Rattle.words.proofs.Tests.{tests}
 use Rattle.server.proofs.judge.request_collect.Goals as goal
 

@@ -1,6 +1,5 @@
 -- `server::judge::request_equal` meets its contract.
 use Rattle.server.proofs.judge.KindLaws.{in_state, running_lines, replying_lines, held_lines}
-use borrow.Author.Rules.{rules}
 use Rattle.server.proofs.judge.request_equal.Goals as goal
 
 pub request_idle-requires : goal.request_idle-requires

@@ -3,7 +3,6 @@ use mathlib.Core.Path.{ap}
 use Rattle.server.specs.declared.records.State.TheVariants.{Idle as IdleState}
 use Rattle.server.proofs.judge.KindLaws.{in_state, repeatable_lines}
 use Rattle.server.proofs.judge.ArmLaws.{not_repeatable}
-use borrow.Author.Rules.{rules}
 use Rattle.words.proofs.Tests.{tests}
 use Rattle.server.proofs.judge.request_idle.Goals as goal
 

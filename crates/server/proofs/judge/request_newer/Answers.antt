@@ -1,6 +1,5 @@
 -- `server::judge::request_newer` meets its contract.
 use Rattle.server.proofs.judge.KindLaws.{newer_lines}
-use borrow.Author.Rules.{rules}
 use Rattle.words.proofs.Tests.{tests}
 use Rattle.server.proofs.judge.request_newer.Goals as goal
 

@@ -1,6 +1,5 @@
 -- `server::judge::request_put` meets its contract.
 use Rattle.server.specs.judge.Rows.{request_put}
-use borrow.Author.Rules.{rules}
 use Rattle.server.proofs.judge.request_put.Goals as goal
 
 pub returns : goal.returns

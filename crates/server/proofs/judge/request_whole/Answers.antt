@@ -1,5 +1,4 @@
 -- `server::judge::request_whole` meets its contract.
-use borrow.Author.Rules.{rules}
 use Rattle.words.proofs.Tests.{tests}
 use Rattle.server.proofs.judge.request_whole.Goals as goal
 

@@ -1,7 +1,6 @@
 -- `server::judge::resend` meets its contract.
 use Rattle.words.specs.Choice.{choose, both}
 use Rattle.server.specs.judge.Rows.{resend_held, arms}
-use borrow.Author.Rules.{rules}
 use Rattle.server.proofs.judge.resend.Goals as goal
 
 pub returns-then-used_up : goal.returns-then-used_up

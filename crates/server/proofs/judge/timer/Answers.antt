@@ -3,7 +3,6 @@ use Rattle.answers.specs.Table.{first_of}
 use Rattle.server.specs.judge.Refusals.{timer_refusals, timer_verdict}
 use Rattle.server.proofs.judge.LocalLaws.{timer_lines, untimed_lines}
 use Rattle.server.proofs.judge.ArmLaws.{not_held}
-use borrow.Author.Rules.{rules}
 use Rattle.words.proofs.Tests.{tests}
 use Rattle.server.proofs.judge.timer.Goals as goal
 

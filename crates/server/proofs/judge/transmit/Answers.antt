@@ -1,6 +1,5 @@
 -- `server::judge::transmit` meets its contract.
 use Rattle.server.proofs.judge.LocalLaws.{transmit_lines}
-use borrow.Author.Rules.{rules}
 use Rattle.words.proofs.Tests.{tests}
 use Rattle.server.proofs.judge.transmit.Goals as goal
 

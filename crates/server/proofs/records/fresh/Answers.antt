@@ -1,6 +1,5 @@
 -- `server::records::fresh` meets its contract.
 use Rattle.server.specs.records.Record.{fresh}
-use borrow.Author.Rules.{rules}
 use Rattle.server.proofs.records.fresh.Goals as goal
 
 pub returns : goal.returns

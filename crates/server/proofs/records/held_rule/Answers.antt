@@ -1,7 +1,6 @@
 -- `server::records::held_rule` meets its contract.
 use Rattle.words.proofs.Tests.{tests}
 use Rattle.server.specs.records.Rules.{held_rule}
-use borrow.Author.Rules.{rules}
 use Rattle.server.proofs.records.held_rule.Goals as goal
 
 pub returns-in-Data : goal.returns-in-Data

@@ -1,7 +1,6 @@
 -- `server::records::idle_rule` meets its contract.
 use Rattle.words.proofs.Tests.{tests}
 use Rattle.server.specs.records.Rules.{idle_rule}
-use borrow.Author.Rules.{rules}
 use Rattle.server.proofs.records.idle_rule.Goals as goal
 
 pub returns-in-Fresh : goal.returns-in-Fresh

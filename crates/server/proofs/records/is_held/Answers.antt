@@ -1,7 +1,6 @@
 -- `server::records::is_held` meets its contract.
 use Rattle.words.proofs.Tests.{tests}
 use Rattle.server.specs.records.States.{is_held}
-use borrow.Author.Rules.{rules}
 use Rattle.server.proofs.records.is_held.Goals as goal
 
 pub returns-in-Idle : goal.returns-in-Idle

@@ -1,7 +1,6 @@
 -- `server::records::is_never_called` meets its contract.
 use Rattle.words.proofs.Tests.{tests}
 use Rattle.server.specs.records.States.{never_called}
-use borrow.Author.Rules.{rules}
 use Rattle.server.proofs.records.is_never_called.Goals as goal
 
 pub returns-in-Fresh : goal.returns-in-Fresh

@@ -1,7 +1,6 @@
 -- `server::records::is_replying` meets its contract.
 use Rattle.words.proofs.Tests.{tests}
 use Rattle.server.specs.records.States.{is_replying}
-use borrow.Author.Rules.{rules}
 use Rattle.server.proofs.records.is_replying.Goals as goal
 
 pub returns-in-Idle : goal.returns-in-Idle

@@ -2,7 +2,6 @@
 use borrow.Author.Tests.{not-true, not-false}
 use Rattle.words.specs.Choice.{both}
 use Rattle.server.specs.records.Rules.{sound}
-use borrow.Author.Rules.{rules}
 use Rattle.words.proofs.Tests.{tests}
 use Rattle.server.proofs.records.is_sound.Goals as goal
 

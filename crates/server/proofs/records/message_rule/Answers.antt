@@ -1,7 +1,6 @@
 -- `server::records::message_rule` meets its contract.
 use Rattle.words.proofs.Tests.{tests}
 use Rattle.server.specs.records.Rules.{message_rule}
-use borrow.Author.Rules.{rules}
 use Rattle.server.proofs.records.message_rule.Goals as goal
 
 pub returns-in-Idle : goal.returns-in-Idle

@@ -1,6 +1,5 @@
 -- `server::records::outgoing_is_sound` meets its contract.
 use Rattle.server.specs.records.Rules.{outgoing_sound}
-use borrow.Author.Rules.{rules}
 use Rattle.server.proofs.records.outgoing_is_sound.Goals as goal
 
 pub returns : goal.returns

@@ -1,7 +1,6 @@
 -- `server::records::runs_again` meets its contract.
 use Rattle.server.specs.records.Repeatable.{runs_again}
 use Rattle.words.proofs.Tests.{tests}
-use borrow.Author.Rules.{rules}
 use Rattle.server.proofs.records.runs_again.Goals as goal
 
 pub returns : goal.returns

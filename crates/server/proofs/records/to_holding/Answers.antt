@@ -1,6 +1,5 @@
 -- `server::records::to_holding` meets its contract.
 use Rattle.server.specs.records.Record.{holding}
-use borrow.Author.Rules.{rules}
 use Rattle.server.proofs.records.to_holding.Goals as goal
 
 pub returns : goal.returns

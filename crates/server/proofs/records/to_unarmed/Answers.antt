@@ -1,7 +1,6 @@
 -- `server::records::to_unarmed` meets its contract.
 use Rattle.words.proofs.Tests.{tests}
 use Rattle.server.specs.records.Record.{unarmed}
-use borrow.Author.Rules.{rules}
 use Rattle.server.proofs.records.to_unarmed.Goals as goal
 
 pub returns : goal.returns

@@ -1,5 +1,4 @@
 -- `server::records::with_call` meets its contract.
-use borrow.Author.Rules.{rules}
 use Rattle.server.proofs.records.with_call.Goals as goal
 
 pub returns : goal.returns

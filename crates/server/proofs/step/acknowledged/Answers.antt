@@ -1,6 +1,5 @@
 -- `server::step::acknowledged` meets its contract.
 use Rattle.server.specs.step.Steps.{acknowledged}
-use borrow.Author.Rules.{rules}
 use Rattle.server.proofs.step.acknowledged.Goals as goal
 
 pub returns : goal.returns

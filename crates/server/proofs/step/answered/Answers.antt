@@ -1,6 +1,5 @@
 -- `server::step::answered` meets its contract.
 use Rattle.server.specs.step.Steps.{answered}
-use borrow.Author.Rules.{rules}
 use Rattle.server.proofs.step.answered.Goals as goal
 
 pub returns : goal.returns

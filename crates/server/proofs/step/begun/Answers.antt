@@ -1,6 +1,5 @@
 -- `server::step::begun` meets its contract.
 use Rattle.server.specs.step.Steps.{begun}
-use borrow.Author.Rules.{rules}
 use Rattle.server.proofs.step.begun.Goals as goal
 
 pub returns : goal.returns

@@ -1,6 +1,5 @@
 -- `server::step::call_of` meets its contract.
 use Rattle.server.specs.step.Steps.{call_of}
-use borrow.Author.Rules.{rules}
 use Rattle.server.proofs.step.call_of.Goals as goal
 
 pub returns : goal.returns

@@ -1,5 +1,4 @@
 -- `server::step::fault_held` meets its contract.
-use borrow.Author.Rules.{rules}
 use Rattle.server.proofs.step.fault_held.Goals as goal
 
 pub returns : goal.returns

@@ -1,6 +1,5 @@
 -- `server::step::heard` meets its contract.
 use Rattle.server.specs.step.Steps.{heard_plan}
-use borrow.Author.Rules.{rules}
 use Rattle.server.proofs.step.heard.Goals as goal
 
 pub returns : goal.returns

@@ -1,6 +1,5 @@
 -- `server::step::put` meets its contract.
 use Rattle.server.specs.step.Steps.{put_plan}
-use borrow.Author.Rules.{rules}
 use Rattle.server.proofs.step.put.Goals as goal
 
 pub returns : goal.returns

@@ -1,6 +1,5 @@
 -- `server::step::repeatable` meets its contract.
 use Rattle.server.specs.step.Steps.{repeatable}
-use borrow.Author.Rules.{rules}
 use Rattle.server.proofs.step.repeatable.Goals as goal
 
 pub returns : goal.returns

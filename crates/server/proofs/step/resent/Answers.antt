@@ -1,5 +1,4 @@
 -- `server::step::resent` meets its contract.
-use borrow.Author.Rules.{rules}
 use Rattle.server.proofs.step.resent.Goals as goal
 
 pub returns : goal.returns

@@ -1,6 +1,5 @@
 -- `server::step::rewinding` meets its contract.
 use Rattle.server.specs.step.Steps.{rewinding}
-use borrow.Author.Rules.{rules}
 use Rattle.server.proofs.step.rewinding.Goals as goal
 
 pub returns : goal.returns

@@ -1,6 +1,5 @@
 -- `server::step::step` meets its contract.
 use Rattle.server.specs.step.Steps.{step_of}
-use borrow.Author.Rules.{rules}
 use Rattle.server.proofs.step.step.Goals as goal
 
 pub returns-in-Reply : goal.returns-in-Reply

@@ -1,6 +1,5 @@
 -- `server::step::transmitted` meets its contract.
 use Rattle.server.specs.step.Steps.{transmitted}
-use borrow.Author.Rules.{rules}
 use Rattle.server.proofs.step.transmitted.Goals as goal
 
 pub returns : goal.returns
