@@ -6,7 +6,7 @@ use std::path::{Path, PathBuf};
 use std::process::exit;
 
 /// What makes the archive.
-const MAKE: &str = "`rt staticlib morphelai` makes it in target/staticlib";
+const MAKE: &str = "`tools/archive` makes it in target/staticlib";
 
 fn main() {
     println!("cargo:rerun-if-env-changed=MORPHELAI_LIB");

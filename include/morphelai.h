@@ -1,6 +1,6 @@
 /*
  * Morphelai: the connectionless RPC protocol of C706, proved. What a host in C or C++ calls.
- * docs/USING.md is the guide; link target/staticlib/libmorphelai.a, which `rt staticlib morphelai` makes.
+ * docs/USING.md is the guide; link target/staticlib/libmorphelai.a, which `tools/archive` makes.
  *
  * Rules for hosts:
  * - Memory is lent as a pointer and a length. Nothing is kept of it after the call, nothing is allocated.
