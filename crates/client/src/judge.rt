@@ -85,6 +85,7 @@ fn arms(c: Client, row: Row) -> bool
 }
 
 // A row of an event that nothing else refuses: 20 where it arms a timer and no ticket is left.
+#[tactic(auto, unfolding(words::specs::Choice::choose, words::specs::Choice::both))]
 fn with_ticket(c: Client, row: Row) -> Verdict
     ensures { result ≡ choose (both (arms_row c row) (used_up c.tickets)) (Refuse TicketsUsedUp) (Go row) }
 {

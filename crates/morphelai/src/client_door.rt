@@ -18,6 +18,7 @@ fn given(o: Outcome) -> u64
 }
 
 // The bytes of the next record, where the answer is 0.
+#[tactic(auto, using(crate::proofs::Returns::kept_new, crate::proofs::Returns::kept_old), unfolding(crate::specs::ClientDoor::client_kept))]
 fn keep(o: Outcome, bytes: &mut [u8])
     ensures { bytes.new ≡ client_kept o bytes.old }
 {

@@ -16,6 +16,7 @@ fn given(o: Outcome) -> u64
 }
 
 // The bytes of the next record, where the answer is 0.
+#[tactic(auto, using(crate::proofs::Returns::kept_new, crate::proofs::Returns::kept_old), unfolding(crate::specs::ServerDoor::server_kept))]
 fn keep(o: Outcome, bytes: &mut [u8])
     ensures { bytes.new ≡ server_kept o bytes.old }
 {
