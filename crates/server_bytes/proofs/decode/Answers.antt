@@ -65,7 +65,7 @@ pub returns : goal.returns
 returns c =
     let s = c.args.s.now in
     let octets : (i : ℕ) → get_or s i 0 < 256 =
-    λ (i : ℕ). omega (arith, c.shared_slice_known-1.given i) in
+    λ (i : ℕ). omega (arith, c.type_inv.s i) in
     rw (
       c.server_of.ensures,
       c.both-readable.ensures,

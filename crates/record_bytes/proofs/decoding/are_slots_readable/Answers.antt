@@ -20,7 +20,7 @@ loop-f-preserved c =
     let l = c.loop-f in
     let s = c.args.s.now in
     let octets : (i : ℕ) → get_or s i 0 < 256 =
-    λ (i : ℕ). omega (arith, c.shared_slice_known-1.given i) in
+    λ (i : ℕ). omega (arith, c.type_inv.s i) in
     let here = ap (λ (n : ℕ). ltb n 131072) c.number32-word.ensures ∙ word_readable s octets l.f in
     (omega arith, readable_more s l.f _ l.all _ l.invariant.1 here c.both-all.ensures)
 

@@ -18,7 +18,7 @@ loop-f-preserved c =
     let l = c.loop-f in
     let s = c.args.s.now in
     let octets : (i : ℕ) → get_or s i 0 < 256 =
-    λ (i : ℕ). omega (arith, c.shared_slice_known-1.given i) in
+    λ (i : ℕ). omega (arith, c.type_inv.s i) in
     let here =
     c.slot.ensures
     ∙ ap (λ (n : ℕ). slot_of (n / 65536 % 256) (n % 65536)) c.number32.ensures
