@@ -12,7 +12,7 @@ use Rattle.words.specs.Number.{digits, part, number}
 use Rattle.words.proofs.Number.{value-bytes, digits-part, part_all}
 use Rattle.words.proofs.Tests.{choose_false, either_false}
 use Rattle.answers.specs.declared.Refusal.TheVariants.{MalformedBody}
-use Rattle.answers.specs.declared.Answer.TheVariants.{Done}
+use Rattle.answers.specs.Answer.{Done}
 use Rattle.answers.proofs.NumberLaws.{refused_not_done}
 use Rattle.bodies.specs.declared.CancelReading.{CancelReading}
 use Rattle.bodies.specs.declared.CancelAckReading.{CancelAckReading}

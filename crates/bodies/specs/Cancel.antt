@@ -3,7 +3,7 @@ use Rattle.std.specs.Prelude.{ℕ, Bool, false, not, List, ◌++◌, length, ltb
 use Rattle.words.specs.Choice.{choose, either, mark_of}
 use Rattle.words.specs.Number.{digits, number}
 use Rattle.answers.specs.declared.Refusal.TheVariants.{MalformedBody}
-use Rattle.answers.specs.declared.Answer.TheVariants.{Done, Refused}
+use Rattle.answers.specs.Answer.{Done, Refused}
 use Rattle.bodies.specs.declared.CancelReading.{CancelReading}
 use Rattle.bodies.specs.declared.CancelAckReading.{CancelAckReading}
 

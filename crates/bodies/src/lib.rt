@@ -102,12 +102,12 @@ pub fn read_fack(body: &[u8], little: bool) -> FackReading
     let malformed = is_fack_malformed(body, little);
     if malformed {
         return FackReading {
-            answer: Answer::Refused(Refusal::MalformedBody),
+            answer: Err(Refusal::MalformedBody),
             fack: no_fack(),
         };
     }
     FackReading {
-        answer: Answer::Done,
+        answer: Ok(()),
         fack: fack_of(body, little),
     }
 }
@@ -164,12 +164,12 @@ pub fn read_status(body: &[u8], little: bool) -> StatusReading
     let malformed = is_status_malformed(body);
     if malformed {
         return StatusReading {
-            answer: Answer::Refused(Refusal::MalformedBody),
+            answer: Err(Refusal::MalformedBody),
             status: 0,
         };
     }
     StatusReading {
-        answer: Answer::Done,
+        answer: Ok(()),
         status: status(body, little),
     }
 }
@@ -206,12 +206,12 @@ pub fn read_cancel(body: &[u8], little: bool) -> CancelReading
     let malformed = is_cancel_malformed(body, little);
     if malformed {
         return CancelReading {
-            answer: Answer::Refused(Refusal::MalformedBody),
+            answer: Err(Refusal::MalformedBody),
             number: 0,
         };
     }
     CancelReading {
-        answer: Answer::Done,
+        answer: Ok(()),
         number: cancel_number(body, little),
     }
 }
@@ -246,7 +246,7 @@ pub fn read_cancel_ack(body: &[u8], little: bool) -> CancelAckReading
     let malformed = is_cancel_ack_malformed(body, little);
     if malformed {
         return CancelAckReading {
-            answer: Answer::Refused(Refusal::MalformedBody),
+            answer: Err(Refusal::MalformedBody),
             number: 0,
             accepts: false,
         };
@@ -254,7 +254,7 @@ pub fn read_cancel_ack(body: &[u8], little: bool) -> CancelAckReading
     let number = cancel_number(body, little);
     let accepts = words::number32(body, 8, little);
     CancelAckReading {
-        answer: Answer::Done,
+        answer: Ok(()),
         number,
         accepts: accepts == 1,
     }

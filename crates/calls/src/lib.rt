@@ -36,11 +36,7 @@ pub enum Notice {
 }
 
 // What was sent: nothing, or a PDU that is so many bytes at the front of the PDU buffer.
-#[derive(Clone, Copy)]
-pub enum Sent {
-    Nothing,
-    Pdu(usize),
-}
+pub type Sent = Option<usize>;
 
 // The call of a record that has none.
 pub fn no_call() -> Call
@@ -94,9 +90,9 @@ fn sent_of(length: usize) -> Sent
     ensures { result ≡ sent_of length }
 {
     if length == 0 {
-        return Sent::Nothing;
+        return None;
     }
-    Sent::Pdu(length)
+    Some(length)
 }
 
 // Writes a PDU to send into the lent buffer.
@@ -112,7 +108,7 @@ pub fn sent_bytes(sent: Sent, buffer: &[u8]) -> &[u8]
     ensures { result.now ≡ sent_bytes sent buffer.now }
 {
     match sent {
-        Sent::Nothing => &buffer[0..0],
-        Sent::Pdu(length) => words::first(buffer, length),
+        None => &buffer[0..0],
+        Some(length) => words::first(buffer, length),
     }
 }

@@ -1,6 +1,6 @@
 -- What a local cancel tells its reader.
 use Rattle.std.proofs.Common.{◌≡◌, ℕ, ◌+◌, ◌<◌, true, List, [], sym, refl, ap, ◌∙◌, subst, arith}
-use Rattle.answers.specs.declared.Answer.TheVariants.{Done}
+use Rattle.answers.specs.Answer.{Done}
 use Rattle.bodies.specs.declared.CancelReading.{CancelReading}
 use Rattle.bodies.specs.Cancel.{cancel_reading, cancel_bytes}
 use Rattle.bodies.proofs.CancelTrip.{read-written-cancel}

@@ -20,8 +20,7 @@ use Rattle.client.specs.declared.records.TimerKind.{TimerKind}
 use Rattle.client.specs.declared.records.TimerKind.TheVariants.{Wait, Ack, Cancel as CancelKind}
 use Rattle.client.specs.declared.judge.Row.{Row}
 use Rattle.client.specs.declared.judge.Row.TheVariants.{Transmit, Ping, SendAck, Cancel, Response, Fault, Reject, Working, Resend, GiveUp, Fack, CancelAck}
-use Rattle.client.specs.declared.judge.Verdict.{Verdict}
-use Rattle.client.specs.declared.judge.Verdict.TheVariants.{Refuse, Go}
+use Rattle.client.specs.judge.Verdict.{Verdict, Refuse, Go}
 use Rattle.client.specs.records.States.{is_active, is_dispatched}
 use Rattle.client.specs.judge.Rows.{cell_in, is_row, wait_row, timer_row, nocall_row, is_current, arrival_cell}
 

@@ -13,7 +13,7 @@ use Rattle.words.specs.Choice.{choose, either}
 use Rattle.words.specs.Number.{part, value, number}
 use Rattle.words.specs.Sizes.{header_size}
 use Rattle.words.proofs.Tests.{both_true}
-use Rattle.answers.specs.declared.Answer.TheVariants.{Done}
+use Rattle.answers.specs.Answer.{Done}
 use Rattle.answers.proofs.NumberLaws.{zero_done}
 use Rattle.pdu.specs.declared.Header.{Header}
 use Rattle.pdu.specs.Header.{header_of, body_of}

@@ -14,7 +14,7 @@ use Rattle.words.specs.Place.{put_at, placed}
 use Rattle.words.specs.Sizes.{header_size}
 use Rattle.words.proofs.Number.{part_all}
 use Rattle.words.proofs.Tests.{choose_true}
-use Rattle.answers.specs.declared.Answer.TheVariants.{Done}
+use Rattle.answers.specs.Answer.{Done}
 use Rattle.answers.specs.Number.{number_of}
 use Rattle.pdu.specs.declared.Header.{Header}
 use Rattle.pdu.specs.Header.{header_of, header_bytes, datagram, body_of}

@@ -34,30 +34,30 @@ fn judge(d: &[u8], little: bool, big: bool) -> Answer
 {
     let size = d.len();
     if size < HEADER_SIZE {
-        return Answer::Refused(Refusal::ShortDatagram);
+        return Err(Refusal::ShortDatagram);
     }
     let version = words::byte_at(d, 0);
     if version != 4 {
-        return Answer::Refused(Refusal::WrongVersion);
+        return Err(Refusal::WrongVersion);
     }
     let kind = words::byte_at(d, 1);
     if kind > 10 {
-        return Answer::Refused(Refusal::UnknownType);
+        return Err(Refusal::UnknownType);
     }
     let known = words::either(little, big);
     if !known {
-        return Answer::Refused(Refusal::UnknownRepresentation);
+        return Err(Refusal::UnknownRepresentation);
     }
     let authentication = words::byte_at(d, 78);
     if authentication != 0 {
-        return Answer::Refused(Refusal::Authenticated);
+        return Err(Refusal::Authenticated);
     }
     let behind = words::number16(d, 74, little) as usize;
     let wrong = words::either(behind > BODY_SIZE, size != HEADER_SIZE + behind);
     if wrong {
-        return Answer::Refused(Refusal::WrongBodyLength);
+        return Err(Refusal::WrongBodyLength);
     }
-    Answer::Done
+    Ok(())
 }
 
 // Reads a datagram: the header and the sender's order, or the refusal.
@@ -67,13 +67,13 @@ pub fn read(d: &[u8]) -> Reading
     let little = order_is(d, 16);
     let big = order_is(d, 0);
     match judge(d, little, big) {
-        Answer::Done => Reading {
-            answer: Answer::Done,
+        Ok(()) => Reading {
+            answer: Ok(()),
             little,
             header: pdu::fields(d, little),
         },
-        Answer::Refused(refusal) => Reading {
-            answer: Answer::Refused(refusal),
+        Err(refusal) => Reading {
+            answer: Err(refusal),
             little: false,
             header: pdu::no_header(),
         },

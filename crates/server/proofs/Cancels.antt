@@ -13,7 +13,7 @@ use Rattle.words.specs.Sizes.{pdu_size}
 use Rattle.words.proofs.Tests.{choose_true}
 use Rattle.answers.specs.declared.Refusal.{Refusal}
 use Rattle.answers.specs.declared.Refusal.TheVariants.{OldCall, NoRow}
-use Rattle.answers.specs.declared.Answer.TheVariants.{Done}
+use Rattle.answers.specs.Answer.{Done}
 use Rattle.bodies.specs.declared.CancelAckReading.{CancelAckReading}
 use Rattle.bodies.specs.Cancel.{cancel_ack_reading, cancel_ack_bytes}
 use Rattle.bodies.proofs.CancelTrip.{read-written-cancel-ack}
@@ -34,8 +34,7 @@ use Rattle.server.specs.records.Record.{with_seen}
 use Rattle.server.specs.records.States.{is_idle, is_running}
 use Rattle.server.specs.declared.judge.Row.{Row}
 use Rattle.server.specs.declared.judge.Row.TheVariants.{HearCancel, AcceptCancel, DeclineCancel}
-use Rattle.server.specs.declared.judge.Verdict.{Verdict}
-use Rattle.server.specs.declared.judge.Verdict.TheVariants.{Go}
+use Rattle.server.specs.judge.Verdict.{Verdict, Go}
 use Rattle.server.specs.judge.Rows.{order_for, running_cancel, cancel_cell}
 use Rattle.server.specs.declared.step.Send.{Send}
 use Rattle.server.specs.declared.step.Send.TheVariants.{CancelAck}

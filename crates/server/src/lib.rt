@@ -126,7 +126,7 @@ fn send_out(send: Send, s: Server, h: Header, lent: &[u8], out: &mut [u8]) -> Se
     ensures { Posted (sent_out send s h lent.now out.old) result out.new }
 {
     match send {
-        Send::Nothing => Sent::Nothing,
+        Send::Nothing => None,
         Send::Response(f) => send_response(f, s, lent, out),
         Send::Fault(status) => send_fault(status, s, out),
         Send::Working => send_empty(4, s, h, out),
@@ -141,9 +141,9 @@ fn refused(s: Server, refusal: Refusal) -> Outcome
     ensures { result ≡ refused_outcome s refusal }
 {
     Outcome {
-        answer: Answer::Refused(refusal),
+        answer: Err(refusal),
         server: s,
-        sent: Sent::Nothing,
+        sent: None,
         notice: Notice::Nothing,
     }
 }
@@ -155,7 +155,7 @@ fn done(plan: Plan, sent: Sent) -> Outcome
     let server = plan.server;
     let notice = plan.notice;
     Outcome {
-        answer: Answer::Done,
+        answer: Ok(()),
         server,
         sent,
         notice,
@@ -167,8 +167,8 @@ pub fn reply(s: Server, length: u32) -> Outcome
     ensures { result ≡ replying s length }
 {
     match judge::reply(s, length) {
-        Verdict::Refuse(refusal) => refused(s, refusal),
-        Verdict::Go(row) => done(step::step(row, s, pdu::no_header()), Sent::Nothing),
+        Err(refusal) => refused(s, refusal),
+        Ok(row) => done(step::step(row, s, pdu::no_header()), None),
     }
 }
 
@@ -186,8 +186,8 @@ fn act(verdict: Verdict, s: Server, lent: &[u8], out: &mut [u8]) -> Outcome
     ensures { Stepped (step_by verdict s lent.now out.old) result out.new }
 {
     match verdict {
-        Verdict::Refuse(refusal) => refused(s, refusal),
-        Verdict::Go(row) => {
+        Err(refusal) => refused(s, refusal),
+        Ok(row) => {
             let h = pdu::no_header();
             send(step::step(row, s, h), h, lent, out)
         }
@@ -237,8 +237,8 @@ fn receive(s: Server, reading: Reading, body: &[u8], slots: &mut [u8], out: &mut
 {
     let h = reading.header;
     match judge::arrival(s, reading, body) {
-        Verdict::Refuse(refusal) => refused(s, refusal),
-        Verdict::Go(row) => store_and_send(step::step(row, s, h), h, body, slots, out),
+        Err(refusal) => refused(s, refusal),
+        Ok(row) => store_and_send(step::step(row, s, h), h, body, slots, out),
     }
 }
 
@@ -247,8 +247,8 @@ pub fn arrive(s: Server, datagram: &[u8], slots: &mut [u8], out: &mut [u8]) -> O
     ensures { Arrived (arriving s datagram.now slots.old out.old) result slots.new out.new }
 {
     match judge::entry(s, slots.len(), out.len()) {
-        Answer::Refused(refusal) => refused(s, refusal),
-        Answer::Done => receive(
+        Err(refusal) => refused(s, refusal),
+        Ok(()) => receive(
             s,
             reader::read(datagram),
             reader::body(datagram),

@@ -24,18 +24,18 @@ fn judge(lent: usize, kind: u8, authentication: u8, body: usize) -> Answer
     ensures { result ≡ answer_of (write_refusals lent kind authentication body) }
 {
     if lent != PDU_SIZE {
-        return Answer::Refused(Refusal::WrongLength);
+        return Err(Refusal::WrongLength);
     }
     if kind > 10 {
-        return Answer::Refused(Refusal::UnknownType);
+        return Err(Refusal::UnknownType);
     }
     if authentication != 0 {
-        return Answer::Refused(Refusal::Authenticated);
+        return Err(Refusal::Authenticated);
     }
     if body > BODY_SIZE {
-        return Answer::Refused(Refusal::WrongBodyLength);
+        return Err(Refusal::WrongBodyLength);
     }
-    Answer::Done
+    Ok(())
 }
 
 // Bytes 0 to 7.
@@ -139,16 +139,16 @@ pub fn write(h: Header, body: &[u8], out: &mut [u8]) -> Written
     let kind = h.kind;
     let authentication = h.authentication;
     match judge(out.len(), kind, authentication, body.len()) {
-        Answer::Done => {
+        Ok(()) => {
             put_header(h, body.len() as u16, out);
             words::put(out, HEADER_SIZE, body);
             Written {
-                answer: Answer::Done,
+                answer: Ok(()),
                 length: HEADER_SIZE + body.len(),
             }
         }
-        Answer::Refused(refusal) => Written {
-            answer: Answer::Refused(refusal),
+        Err(refusal) => Written {
+            answer: Err(refusal),
             length: 0,
         },
     }

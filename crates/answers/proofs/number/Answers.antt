@@ -2,8 +2,8 @@
 use borrow.Author.Rules.{rules}
 use Rattle.answers.proofs.number.Goals as goal
 
-pub returns-in-Done : goal.returns-in-Done
-returns-in-Done c = search rules
+pub returns-in-Ok : goal.returns-in-Ok
+returns-in-Ok c = search rules
 
-pub returns-in-Refused : goal.returns-in-Refused
-returns-in-Refused c = rw (c.in-Refused.is, c.refusal_number.ensures)
+pub returns-in-Err : goal.returns-in-Err
+returns-in-Err c = rw (c.in-Err.is, c.refusal_number.ensures)

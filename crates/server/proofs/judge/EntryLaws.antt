@@ -4,16 +4,14 @@ use Prim.Native.Nat.{ℕ}
 use mathlib.Core.Path.{◌≡◌, refl, sym, ap, ◌∙◌, subst}
 use lib.ListN.{length}
 use Rattle.answers.specs.declared.Refusal.{Refusal}
-use Rattle.answers.specs.declared.Answer.{Answer}
-use Rattle.answers.specs.declared.Answer.TheVariants.{Done, Refused}
+use Rattle.answers.specs.Answer.{Answer, Done, Refused}
 use Rattle.answers.specs.Table.{behind_answer}
 use Rattle.calls.specs.Events.{Arrived}
 use Rattle.pdu.specs.Header.{body_of}
 use Rattle.reader.specs.declared.Reading.{Reading}
 use Rattle.reader.specs.Reading.{reading}
 use Rattle.server.specs.declared.records.Server.{Server}
-use Rattle.server.specs.declared.judge.Verdict.{Verdict}
-use Rattle.server.specs.declared.judge.Verdict.TheVariants.{Refuse}
+use Rattle.server.specs.judge.Verdict.{Verdict, Refuse}
 use Rattle.server.specs.declared.Outcome.{Outcome}
 use Rattle.server.specs.judge.Refusals.{arrival_verdict}
 use Rattle.server.specs.judge.Parts.{entry_answer, read_verdict}

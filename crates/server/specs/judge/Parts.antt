@@ -1,7 +1,7 @@
 -- Parts of the judgement, as the code is cut.
 use Rattle.std.specs.Prelude.{ℕ, Bool, false, not, List, ◌≡◌}
 use Rattle.words.specs.Choice.{choose, both, either}
-use Rattle.answers.specs.declared.Answer.{Answer}
+use Rattle.answers.specs.Answer.{Answer}
 use Rattle.answers.specs.declared.Refusal.TheVariants.{TicketsUsedUp}
 use Rattle.answers.specs.Table.{answer_of, behind_answer}
 use Rattle.fragments.specs.Fragment.{is_last, wrong_fragment}
@@ -12,8 +12,7 @@ use Rattle.server.specs.declared.records.State.{State}
 use Rattle.server.specs.declared.records.Server.{Server}
 use Rattle.server.specs.declared.judge.Order.{Order}
 use Rattle.server.specs.declared.judge.Row.{Row}
-use Rattle.server.specs.declared.judge.Verdict.{Verdict}
-use Rattle.server.specs.declared.judge.Verdict.TheVariants.{Refuse, Go}
+use Rattle.server.specs.judge.Verdict.{Verdict, Refuse, Go}
 use Rattle.server.specs.judge.Rows.{order_for, arms}
 use Rattle.server.specs.judge.Refusals.{is_maybe_or_broadcast, same_call, activity_verdict, entry_refusals}
 

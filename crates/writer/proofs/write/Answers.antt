@@ -8,20 +8,20 @@ use Rattle.writer.proofs.write.Goals as goal
 pub overflow_cast-body : goal.overflow_cast-body
 overflow_cast-body c =
     let a = c.args in
-    omega (arith, writable_here a.h a.body.now a.out.now a.out.now _ c.judge.ensures c.in-Done.is)
+    omega (arith, writable_here a.h a.body.now a.out.now a.out.now _ c.judge.ensures c.in-Ok.is)
 
 pub put_header-requires : goal.put_header-requires
 put_header-requires c =
     let a = c.args in
-    omega (arith, writable_here a.h a.body.now a.out.now a.out.now _ c.judge.ensures c.in-Done.is)
+    omega (arith, writable_here a.h a.body.now a.out.now a.out.now _ c.judge.ensures c.in-Ok.is)
 
-pub returns-in-Done : goal.returns-in-Done
-returns-in-Done c =
+pub returns-in-Ok : goal.returns-in-Ok
+returns-in-Ok c =
     let a = c.args in
-    write_accepted a.h a.body.now a.out.now _ _ c.judge.ensures c.in-Done.is (record { object = search rules; interface = search rules; activity = search rules })
+    write_accepted a.h a.body.now a.out.now _ _ c.judge.ensures c.in-Ok.is (record { object = search rules; interface = search rules; activity = search rules })
     (rw (c.put.ensures, c.put_header.ensures))
 
-pub returns-in-Refused : goal.returns-in-Refused
-returns-in-Refused c =
+pub returns-in-Err : goal.returns-in-Err
+returns-in-Err c =
     let a = c.args in
-    write-refused a.h a.body.now a.out.now _ _ c.judge.ensures _ c.in-Refused.is refl
+    write-refused a.h a.body.now a.out.now _ _ c.judge.ensures _ c.in-Err.is refl

@@ -10,8 +10,7 @@ use Rattle.reader.specs.Reading.{read_refusals, reading}
 use Rattle.reader.proofs.Readable.{read_answers}
 use Rattle.fragments.specs.Fragment.{lent_right}
 use Rattle.client.specs.declared.records.Client.{Client}
-use Rattle.client.specs.declared.judge.Verdict.{Verdict}
-use Rattle.client.specs.declared.judge.Verdict.TheVariants.{Refuse}
+use Rattle.client.specs.judge.Verdict.{Verdict, Refuse}
 use Rattle.client.specs.records.Rules.{sound}
 use Rattle.client.specs.judge.Refusals.{activity_verdict, arrival_refusals, arrival_verdict}
 use Rattle.client.proofs.judge.arrival.Goals as goal
@@ -37,24 +36,24 @@ returns-then-not-is_sound c = rw (
   ← c.is_sound.ensures,
 ) (search tests)
 
-pub returns-in-Refused : goal.returns-in-Refused
+pub returns-in-Err : goal.returns-in-Err
 unfolding behind_answer
-returns-in-Refused c = rw (
+returns-in-Err c = rw (
   lines,
   ← c.is_lent_right.ensures,
   ← c.is_sound.ensures,
   ← c.read-reading.ensures,
-  c.in-Refused.is,
+  c.in-Err.is,
 ) (search tests)
 
-pub returns-in-Done : goal.returns-in-Done
+pub returns-in-Ok : goal.returns-in-Ok
 unfolding behind_answer
-returns-in-Done c = rw (
+returns-in-Ok c = rw (
   lines,
   ← c.is_lent_right.ensures,
   ← c.is_sound.ensures,
   ← c.read-reading.ensures,
   ← c.body.ensures,
   ← c.own_activity.ensures,
-  c.in-Done.is,
+  c.in-Ok.is,
 ) (search tests)

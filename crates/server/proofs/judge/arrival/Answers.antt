@@ -2,10 +2,10 @@
 use Rattle.answers.specs.Table.{behind_answer}
 use Rattle.server.proofs.judge.arrival.Goals as goal
 
-pub returns-in-Done : goal.returns-in-Done
+pub returns-in-Ok : goal.returns-in-Ok
 unfolding behind_answer
-returns-in-Done c = rw (c.in-Done.is, c.own_activity.ensures)
+returns-in-Ok c = rw (c.in-Ok.is, c.own_activity.ensures)
 
-pub returns-in-Refused : goal.returns-in-Refused
+pub returns-in-Err : goal.returns-in-Err
 unfolding behind_answer
-returns-in-Refused c = rw c.in-Refused.is
+returns-in-Err c = rw c.in-Err.is

@@ -1,0 +1,10 @@
+-- What every event, the reader and the writer answer: done, or refused with why.
+use Rattle.std.specs.Prelude.{Result}
+pub use Rattle.std.specs.Prelude.{Ok, Err as Refused}
+use Rattle.answers.specs.declared.Refusal.{Refusal}
+
+abbrev pub Answer : Type 0
+Answer = Result (Unit {0}) Refusal
+
+abbrev pub Done : Answer
+Done = Ok tt
