@@ -29,7 +29,7 @@ pub unrowed : (row : Row) (r : Refusal) → Refuse r ≡ Go row → ⊥
 unfolding is_row
 unrowed row r e = false≢true (ap is_row e)
 
-pub same_row : (a b : Row) → Go a ≡ Go b → a ≡ b
+pub same_row : (a b : Row) → ◌≡◌ {A = Verdict} (Go a) (Go b) → a ≡ b
 same_row a b e = cc
 
 -- What is known of a header and a body of which the table says that row. A response:

@@ -42,7 +42,7 @@ pub refusal_no_row : (r : Refusal) (row : Row) → Refuse r ≡ Go row → ⊥
 unfolding is_row
 refusal_no_row r row e = false≢true (ap is_row e)
 
-pub same_row : (row taken : Row) → Go row ≡ Go taken → row ≡ taken
+pub same_row : (row taken : Row) → ◌≡◌ {A = Verdict} (Go row) (Go taken) → row ≡ taken
 same_row row taken e = cc
 
 -- What an order tells of the two numbers.
