@@ -8,3 +8,8 @@ Answer = Result (Unit {0}) Refusal
 
 abbrev pub Done : Answer
 Done = Ok tt
+
+-- A value that goes with an answer: the value where it is Done, else why it is refused.
+unfoldable pub if_done : {A : Type 0} → Answer → A → Result A Refusal
+if_done (Ok tt) value = Ok value
+if_done (Refused r) value = Refused r

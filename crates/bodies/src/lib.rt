@@ -2,12 +2,12 @@
 #![tactic(auto)]
 
 ghost use Rattle.std.specs.Prelude.{◌≡◌};
-ghost use Rattle.bodies.specs.Fack.{fack_malformed, fack_of, blank_fack, fack_reading, fack_bytes, fack_fields};
-ghost use Rattle.bodies.specs.Status.{status_malformed, status_in, status_reading, status_bytes};
-ghost use Rattle.bodies.specs.Cancel.{cancel_malformed, cancel_number_in, cancel_reading, cancel_bytes};
-ghost use Rattle.bodies.specs.Cancel.{cancel_ack_malformed, cancel_ack_reading, cancel_ack_bytes};
+ghost use Rattle.bodies.specs.Fack.{fack_malformed, fack_of, fack_result, fack_bytes, fack_fields};
+ghost use Rattle.bodies.specs.Status.{status_malformed, status_in, status_result, status_bytes};
+ghost use Rattle.bodies.specs.Cancel.{cancel_malformed, cancel_number_in, cancel_result, cancel_bytes};
+ghost use Rattle.bodies.specs.Cancel.{cancel_ack_malformed, cancel_ack_result, cancel_ack_bytes};
 
-use answers::{Answer, Refusal};
+use answers::Refusal;
 use words::PDU_SIZE;
 
 // A fack's body, with its first mask.
@@ -22,29 +22,9 @@ pub struct Fack {
     pub mask: u32,
 }
 
-#[derive(Clone, Copy)]
-pub struct FackReading {
-    pub answer: Answer,
-    pub fack: Fack,
-}
-
-#[derive(Clone, Copy)]
-pub struct StatusReading {
-    pub answer: Answer,
-    pub status: u32,
-}
-
-// A cancel's number.
-#[derive(Clone, Copy)]
-pub struct CancelReading {
-    pub answer: Answer,
-    pub number: u32,
-}
-
 // The number of the cancel answered, and whether the server accepts cancels.
 #[derive(Clone, Copy)]
-pub struct CancelAckReading {
-    pub answer: Answer,
+pub struct CancelAck {
     pub number: u32,
     pub accepts: bool,
 }
@@ -80,36 +60,15 @@ fn fack_of(body: &[u8], little: bool) -> Fack
     }
 }
 
-// The fields that stand with a refusal.
-fn no_fack() -> Fack
-    ensures { result ≡ blank_fack }
-{
-    Fack {
-        pad: 0,
-        window: 0,
-        tsdu: 0,
-        size: 0,
-        serial: 0,
-        words: 0,
-        mask: 0,
-    }
-}
-
 // Reads a fack's body in the sender's order.
-pub fn read_fack(body: &[u8], little: bool) -> FackReading
-    ensures { result ≡ fack_reading little body.now }
+#[tactic(auto, unfolding(crate::specs::Fack::fack_result, crate::specs::Fack::fack_reading, answers::specs::Answer::if_done, words::specs::Choice::choose))]
+pub fn read_fack(body: &[u8], little: bool) -> Result<Fack, Refusal>
+    ensures { result ≡ fack_result little body.now }
 {
-    let malformed = is_fack_malformed(body, little);
-    if malformed {
-        return FackReading {
-            answer: Err(Refusal::MalformedBody),
-            fack: no_fack(),
-        };
+    if is_fack_malformed(body, little) {
+        return Err(Refusal::MalformedBody);
     }
-    FackReading {
-        answer: Ok(()),
-        fack: fack_of(body, little),
-    }
+    Ok(fack_of(body, little))
 }
 
 // The body of a fack as we write it: the serial answered and one mask.
@@ -158,20 +117,14 @@ pub fn status(body: &[u8], little: bool) -> u32
 }
 
 // Reads the status of a fault or reject in the sender's order.
-pub fn read_status(body: &[u8], little: bool) -> StatusReading
-    ensures { result ≡ status_reading little body.now }
+#[tactic(auto, unfolding(crate::specs::Status::status_result, crate::specs::Status::status_reading, answers::specs::Answer::if_done, words::specs::Choice::choose))]
+pub fn read_status(body: &[u8], little: bool) -> Result<u32, Refusal>
+    ensures { result ≡ status_result little body.now }
 {
-    let malformed = is_status_malformed(body);
-    if malformed {
-        return StatusReading {
-            answer: Err(Refusal::MalformedBody),
-            status: 0,
-        };
+    if is_status_malformed(body) {
+        return Err(Refusal::MalformedBody);
     }
-    StatusReading {
-        answer: Ok(()),
-        status: status(body, little),
-    }
+    Ok(status(body, little))
 }
 
 // A status as it is written.
@@ -200,20 +153,14 @@ pub fn cancel_number(body: &[u8], little: bool) -> u32
 }
 
 // Reads a cancel's body in the sender's order.
-pub fn read_cancel(body: &[u8], little: bool) -> CancelReading
-    ensures { result ≡ cancel_reading little body.now }
+#[tactic(auto, unfolding(crate::specs::Cancel::cancel_result, crate::specs::Cancel::cancel_reading, answers::specs::Answer::if_done, words::specs::Choice::choose))]
+pub fn read_cancel(body: &[u8], little: bool) -> Result<u32, Refusal>
+    ensures { result ≡ cancel_result little body.now }
 {
-    let malformed = is_cancel_malformed(body, little);
-    if malformed {
-        return CancelReading {
-            answer: Err(Refusal::MalformedBody),
-            number: 0,
-        };
+    if is_cancel_malformed(body, little) {
+        return Err(Refusal::MalformedBody);
     }
-    CancelReading {
-        answer: Ok(()),
-        number: cancel_number(body, little),
-    }
+    Ok(cancel_number(body, little))
 }
 
 // The body of a cancel with that number.
@@ -240,24 +187,17 @@ pub fn is_cancel_ack_malformed(body: &[u8], little: bool) -> bool
 }
 
 // Reads a cancel_ack's body in the sender's order.
-pub fn read_cancel_ack(body: &[u8], little: bool) -> CancelAckReading
-    ensures { result ≡ cancel_ack_reading little body.now }
+#[tactic(auto, unfolding(crate::specs::Cancel::cancel_ack_result, crate::specs::Cancel::cancel_ack_reading, crate::specs::Cancel::acknowledging, answers::specs::Answer::if_done, words::specs::Choice::choose))]
+pub fn read_cancel_ack(body: &[u8], little: bool) -> Result<CancelAck, Refusal>
+    ensures { result ≡ cancel_ack_result little body.now }
 {
-    let malformed = is_cancel_ack_malformed(body, little);
-    if malformed {
-        return CancelAckReading {
-            answer: Err(Refusal::MalformedBody),
-            number: 0,
-            accepts: false,
-        };
+    if is_cancel_ack_malformed(body, little) {
+        return Err(Refusal::MalformedBody);
     }
-    let number = cancel_number(body, little);
-    let accepts = words::number32(body, 8, little);
-    CancelAckReading {
-        answer: Ok(()),
-        number,
-        accepts: accepts == 1,
-    }
+    Ok(CancelAck {
+        number: cancel_number(body, little),
+        accepts: words::number32(body, 8, little) == 1,
+    })
 }
 
 // The body of a cancel_ack for the cancel of that number.

@@ -2,7 +2,7 @@
 #![tactic(auto)]
 
 ghost use Rattle.std.specs.Prelude.{◌≡◌};
-ghost use Rattle.calls.specs.Sent.{blank_call, sent_header, sent_of, posting, Posted, sent_bytes};
+ghost use Rattle.calls.specs.Sent.{blank_call, sent_header, posting, Posted, sent_bytes};
 
 use pdu::Header;
 
@@ -85,22 +85,11 @@ pub fn header(
     }
 }
 
-// What is sent of a PDU of this length; the writer gives 0 for one that it refused.
-fn sent_of(length: usize) -> Sent
-    ensures { result ≡ sent_of length }
-{
-    if length == 0 {
-        return None;
-    }
-    Some(length)
-}
-
 // Writes a PDU to send into the lent buffer.
 pub fn post(h: Header, body: &[u8], out: &mut [u8]) -> Sent
     ensures { Posted (posting h body.now out.old) result out.new }
 {
-    let written = writer::write(h, body, out);
-    sent_of(written.length)
+    writer::write(h, body, out).ok()
 }
 
 // The PDU that was sent: the front of the lent buffer, or an empty part where nothing was.

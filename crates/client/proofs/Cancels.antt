@@ -4,8 +4,7 @@ use Rattle.std.proofs.Common.{◌≡◌, ℕ, ◌+◌, Bool, true, false, ◌⊎
 use mathlib.Core.Bool.{false≢true}
 use Rattle.words.specs.Choice.{choose, both, either}
 use Rattle.answers.specs.Answer.{Answer, Done}
-use Rattle.bodies.specs.declared.CancelAckReading.{CancelAckReading}
-use Rattle.bodies.specs.Cancel.{cancel_ack_malformed, cancel_ack_reading}
+use Rattle.bodies.specs.Cancel.{CancelAckReading, cancel_ack_malformed, cancel_ack_reading}
 use Rattle.bodies.proofs.CancelTrip.{cancel_ack_formed}
 use Rattle.calls.specs.declared.Call.{Call}
 use Rattle.calls.specs.declared.Notice.TheVariants.{Nothing as Untold}

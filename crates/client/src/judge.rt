@@ -407,10 +407,6 @@ pub fn arrival(c: Client, slots: usize, out: usize, d: &[u8]) -> Verdict
     if !records::is_sound(c) {
         return Err(Refusal::BrokenRecord);
     }
-    let reading = reader::read(d);
-    let answer = reading.answer;
-    match answer {
-        Err(refusal) => Err(refusal),
-        Ok(()) => own_activity(c, reading.header, reading.little, reader::body(d)),
-    }
+    let read = reader::read(d)?;
+    own_activity(c, read.header, read.little, reader::body(d))
 }

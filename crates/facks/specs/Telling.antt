@@ -4,8 +4,7 @@ use Rattle.words.specs.Bit.{bit}
 use Rattle.answers.specs.Answer.{Done}
 use Rattle.pdu.specs.Header.{body_of}
 use Rattle.reader.specs.Reading.{reading}
-use Rattle.bodies.specs.declared.FackReading.{FackReading}
-use Rattle.bodies.specs.Fack.{fack_reading}
+use Rattle.bodies.specs.Fack.{FackReading, fack_reading}
 use Rattle.calls.specs.Sent.{Sent, Nothing as Unsent, sent_bytes}
 use Rattle.incoming.specs.declared.Incoming.{Incoming}
 use Rattle.incoming.specs.Slots.{missing, contiguous}

@@ -9,7 +9,7 @@ use lib.ListN.{length}
 use Rattle.answers.specs.Answer.{Done}
 use Rattle.answers.specs.declared.Refusal.TheVariants.{NoRow}
 use Rattle.answers.proofs.NumberLaws.{done_or_not}
-use Rattle.bodies.specs.declared.CancelReading.{CancelReading}
+use Rattle.bodies.specs.Cancel.{CancelReading}
 use Rattle.bodies.proofs.CancelTrip.{cancel-read}
 use Rattle.calls.specs.declared.Notice.{Notice}
 use Rattle.calls.specs.declared.Notice.TheVariants.{Nothing as Untold, Last, Count, Fault as FaultNotice, Reject, Cause, Dispatch, Cancel as CancelTold}

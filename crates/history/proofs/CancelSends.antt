@@ -7,8 +7,7 @@ use mathlib.Core.Path.{◌≡◌, refl, sym, ap, subst, ◌∙◌}
 use native.Mathlib.Omega.{arith}
 use lib.ListN.{length}
 use Rattle.answers.specs.Answer.{Done}
-use Rattle.bodies.specs.declared.CancelReading.{CancelReading}
-use Rattle.bodies.specs.Cancel.{cancel_bytes, cancel_reading}
+use Rattle.bodies.specs.Cancel.{CancelReading, cancel_bytes, cancel_reading}
 use Rattle.bodies.proofs.CancelTrip.{read-written-cancel}
 use Rattle.pdu.specs.Header.{datagram, body_of}
 use Rattle.reader.specs.Reading.{reading}

@@ -8,7 +8,7 @@ use native.Mathlib.Omega.{arith}
 use lib.ListN.{length, length-append}
 use Rattle.words.specs.Choice.{choose}
 use Rattle.answers.specs.Answer.{Done}
-use Rattle.bodies.specs.declared.CancelReading.{CancelReading}
+use Rattle.bodies.specs.Cancel.{CancelReading}
 use Rattle.calls.specs.declared.Notice.{Notice}
 use Rattle.calls.specs.declared.Notice.TheVariants.{Nothing as Untold, Dispatch, Cancel as CancelTold}
 use Rattle.pdu.specs.declared.Header.{Header}

@@ -12,9 +12,7 @@ use borrow.Author.Tests.{eqb-true}
 use Rattle.words.specs.Choice.{choose}
 use Rattle.words.specs.Sizes.{header_size}
 use Rattle.answers.specs.Answer.{Done}
-use Rattle.bodies.specs.declared.CancelReading.{CancelReading}
-use Rattle.bodies.specs.declared.CancelAckReading.{CancelAckReading}
-use Rattle.bodies.specs.Cancel.{cancel_ack_reading}
+use Rattle.bodies.specs.Cancel.{CancelReading, CancelAckReading, cancel_ack_reading}
 use Rattle.bodies.proofs.CancelTrip.{cancel-read, cancel-ack-read}
 use Rattle.calls.specs.declared.Notice.{Notice}
 use Rattle.calls.specs.declared.Notice.TheVariants.{Nothing as Untold, Last, Count, Fault, Reject, Cause, Dispatch, Cancel}

@@ -4,16 +4,15 @@
 ghost use Rattle.std.specs.Prelude.{◌≡◌};
 ghost use Rattle.pdu.specs.Header.{body_of};
 ghost use Rattle.answers.specs.Table.{answer_of};
-ghost use Rattle.reader.specs.Reading.{order_is, reader_refusals, reading};
+ghost use Rattle.reader.specs.Reading.{order_is, reader_refusals, read_result};
 
 use answers::{Answer, Refusal};
 use pdu::Header;
 use words::{BODY_SIZE, HEADER_SIZE};
 
-// What reading gives: the answer, whether the sender's order is little-endian, and the header.
+// A datagram that was read: whether the sender's order is little-endian, and the header.
 #[derive(Clone, Copy)]
-pub struct Reading {
-    pub answer: Answer,
+pub struct Received {
     pub little: bool,
     pub header: Header,
 }
@@ -61,23 +60,16 @@ fn judge(d: &[u8], little: bool, big: bool) -> Answer
 }
 
 // Reads a datagram: the header and the sender's order, or the refusal.
-pub fn read(d: &[u8]) -> Reading
-    ensures { result ≡ reading d.now }
+pub fn read(d: &[u8]) -> Result<Received, Refusal>
+    ensures { result ≡ read_result d.now }
 {
     let little = order_is(d, 16);
     let big = order_is(d, 0);
-    match judge(d, little, big) {
-        Ok(()) => Reading {
-            answer: Ok(()),
-            little,
-            header: pdu::fields(d, little),
-        },
-        Err(refusal) => Reading {
-            answer: Err(refusal),
-            little: false,
-            header: pdu::no_header(),
-        },
-    }
+    judge(d, little, big)?;
+    Ok(Received {
+        little,
+        header: pdu::fields(d, little),
+    })
 }
 
 // The body of a datagram: the part of it from byte 80, empty where it ends before.

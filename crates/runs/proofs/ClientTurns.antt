@@ -14,8 +14,7 @@ use Rattle.answers.specs.Number.{number_of}
 use Rattle.answers.specs.Table.{◌when◌, first_of}
 use Rattle.pdu.specs.declared.Header.{Header}
 use Rattle.pdu.specs.Header.{datagram, body_of}
-use Rattle.reader.specs.declared.Reading.{Reading}
-use Rattle.reader.specs.Reading.{read_refusals, reading}
+use Rattle.reader.specs.Reading.{Reading, read_refusals, reading}
 use Rattle.reader.proofs.Readable.{read_passed}
 use Rattle.writer.proofs.RoundTrip.{accepted}
 use Rattle.outgoing.specs.Message.{fragment_of}

@@ -15,8 +15,7 @@ use Rattle.answers.specs.Table.{◌when◌, first_of}
 use Rattle.bodies.specs.Cancel.{cancel_reading}
 use Rattle.pdu.specs.declared.Header.{Header}
 use Rattle.pdu.specs.Header.{datagram, body_of, blank}
-use Rattle.reader.specs.declared.Reading.{Reading}
-use Rattle.reader.specs.Reading.{read_refusals, reading}
+use Rattle.reader.specs.Reading.{Reading, read_refusals, reading}
 use Rattle.reader.proofs.Readable.{read_passed}
 use Rattle.writer.proofs.Returns.{Sized}
 use Rattle.writer.proofs.RoundTrip.{accepted}

@@ -5,8 +5,9 @@ ghost use Rattle.words.specs.Choice.{choose, either};
 ghost use Rattle.timers.specs.Tickets.{used_up};
 ghost use Rattle.server.specs.records.States.{is_replying, is_held};
 ghost use Rattle.server.specs.judge.Rows.{order_for, replay_row, ping_equal, running_cancel, cancel_equal, request_put as request_fragment, resend_held};
-ghost use Rattle.server.specs.judge.Refusals.{reply_verdict, transmit_verdict, fault_verdict, timer_verdict, is_maybe_or_broadcast, agree, same_call, pdu_verdict, activity_verdict};
-ghost use Rattle.server.specs.judge.Parts.{ticketed, RequestIn, contradicts_call, entry_answer, read_verdict};
+ghost use Rattle.server.specs.judge.Refusals.{reply_verdict, transmit_verdict, fault_verdict, timer_verdict, is_maybe_or_broadcast, agree, same_call, pdu_verdict, activity_verdict, arrival_verdict};
+ghost use Rattle.server.specs.judge.Parts.{ticketed, RequestIn, contradicts_call, entry_answer, with_header};
+ghost use Rattle.reader.specs.Reading.{reading};
 
 use crate::records;
 use crate::records::{Idle, Reply, Server, State};
@@ -15,7 +16,6 @@ use calls::Call;
 use fragments::Fragment;
 use incoming::Incoming;
 use pdu::Header;
-use reader::Reading;
 use words::{MESSAGE_SIZE, PDU_SIZE, RETRY_LIMIT};
 
 // The number of an arriving PDU against the server's.
@@ -511,7 +511,7 @@ fn own_activity(s: Server, h: Header, little: bool, body: &[u8]) -> Verdict
 }
 
 // 1 and 2 of a datagram, by the lengths of what is lent; Done where neither holds.
-pub fn entry(s: Server, slots: usize, out: usize) -> Answer
+fn entry(s: Server, slots: usize, out: usize) -> Answer
     ensures { result ≡ entry_answer s slots out }
 {
     if !fragments::is_lent_right(slots, out) {
@@ -523,14 +523,13 @@ pub fn entry(s: Server, slots: usize, out: usize) -> Answer
     Ok(())
 }
 
-// An arriving datagram behind its entry, by what reading it gave: those of the reader, 9, those of the PDU.
-pub fn arrival(s: Server, reading: Reading, body: &[u8]) -> Verdict
-    ensures { result ≡ read_verdict s reading body.now }
+// An arriving datagram, by the lengths of what is lent: 1, 2, those of the reader, 9, those of the PDU. With its row comes
+// the header of the PDU, which what is sent for it echoes.
+pub fn arrival(s: Server, slots: usize, out: usize, d: &[u8]) -> Result<(Row, Header), Refusal>
+    ensures { result ≡ with_header (reading d.now).header (arrival_verdict s slots out d.now) }
 {
-    let answer = reading.answer;
-    let h = reading.header;
-    match answer {
-        Err(refusal) => Err(refusal),
-        Ok(()) => own_activity(s, h, reading.little, body),
-    }
+    entry(s, slots, out)?;
+    let read = reader::read(d)?;
+    let row = own_activity(s, read.header, read.little, reader::body(d))?;
+    Ok((row, read.header))
 }

@@ -16,9 +16,8 @@ use Rattle.answers.specs.Answer.{Answer, Done, Refused, Ok}
 use Rattle.answers.specs.Table.{answer_of}
 use Rattle.answers.proofs.TableLaws.{answer_done}
 use Rattle.pdu.specs.declared.Header.{Header}
-use Rattle.reader.specs.declared.Reading.{Reading}
+use Rattle.reader.specs.Reading.{Reading, order_is, reader_refusals, read_refusals, read_by, reading}
 use Rattle.pdu.specs.Header.{uuid_at, header_of, front_bytes, number_bytes, hint_bytes, back_bytes, header_bytes, datagram, body_of}
-use Rattle.reader.specs.Reading.{order_is, reader_refusals, read_refusals, read_by, reading}
 use Rattle.words.specs.Place.{placed}
 use Rattle.words.specs.Sizes.{header_size, body_size, pdu_size}
 use Rattle.words.proofs.Place.{placed-front}

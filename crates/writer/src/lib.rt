@@ -12,13 +12,6 @@ use answers::{Answer, Refusal};
 use pdu::Header;
 use words::{BODY_SIZE, HEADER_SIZE, PDU_SIZE};
 
-// What writing gives: the answer, and how many bytes of the buffer are the PDU, 0 where it is refused.
-#[derive(Clone, Copy)]
-pub struct Written {
-    pub answer: Answer,
-    pub length: usize,
-}
-
 // The first of refusals 1, 5, 7 and 8 that is met.
 fn judge(lent: usize, kind: u8, authentication: u8, body: usize) -> Answer
     ensures { result ≡ answer_of (write_refusals lent kind authentication body) }
@@ -132,24 +125,12 @@ pub fn write_header(h: Header, body: u16, out: &mut [u8])
     put_header(h, body, out);
 }
 
-// Writes a PDU into a lent buffer, or refuses it and leaves every byte as it was.
-pub fn write(h: Header, body: &[u8], out: &mut [u8]) -> Written
+// Writes a PDU into a lent buffer and tells how many bytes it is, or refuses it and leaves every byte as it was.
+pub fn write(h: Header, body: &[u8], out: &mut [u8]) -> Result<usize, Refusal>
     ensures { Wrote (writing h body.now out.old) result out.new }
 {
-    let kind = h.kind;
-    let authentication = h.authentication;
-    match judge(out.len(), kind, authentication, body.len()) {
-        Ok(()) => {
-            put_header(h, body.len() as u16, out);
-            words::put(out, HEADER_SIZE, body);
-            Written {
-                answer: Ok(()),
-                length: HEADER_SIZE + body.len(),
-            }
-        }
-        Err(refusal) => Written {
-            answer: Err(refusal),
-            length: 0,
-        },
-    }
+    judge(out.len(), h.kind, h.authentication, body.len())?;
+    put_header(h, body.len() as u16, out);
+    words::put(out, HEADER_SIZE, body);
+    Ok(HEADER_SIZE + body.len())
 }
