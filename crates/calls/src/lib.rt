@@ -1,9 +1,12 @@
 // A call as both machines see it: its operation data, the PDUs sent for it, and what the stub is told.
-#![tactic(auto)]
+#![tactic(auto, unfolding(crate::specs::Outcome::refused, crate::specs::Outcome::done))]
 
 ghost use Rattle.std.specs.Prelude.{◌≡◌};
+ghost use Rattle.calls.specs.Outcome.{refused, done};
 ghost use Rattle.calls.specs.Sent.{blank_call, sent_header, posting, Posted, sent_bytes};
 
+use answers::{Answer, Refusal};
+use fragments::Stored;
 use pdu::Header;
 
 // The data of an operation, and whether the call is marked idempotent. UUIDs are in the little-endian form.
@@ -37,6 +40,49 @@ pub enum Notice {
 
 // What was sent: nothing, or a PDU that is so many bytes at the front of the PDU buffer.
 pub type Sent = Option<usize>;
+
+// What a row is to do to the record of a machine: the next record, what to send, the notice, and what of an arriving
+// body is stored.
+#[derive(Clone, Copy)]
+pub struct Plan<M, S> {
+    pub machine: M,
+    pub send: S,
+    pub notice: Notice,
+    pub store: Stored,
+}
+
+// What an event gives back: its answer, the record of the machine, what was sent and what the stub is told.
+#[derive(Clone, Copy)]
+pub struct Outcome<M> {
+    pub answer: Answer,
+    pub machine: M,
+    pub sent: Sent,
+    pub notice: Notice,
+}
+
+// A refusal: the record stays, nothing is sent or told.
+pub fn refused<M>(machine: M, refusal: Refusal) -> Outcome<M>
+    ensures { result ≡ refused machine refusal }
+{
+    Outcome {
+        answer: Err(refusal),
+        machine,
+        sent: None,
+        notice: Notice::Nothing,
+    }
+}
+
+// What a row's plan gives back with what was sent.
+pub fn done<M, S: Copy>(plan: Plan<M, S>, sent: Sent) -> Outcome<M>
+    ensures { result ≡ done plan sent }
+{
+    Outcome {
+        answer: Ok(()),
+        machine: plan.machine,
+        sent,
+        notice: plan.notice,
+    }
+}
 
 // The call of a record that has none.
 pub fn no_call() -> Call

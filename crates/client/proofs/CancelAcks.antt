@@ -27,7 +27,7 @@ use Rattle.client.specs.declared.records.State.TheVariants.{Queued, SendFrags, D
 use Rattle.client.specs.declared.records.Client.{Client}
 use Rattle.client.specs.declared.judge.Row.TheVariants.{CancelAck}
 use Rattle.client.specs.judge.Verdict.{Verdict, Refuse, Go}
-use Rattle.client.specs.declared.Outcome.{Outcome}
+use Rattle.client.specs.Outcome.{Outcome}
 use Rattle.client.specs.records.States.{is_queued}
 use Rattle.client.specs.records.Rules.{sound}
 use Rattle.client.specs.records.Record.{cancel_disarmed}
@@ -264,17 +264,17 @@ module _ (c : Client) (datagram slots out : List ℕ) where
 
           -- nothing is sent, nothing is told, slots and PDU buffer are as they were,
           pub own_ack_silent :
-              ArrivalUntouched (arriving c datagram slots out).outcome.client slots out (arriving c datagram slots out)
+              ArrivalUntouched (arriving c datagram slots out).outcome.machine slots out (arriving c datagram slots out)
           unfolding acted sending done step_of going sent_out storing
           own_ack_silent =
-              subst (λ (a : Arrival Outcome). ArrivalUntouched a.outcome.client slots out a) (sym does)
-              (record { outcome = record { client = refl; sent = refl; notice = refl }; stored = refl; buffer = refl })
+              subst (λ (a : Arrival Outcome). ArrivalUntouched a.outcome.machine slots out a) (sym does)
+              (record { outcome = record { machine = refl; sent = refl; notice = refl }; stored = refl; buffer = refl })
 
           -- and CANCEL is disarmed, whether or not the server accepts cancels.
-          pub own_ack_leaves : OnlyDisarmed c (arriving c datagram slots out).outcome.client
+          pub own_ack_leaves : OnlyDisarmed c (arriving c datagram slots out).outcome.machine
           unfolding acted sending done step_of going cancel_disarmed
           own_ack_leaves =
-              subst (λ (a : Arrival Outcome). OnlyDisarmed c a.outcome.client) (sym does) (record {
+              subst (λ (a : Arrival Outcome). OnlyDisarmed c a.outcome.machine) (sym does) (record {
                 cancel = refl;
                 state = refl;
                 activity = refl;

@@ -11,7 +11,7 @@ use Rattle.pdu.specs.Header.{datagram as datagram_of, body_of}
 use Rattle.reader.specs.Reading.{Reading, reading}
 use Rattle.writer.proofs.RoundTrip.{Fits, read-written, body-written}
 use Rattle.client.specs.declared.records.Client.{Client}
-use Rattle.client.specs.declared.Outcome.{Outcome}
+use Rattle.client.specs.Outcome.{Outcome}
 use Rattle.client.specs.records.Record.{cancel_armed, with_cancels}
 use Rattle.client.specs.judge.Rows.{one_more, cancel_row}
 use Rattle.client.specs.step.Plan.{going}
@@ -85,7 +85,7 @@ cancel_asks c out told small fits =
     let numbered = (cancel_judged_lem c out told).can.numbered in
     let n = next_cancel c.cancels small numbered in
     let room = (cancel_accepted c out told).taken.buffer in
-    let posted : sent_out (step_of (cancel_row c) c).send (step_of (cancel_row c) c).client [] out
+    let posted : sent_out (step_of (cancel_row c) c).send (step_of (cancel_row c) c).machine [] out
     ≡ whole (pdu_header 8 0 0 c) (cancel_bytes (c.cancels + 1)) out =
     cancel_whole (cancelled c (one_more c.cancels)) out room (one_more c.cancels)
     ∙ ap (λ (k : ℕ). whole (pdu_header 8 0 0 c) (cancel_bytes k) out) n in

@@ -19,7 +19,7 @@ use Rattle.client.specs.declared.records.Client.{Client}
 use Rattle.client.specs.declared.records.TimerKind.TheVariants.{Cancel}
 use Rattle.client.specs.declared.judge.Row.TheVariants.{GiveUp}
 use Rattle.client.specs.judge.Verdict.{Verdict, Refuse, Go}
-use Rattle.client.specs.declared.Outcome.{Outcome}
+use Rattle.client.specs.Outcome.{Outcome}
 use Rattle.client.specs.records.Rules.{sound}
 use Rattle.client.specs.records.Record.{unarmed}
 use Rattle.client.specs.records.Named.{named_timer, named_by}
@@ -138,10 +138,10 @@ module _ (c : Client) (ticket : ℕ) (out : List ℕ) where
       own_timer_unsent = (ap (λ (s : Step Outcome). s.outcome.sent) acts, ap (λ (s : Step Outcome). s.out) acts)
 
       -- and the call is given up.
-      pub own_timer_leaves : GivenUp c (timing c Cancel ticket out).outcome.client
+      pub own_timer_leaves : GivenUp c (timing c Cancel ticket out).outcome.machine
       unfolding sending done step_of failed going unarmed
       own_timer_leaves =
-          subst (λ (s : Step Outcome). GivenUp c s.outcome.client) (sym acts) (record {
+          subst (λ (s : Step Outcome). GivenUp c s.outcome.machine) (sym acts) (record {
             state = refl;
             wait = refl;
             ack = refl;

@@ -23,7 +23,7 @@ use Rattle.client.specs.declared.records.TimerKind.{TimerKind}
 use Rattle.client.specs.declared.judge.Row.{Row}
 use Rattle.client.specs.declared.judge.Row.TheVariants.{Transmit, Response, CancelAck}
 use Rattle.client.specs.judge.Verdict.{Verdict, Refuse, Go}
-use Rattle.client.specs.declared.Outcome.{Outcome}
+use Rattle.client.specs.Outcome.{Outcome}
 use Rattle.client.specs.records.States.{may_start, is_active}
 use Rattle.client.specs.records.Rules.{sound}
 use Rattle.client.specs.records.Record.{waiting, sending_again, ack_pending, unarmed, cancel_armed, cancel_disarmed, with_outgoing, with_incoming, with_waits, with_resends, with_cancels}
@@ -87,14 +87,14 @@ answers_last c slots out datagram taken =
 
 module _ (c : Client) (ticket : ℕ) (armed : c.cancel ≡ Armed ticket) where
   abbrev StaysAfter : Row → Type 0
-  StaysAfter row = Stays (step_of row c).client ticket
+  StaysAfter row = Stays (step_of row c).machine ticket
 
   unchanged : Stays c ticket
   unfolding Stays
   unchanged = inl armed
 
   -- So it is after a start, which is refused,
-  pub start_stays : (call : Call) (n : ℕ) → Stays (starting c call n).client ticket
+  pub start_stays : (call : Call) (n : ℕ) → Stays (starting c call n).machine ticket
   start_stays call n =
       start_by_rows c (λ d. Stays d ticket) unchanged call n
       (λ number can.
@@ -106,7 +106,7 @@ module _ (c : Client) (ticket : ℕ) (armed : c.cancel ≡ Armed ticket) where
   transmitted_stays true = inl armed
   transmitted_stays false = inl armed
 
-  pub transmit_stays : (message out : List ℕ) → Stays (transmitting c message out).outcome.client ticket
+  pub transmit_stays : (message out : List ℕ) → Stays (transmitting c message out).outcome.machine ticket
   unfolding transmit_row
   transmit_stays message out =
       transmit_by_rows c (λ d. Stays d ticket) unchanged message out
@@ -117,17 +117,17 @@ module _ (c : Client) (ticket : ℕ) (armed : c.cancel ≡ Armed ticket) where
   unfolding Stays step_of going failed pinged with_waits with_outgoing waiting unarmed is_active
   acting_stays kind = timer-rows StaysAfter (λ waits. inl armed) (inr refl) (λ cause. inr refl) kind c
 
-  pub timer_stays : (kind : TimerKind) (t : ℕ) (out : List ℕ) → Stays (timing c kind t out).outcome.client ticket
+  pub timer_stays : (kind : TimerKind) (t : ℕ) (out : List ℕ) → Stays (timing c kind t out).outcome.machine ticket
   timer_stays kind t out =
       timer_by_rows c (λ d. Stays d ticket) unchanged kind t out
       (λ row taken. subst StaysAfter (sym taken.is) (acting_stays kind))
 
   -- and a further local cancel, which does not arm it afresh.
-  pub cancel_stays : (out : List ℕ) → (cancelling c out).outcome.client.cancel ≡ Armed ticket
+  pub cancel_stays : (out : List ℕ) → (cancelling c out).outcome.machine.cancel ≡ Armed ticket
   unfolding cancel_row step_of going cancelled with_cancels cancel_armed armed_if_off
   cancel_stays out =
       cancel_by_rows c (λ d. d.cancel ≡ Armed ticket) armed out
-      (λ row taken. subst (λ (r : Row). (step_of r c).client.cancel ≡ Armed ticket) (sym taken.is)
+      (λ row taken. subst (λ (r : Row). (step_of r c).machine.cancel ≡ Armed ticket) (sym taken.is)
       (ap (λ (t : Timer). armed_if_off t c.tickets) armed))
 
   -- Every row of an arrival leaves it so but a cancel_ack's.
@@ -157,7 +157,7 @@ module _ (c : Client) (ticket : ℕ) (armed : c.cancel ≡ Armed ticket) where
 
   abbrev StaysUnless : List ℕ → Arrival Outcome → Type 0
   StaysUnless datagram a =
-      Answered a.outcome.answer a.outcome.client datagram ⊎ Stays a.outcome.client ticket
+      Answered a.outcome.answer a.outcome.machine datagram ⊎ Stays a.outcome.machine ticket
 
   ack-answered : (datagram slots out : List ℕ) → ArrivalTaken c (length slots) (length out) datagram CancelAck
       → StaysUnless datagram (acted (step_of CancelAck c) (body_of datagram) slots out)
@@ -186,13 +186,13 @@ module _ (c : Client) (ticket : ℕ) (armed : c.cancel ≡ Armed ticket) where
 
 -- The cancel number: a start sets it to 0,
 pub start_uncancelled : (c : Client) (call : Call) (n : ℕ) → (starting c call n).answer ≡ Done
-    → (starting c call n).client.cancels ≡ 0
+    → (starting c call n).machine.cancels ≡ 0
 unfolding started
-start_uncancelled c call n told = ap (λ (o : Outcome). o.client.cancels) (start_accepted c call n told).does
+start_uncancelled c call n told = ap (λ (o : Outcome). o.machine.cancels) (start_accepted c call n told).does
 
 module _ (c : Client) where
   abbrev Leaves : Row → Type 0
-  Leaves row = (step_of row c).client.cancels ≡ c.cancels
+  Leaves row = (step_of row c).machine.cancels ≡ c.cancels
 
   -- a transmit leaves it,
   transmitted_leaves : (last : Bool) → Leaves (Transmit last)
@@ -200,7 +200,7 @@ module _ (c : Client) where
   transmitted_leaves true = refl
   transmitted_leaves false = refl
 
-  pub transmit_cancels : (message out : List ℕ) → (transmitting c message out).outcome.client.cancels ≡ c.cancels
+  pub transmit_cancels : (message out : List ℕ) → (transmitting c message out).outcome.machine.cancels ≡ c.cancels
   unfolding transmit_row
   transmit_cancels message out =
       transmit_by_rows c (λ d. d.cancels ≡ c.cancels) refl message out
@@ -212,7 +212,7 @@ module _ (c : Client) where
   acting_leaves kind = timer-rows Leaves (λ waits. refl) refl (λ cause. refl) kind c
 
   pub timer_cancels : (kind : TimerKind) (ticket : ℕ) (out : List ℕ)
-      → (timing c kind ticket out).outcome.client.cancels ≡ c.cancels
+      → (timing c kind ticket out).outcome.machine.cancels ≡ c.cancels
   timer_cancels kind ticket out =
       timer_by_rows c (λ d. d.cancels ≡ c.cancels) refl kind ticket out
       (λ row taken. subst Leaves (sym taken.is) (acting_leaves kind))
@@ -237,7 +237,7 @@ module _ (c : Client) where
       (λ status. refl) (λ status. refl) refl (λ resends. refl) (λ cause. refl) (λ count. refl) refl row taken.arrives
 
   pub arrive_cancels : (datagram slots out : List ℕ)
-      → (arriving c datagram slots out).outcome.client.cancels ≡ c.cancels
+      → (arriving c datagram slots out).outcome.machine.cancels ≡ c.cancels
   arrive_cancels datagram slots out =
       arrive_by_rows c datagram slots out (λ d later. d.cancels ≡ c.cancels) refl
       (arrived_leaves (length slots) (length out) datagram)
@@ -250,7 +250,7 @@ CancelAfter (Armed ticket) counter after later = (after ≡ Armed ticket) × (la
 -- A local cancel that is answered 0
 module _ (c : Client) (out : List ℕ) (told : (cancelling c out).outcome.answer ≡ Done) where
   abbrev after : Client
-  after = (cancelling c out).outcome.client
+  after = (cancelling c out).outcome.machine
 
   -- has its row,
   pub cancel_acts : cancelling c out ≡ sending (step_of (cancel_row c) c) [] out
@@ -267,7 +267,7 @@ module _ (c : Client) (out : List ℕ) (told : (cancelling c out).outcome.answer
   cancel-arms =
       subst
       (λ (s : Step Outcome).
-      CancelAfter c.cancel c.tickets s.outcome.client.cancel s.outcome.client.tickets)
+      CancelAfter c.cancel c.tickets s.outcome.machine.cancel s.outcome.machine.tickets)
       (sym cancel_acts)
       (by_timer c.cancel cancel_judged_lem.can.free)
     where
@@ -294,7 +294,7 @@ module _ (c : Client) (out : List ℕ) (told : (cancelling c out).outcome.answer
   pub cancel_leaves : StaysBeside after
   unfolding sending done cancel_row step_of going cancelled with_cancels cancel_armed
   cancel_leaves =
-      subst (λ (s : Step Outcome). StaysBeside s.outcome.client) (sym cancel_acts)
+      subst (λ (s : Step Outcome). StaysBeside s.outcome.machine) (sym cancel_acts)
       (record {
         state = refl;
         activity = refl;
@@ -322,7 +322,7 @@ module _ (c : Client) (datagram slots out : List ℕ) (told : (arriving c datagr
       let a = cancel_ack_accepted c datagram slots out told typed in
       (answers_last c (length slots) (length out) datagram a.taken, a.taken.judged.can.armed)
 
-  pub cancel_ack_disarms : (arriving c datagram slots out).outcome.client ≡ cancel_disarmed c
+  pub cancel_ack_disarms : (arriving c datagram slots out).outcome.machine ≡ cancel_disarmed c
   unfolding acted sending done step_of going
   cancel_ack_disarms =
-      ap (λ (x : Arrival Outcome). x.outcome.client) (cancel_ack_accepted c datagram slots out told typed).does
+      ap (λ (x : Arrival Outcome). x.outcome.machine) (cancel_ack_accepted c datagram slots out told typed).does

@@ -28,7 +28,7 @@ use Rattle.reader.specs.Reading.{reading}
 use Rattle.writer.proofs.RoundTrip.{body_short}
 use Rattle.client.specs.declared.records.Client.{Client}
 use Rattle.client.specs.declared.judge.Row.{Row}
-use Rattle.client.specs.declared.Outcome.{Outcome}
+use Rattle.client.specs.Outcome.{Outcome}
 use Rattle.client.specs.records.States.{is_queued}
 use Rattle.client.specs.records.Record.{with_outgoing, with_incoming, with_waits, with_cancels}
 use Rattle.client.specs.judge.Rows.{transmit_row, cancel_row}
@@ -44,40 +44,40 @@ use Rattle.client.proofs.Accepting.{start_accepted, transmit_accepted, cancel_ac
 -- A start gives the next number of a record whose number is a u32,
 module _ (c : Client) (call : Call) (n : ℕ) (told : (starting c call n).answer ≡ Done) where
   pub start-number : c.number < 4294967296
-      → (starting c call n).client.number ≡ choose (is_queued c.state) 0 (c.number + 1)
+      → (starting c call n).machine.number ≡ choose (is_queued c.state) 0 (c.number + 1)
   unfolding started
   start-number small =
       let a = start_accepted c call n told in
-      ap (λ (o : Outcome). o.client.number) a.does ∙ a.taken.is
+      ap (λ (o : Outcome). o.machine.number) a.does ∙ a.taken.is
       ∙ next_number_lem (is_queued c.state) c.number small a.taken.numbered
 
   -- and the message's fragment count.
-  pub start-count : (starting c call n).client.outgoing.count ≡ fragments n
+  pub start-count : (starting c call n).machine.outgoing.count ≡ fragments n
   unfolding started started_message
   start-count =
       let a = start_accepted c call n told in
-      ap (λ (o : Outcome). o.client.outgoing.count) a.does ∙ message-count n 0 a.taken.short
+      ap (λ (o : Outcome). o.machine.outgoing.count) a.does ∙ message-count n 0 a.taken.short
 
 -- A transmit counts one fragment more as sent.
 pub transmit-sent : (c : Client) (message out : List ℕ) → (transmitting c message out).outcome.answer ≡ Done
-    → (transmitting c message out).outcome.client.outgoing.sent ≡ c.outgoing.sent + 1
+    → (transmitting c message out).outcome.machine.outgoing.sent ≡ c.outgoing.sent + 1
 unfolding sending done transmit_row step_of going
 transmit-sent c message out told =
     let a = transmit_accepted c message out told in
     let j = subst (Judged c) a.taken.is a.taken.judged in
-    ap (λ (s : Step Outcome). s.outcome.client.outgoing.sent) a.does
-    ∙ ap (λ (row : Row). (step_of row c).client.outgoing.sent) a.taken.is
+    ap (λ (s : Step Outcome). s.outcome.machine.outgoing.sent) a.does
+    ∙ ap (λ (row : Row). (step_of row c).machine.outgoing.sent) a.taken.is
     ∙ transmitted_one_more c j.kept j.can.row _
 
 -- A local cancel raises the cancel number of a record, a u32, by one.
 pub cancel-number : (c : Client) (out : List ℕ) → c.cancels < 4294967296 → (cancelling c out).outcome.answer ≡ Done
-    → (cancelling c out).outcome.client.cancels ≡ c.cancels + 1
+    → (cancelling c out).outcome.machine.cancels ≡ c.cancels + 1
 unfolding sending done cancel_row step_of going cancelled with_cancels
 cancel-number c out small told =
     let a = cancel_accepted c out told in
     let j = subst (Judged c) a.taken.is a.taken.judged in
-    ap (λ (s : Step Outcome). s.outcome.client.cancels) a.does
-    ∙ ap (λ (row : Row). (step_of row c).client.cancels) a.taken.is
+    ap (λ (s : Step Outcome). s.outcome.machine.cancels) a.does
+    ∙ ap (λ (row : Row). (step_of row c).machine.cancels) a.taken.is
     ∙ next_cancel c.cancels small j.can.numbered
 
 -- An arriving datagram.
@@ -90,12 +90,12 @@ module _ (c : Client) (datagram slots out : List ℕ) (told : (arriving c datagr
 
   -- After a fack, type 9, acknowledged is the larger of itself and what the fack acknowledges.
   pub fack_acknowledges : h.kind ≡ 9
-      → (arriving c datagram slots out).outcome.client.outgoing.acknowledged
+      → (arriving c datagram slots out).outcome.machine.outgoing.acknowledged
       ≡ max c.outgoing.acknowledged (choose (eqb h.fragment 65535) 0 (h.fragment + 1))
   unfolding acted sending done acknowledged_by step_of going acknowledged with_outgoing acknowledged_to
   fack_acknowledges typed =
       let a = fack_accepted c datagram slots out told typed in
-      ap (λ (x : Arrival Outcome). x.outcome.client.outgoing.acknowledged) a.does
+      ap (λ (x : Arrival Outcome). x.outcome.machine.outgoing.acknowledged) a.does
 
   -- A fault, type 3, or reject, type 6, has the 4 bytes of its status.
   pub failure_formed : (h.kind ≡ 3) ⊎ (h.kind ≡ 6) → 4 ≤ length body
@@ -110,18 +110,18 @@ module _ (c : Client) (datagram slots out : List ℕ) (told : (arriving c datagr
 
   -- After a response, type 2, its slot has the length of its body,
   pub response-length : h.kind ≡ 2
-      → (arriving c datagram slots out).outcome.client.incoming
+      → (arriving c datagram slots out).outcome.machine.incoming
       ≡ stored c.incoming h.fragment (length body) (is_last h.flags1)
   unfolding acted sending done step_of response_plan put_of with_incoming with_waits
   response-length typed =
       let a = response_accepted c datagram slots out told typed in
-      ap (λ (x : Arrival Outcome). x.outcome.client.incoming) a.does
+      ap (λ (x : Arrival Outcome). x.outcome.machine.incoming) a.does
       ∙ ap (λ (k : ℕ). stored c.incoming h.fragment k (is_last h.flags1))
       (body-length body (body_short datagram a.taken.read))
 
   -- and is held,
   pub response-held : h.kind ≡ 2
-      → held (arriving c datagram slots out).outcome.client.incoming h.fragment ≡ true
+      → held (arriving c datagram slots out).outcome.machine.incoming h.fragment ≡ true
   unfolding put_of
   response-held typed =
       let a = response_accepted c datagram slots out told typed in

@@ -25,12 +25,11 @@ use Rattle.writer.proofs.RoundTrip.{Fits}
 use Rattle.client.specs.declared.records.Client.{Client}
 use Rattle.client.specs.declared.judge.Row.{Row}
 use Rattle.client.specs.declared.judge.Row.TheVariants.{Response}
-use Rattle.client.specs.declared.step.Plan.{Plan}
+use Rattle.client.specs.step.Plan.{Plan, going, failed}
 use Rattle.client.specs.declared.step.Send.{Send}
 use Rattle.client.specs.declared.step.Send.TheVariants.{Nothing, Fack as SendFack}
-use Rattle.client.specs.declared.Outcome.{Outcome}
+use Rattle.client.specs.Outcome.{Outcome}
 use Rattle.client.specs.records.Record.{waiting, ack_pending, unarmed, with_incoming, with_waits}
-use Rattle.client.specs.step.Plan.{going, failed}
 use Rattle.client.specs.step.Steps.{put_record, received, fack_for, response_plan, working_plan, step_of}
 use Rattle.client.specs.Sending.{pdu_header, sent_out}
 use Rattle.client.specs.Machine.{done, sending, acted, arriving}
@@ -52,12 +51,12 @@ others_send c h little body other =
 -- What goes out where a plan is acted on is what it sends, of its record.
 posts : (plan : Plan) (body slots out : List ℕ) (a : Arrival Outcome) (send : Send) → a ≡ acted plan body slots out
     → plan.send ≡ send
-    → record { sent = a.outcome.sent; out = a.out } ≡ sent_out send a.outcome.client [] out
+    → record { sent = a.outcome.sent; out = a.out } ≡ sent_out send a.outcome.machine [] out
 unfolding acted sending done
 posts plan body slots out a send does e =
     ap (λ (x : Arrival Outcome). record { sent = x.outcome.sent; out = x.out }) does
-    ∙ ap (λ (s : Send). sent_out s plan.client [] out) e
-    ∙ ap (λ (x : Arrival Outcome). sent_out send x.outcome.client [] out) (sym does)
+    ∙ ap (λ (s : Send). sent_out s plan.machine [] out) e
+    ∙ ap (λ (x : Arrival Outcome). sent_out send x.outcome.machine [] out) (sym does)
 
 -- A response's row leaves what a header is made of.
 header_stays : (c : Client) (all marked : Bool) (m : Incoming) (kind flags1 f : ℕ)
@@ -74,7 +73,7 @@ module _ (c : Client) (datagram slots out : List ℕ) (told : (arriving c datagr
 
   -- The record that the datagram leaves,
   abbrev after : Client
-  after = (arriving c datagram slots out).outcome.client
+  after = (arriving c datagram slots out).outcome.machine
 
   -- and the PDU that goes out.
   abbrev sent : Sent
@@ -105,12 +104,12 @@ module _ (c : Client) (datagram slots out : List ℕ) (told : (arriving c datagr
       let a = response typed in
       a.taken.judged.can.count
       ∙ ap contiguous
-      (sym (ap (λ (x : Arrival Outcome). x.outcome.client.incoming) a.does ∙ response_holds put c))
+      (sym (ap (λ (x : Arrival Outcome). x.outcome.machine.incoming) a.does ∙ response_holds put c))
 
   header_kept : h.kind ≡ 2 → (f : ℕ) → pdu_header 9 0 f after ≡ pdu_header 9 0 f c
   unfolding acted sending done step_of response_plan
   header_kept typed f =
-      ap (λ (x : Arrival Outcome). pdu_header 9 0 f x.outcome.client) (response typed).does
+      ap (λ (x : Arrival Outcome). pdu_header 9 0 f x.outcome.machine) (response typed).does
       ∙ header_stays c put.complete c.call.idempotent (put_into c.incoming put) 9 0 f
 
   -- A response, type 2, that is taken, with no fack, bit 3, clear and fragment, bit 2, set: a fack goes out, which

@@ -42,7 +42,7 @@ is_fack (SendCancel n) = false
 
 -- What every other row leaves.
 pub record PutsNone (row : Row) (c : Client) : Type 0 where
-  pub held : (step_of row c).client.incoming ≡ c.incoming
+  pub held : (step_of row c).machine.incoming ≡ c.incoming
   pub stored : (step_of row c).store ≡ Unstored
   pub unfacked : is_fack (step_of row c).send ≡ false
 
@@ -75,6 +75,6 @@ unfolding cancel_row
 cancel_puts_none c = refl
 
 -- After a response what its put makes is held.
-pub response_holds : (p : Fragment) (c : Client) → (step_of (Response p) c).client.incoming ≡ put_into c.incoming p
+pub response_holds : (p : Fragment) (c : Client) → (step_of (Response p) c).machine.incoming ≡ put_into c.incoming p
 unfolding step_of response_plan with_incoming with_waits
 response_holds p c = refl

@@ -145,7 +145,7 @@ module _ (c : Client) (kept : sound c ≡ true) where
       unarmed-sound c (untimed_told c kept (ap is_queued (ack_pending_state c.state confirms))) Complete refl refl
 
   -- To FAULT from any state but QUEUED.
-  pub failed-sound : (notice : Notice) → is_queued c.state ≡ false → sound (failed c notice).client ≡ true
+  pub failed-sound : (notice : Notice) → is_queued c.state ≡ false → sound (failed c notice).machine ≡ true
   unfolding failed going is_queued is_sending
   failed-sound notice e = unarmed-sound c (untimed_told c kept e) Fault refl refl
 
@@ -180,7 +180,7 @@ module _ (c : Client) (kept : sound c ≡ true) where
   -- complete.
   pub response-sound : (p : Fragment) → is_active c.state ≡ true → incoming_sound (put_into c.incoming p) ≡ true
       → (both p.complete c.call.idempotent ≡ false → used_up c.tickets ≡ false)
-      → sound (response_plan c p).client ≡ true
+      → sound (response_plan c p).machine ≡ true
   unfolding response_plan put_record with_incoming with_waits waiting ack_pending unarmed both choose is_queued is_sending is_waiting
   response-sound p active right free = by_tests p.complete c.call.idempotent free
     where
@@ -212,7 +212,7 @@ module _ (c : Client) (kept : sound c ≡ true) where
 
   -- Working: where a ticket is left.
   pub working-sound : is_dispatched c.state ≡ true → used_up c.tickets ≡ false
-      → sound (working_plan c).client ≡ true
+      → sound (working_plan c).machine ≡ true
   unfolding working_plan going with_waits is_queued is_waiting
   working-sound dispatched free =
       let old = untimed_told c kept (ap is_queued (dispatched_state c.state dispatched)) in

@@ -20,7 +20,7 @@ use Rattle.client.specs.declared.judge.Row.{Row}
 use Rattle.client.specs.judge.Verdict.{StartVerdict, Refuse as RefuseStart, Go as GoStart}
 use Rattle.client.specs.declared.step.Send.{Send}
 use Rattle.client.specs.declared.step.Send.TheVariants.{Nothing, Request, Ping as SendPing, Ack as AckPdu, Fack as SendFack, Cancel as SendCancel}
-use Rattle.client.specs.declared.Outcome.{Outcome}
+use Rattle.client.specs.Outcome.{Outcome}
 use Rattle.client.specs.judge.Refusals.{start_verdict}
 use Rattle.client.specs.step.Steps.{step_of}
 use Rattle.client.specs.Sending.{pdu_header, request_sent, sent_out}
@@ -65,18 +65,18 @@ start_unsent c call n = by_verdict (start_verdict c n)
 
 -- No fack goes out where a row puts nothing:
 step_unfacked : (c : Client) (row : Row) (lent out : List ℕ) (s : Step Outcome) → s ≡ sending (step_of row c) lent out
-    → puts row ≡ false → length lent ≤ body_size → length out ≡ pdu_size → Sized (pdu_header 0 0 0 s.outcome.client)
+    → puts row ≡ false → length lent ≤ body_size → length out ≡ pdu_size → Sized (pdu_header 0 0 0 s.outcome.machine)
     → Unfacked s.outcome.sent s.out
 unfolding sending done
 step_unfacked c row lent out s e none short room z =
     let plan = step_of row c in
     subst (λ (x : Step Outcome). Unfacked x.outcome.sent x.out) (sym e)
-    (unfacked plan.client lent out short room plan.send (puts_none row c none).unfacked
-    (subst (λ (x : Step Outcome). Sized (pdu_header 0 0 0 x.outcome.client)) e z))
+    (unfacked plan.machine lent out short room plan.send (puts_none row c none).unfacked
+    (subst (λ (x : Step Outcome). Sized (pdu_header 0 0 0 x.outcome.machine)) e z))
 
 -- at a transmit,
 pub transmit_unfacked : (c : Client) (message out : List ℕ) → (transmitting c message out).outcome.answer ≡ Done
-    → Sized (pdu_header 0 0 0 (transmitting c message out).outcome.client)
+    → Sized (pdu_header 0 0 0 (transmitting c message out).outcome.machine)
     → Unfacked (transmitting c message out).outcome.sent (transmitting c message out).out
 transmit_unfacked c message out told =
     let a = transmit_accepted c message out told in
@@ -86,7 +86,7 @@ transmit_unfacked c message out told =
 
 -- at a local cancel,
 pub cancel_unfacked : (c : Client) (out : List ℕ) → (cancelling c out).outcome.answer ≡ Done
-    → Sized (pdu_header 0 0 0 (cancelling c out).outcome.client)
+    → Sized (pdu_header 0 0 0 (cancelling c out).outcome.machine)
     → Unfacked (cancelling c out).outcome.sent (cancelling c out).out
 cancel_unfacked c out told =
     let a = cancel_accepted c out told in
@@ -96,7 +96,7 @@ cancel_unfacked c out told =
 -- and at a timer.
 pub timer_unfacked : (c : Client) (kind : TimerKind) (ticket : ℕ) (out : List ℕ)
     → (timing c kind ticket out).outcome.answer ≡ Done
-    → Sized (pdu_header 0 0 0 (timing c kind ticket out).outcome.client)
+    → Sized (pdu_header 0 0 0 (timing c kind ticket out).outcome.machine)
     → Unfacked (timing c kind ticket out).outcome.sent (timing c kind ticket out).out
 timer_unfacked c kind ticket out told =
     let a = timer_accepted c kind ticket out told in

@@ -10,9 +10,8 @@ ghost use Rattle.std.specs.Prelude.{◌≡◌, []};
 ghost use Rattle.calls.specs.Sent.{Posted};
 ghost use Rattle.client.specs.Sending.{pdu_header, request_sent, empty_sent, fack_sent, cancel_sent, sent_out};
 ghost use Rattle.calls.specs.Events.{Stepped, Arrived};
-ghost use Rattle.client.specs.Machine.{refused as refused_outcome, done as done_outcome, starting, sending, step_by, transmitting, timing, cancelling, acted, arriving, handed_up_of};
+ghost use Rattle.client.specs.Machine.{starting, sending, step_by, transmitting, timing, cancelling, acted, arriving, handed_up_of};
 
-use answers::{Answer, Refusal};
 use calls::{Call, Notice, Sent};
 use judge::{StartVerdict, Verdict};
 use pdu::Header;
@@ -20,13 +19,7 @@ pub use records::{Client, State, TimerKind, fresh, is_queued, is_sending, is_sou
 use step::{Plan, Send};
 
 // What an event gives back.
-#[derive(Clone, Copy)]
-pub struct Outcome {
-    pub answer: Answer,
-    pub client: Client,
-    pub sent: Sent,
-    pub notice: Notice,
-}
+pub type Outcome = calls::Outcome<Client>;
 
 // The header of a PDU of the call that the record is in.
 fn header(kind: u8, flags1: u8, fragment: u16, c: Client) -> Header
@@ -92,41 +85,15 @@ fn send_out(send: Send, c: Client, lent: &[u8], out: &mut [u8]) -> Sent
     }
 }
 
-// A refusal: the record stays, nothing is sent or told.
-fn refused(c: Client, refusal: Refusal) -> Outcome
-    ensures { result ≡ refused_outcome c refusal }
-{
-    Outcome {
-        answer: Err(refusal),
-        client: c,
-        sent: None,
-        notice: Notice::Nothing,
-    }
-}
-
-// What a row's plan gives back with what was sent.
-fn done(plan: Plan, sent: Sent) -> Outcome
-    ensures { result ≡ done_outcome plan sent }
-{
-    let client = plan.client;
-    let notice = plan.notice;
-    Outcome {
-        answer: Ok(()),
-        client,
-        sent,
-        notice,
-    }
-}
-
 // Start: a call with a message of this length.
 pub fn start(c: Client, call: Call, length: u32) -> Outcome
     ensures { result ≡ starting c call length }
 {
     match judge::start(c, length) {
-        Err(refusal) => refused(c, refusal),
-        Ok(number) => Outcome {
+        Err(refusal) => calls::refused(c, refusal),
+        Ok(number) => calls::Outcome {
             answer: Ok(()),
-            client: step::start(c, number, call, length),
+            machine: step::start(c, number, call, length),
             sent: None,
             notice: Notice::Nothing,
         },
@@ -137,9 +104,9 @@ pub fn start(c: Client, call: Call, length: u32) -> Outcome
 fn send(plan: Plan, lent: &[u8], out: &mut [u8]) -> Outcome
     ensures { Stepped (sending plan lent.now out.old) result out.new }
 {
-    let client = plan.client;
+    let client = plan.machine;
     let send = plan.send;
-    done(plan, send_out(send, client, lent, out))
+    calls::done(plan, send_out(send, client, lent, out))
 }
 
 // An event with a PDU buffer, judged.
@@ -147,7 +114,7 @@ fn act(verdict: Verdict, c: Client, lent: &[u8], out: &mut [u8]) -> Outcome
     ensures { Stepped (step_by verdict c lent.now out.old) result out.new }
 {
     match verdict {
-        Err(refusal) => refused(c, refusal),
+        Err(refusal) => calls::refused(c, refusal),
         Ok(row) => send(step::step(row, c), lent, out),
     }
 }
@@ -194,7 +161,7 @@ pub fn arrive(c: Client, datagram: &[u8], slots: &mut [u8], out: &mut [u8]) -> O
     ensures { Arrived (arriving c datagram.now slots.old out.old) result slots.new out.new }
 {
     match judge::arrival(c, slots.len(), out.len(), datagram) {
-        Err(refusal) => refused(c, refusal),
+        Err(refusal) => calls::refused(c, refusal),
         Ok(row) => store_and_send(step::step(row, c), reader::body(datagram), slots, out),
     }
 }

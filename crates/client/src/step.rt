@@ -22,21 +22,15 @@ pub enum Send {
     Cancel(u32),
 }
 
-// What a row is to do: the next record, the PDU to send, the notice, and what of an arriving body is stored.
-#[derive(Clone, Copy)]
-pub struct Plan {
-    pub client: Client,
-    pub send: Send,
-    pub notice: Notice,
-    pub store: Stored,
-}
+// What a row is to do.
+pub type Plan = calls::Plan<Client, Send>;
 
 // A row that puts no fragment.
 fn going(c: Client, send: Send, notice: Notice) -> Plan
     ensures { result ≡ going_plan c send notice }
 {
-    Plan {
-        client: c,
+    calls::Plan {
+        machine: c,
         send,
         notice,
         store: None,
@@ -133,8 +127,8 @@ fn response(c: Client, p: Fragment) -> Plan
     let call = c.call;
     let m = c.incoming;
     let next = put_record(p.complete, call.idempotent, c);
-    Plan {
-        client: received(next, fragments::put_into(m, p)),
+    calls::Plan {
+        machine: received(next, fragments::put_into(m, p)),
         send: fack_for(p.facked, p.serial, p.count),
         notice: put_notice(p.complete, p.count),
         store: Some(p.number),

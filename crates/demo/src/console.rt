@@ -119,7 +119,7 @@ impl Console {
     // After the event of that number. The record is kept whatever the answer was: a refusal gives it
     // back as it was.
     fn after(self, ticket: u64, number: u64, outcome: Outcome) -> Console {
-        let client = outcome.client;
+        let client = outcome.machine;
         let notice = outcome.notice;
         let sent = outcome.sent;
         let wait = client.wait;

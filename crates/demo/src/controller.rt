@@ -102,7 +102,7 @@ impl Controller {
     // After the event of that number. The record is kept whatever the answer was: a refusal gives it
     // back as it was.
     fn after(self, ticket: u64, number: u64, outcome: Outcome) -> Controller {
-        let server = outcome.server;
+        let server = outcome.machine;
         let notice = outcome.notice;
         let sent = outcome.sent;
         let resend = server.resend;

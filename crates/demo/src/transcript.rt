@@ -203,7 +203,7 @@ pub(crate) fn print_client(
     let reading = reader::read(datagram);
     let header = reading.header;
     let kind = header.kind;
-    let client = outcome.client;
+    let client = outcome.machine;
     let answer = outcome.answer;
     let sent = outcome.sent;
     let notice = outcome.notice;
@@ -231,7 +231,7 @@ pub(crate) fn print_server(
     let reading = reader::read(datagram);
     let header = reading.header;
     let kind = header.kind;
-    let server = outcome.server;
+    let server = outcome.machine;
     let answer = outcome.answer;
     let sent = outcome.sent;
     let notice = outcome.notice;

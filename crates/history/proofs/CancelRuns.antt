@@ -106,10 +106,10 @@ local_past (AcceptCancel n) s can e = absurd (false≢true (sym e))
 local_past (DeclineCancel n) s can e = absurd (false≢true (sym e))
 
 step_past : (v : Verdict) (s : Server) (lent out : List ℕ) (row : Row) → v ≡ Go row → CanTake row s blank → arrives row ≡ false
-    → past (step_by v s lent out).outcome.server.state ≡ true
+    → past (step_by v s lent out).outcome.machine.state ≡ true
 unfolding step_by sending done_with
 step_past v s lent out row is can e =
-    subst (λ (x : Verdict). past (step_by x s lent out).outcome.server.state ≡ true) (sym is) (local_past row s can e)
+    subst (λ (x : Verdict). past (step_by x s lent out).outcome.machine.state ≡ true) (sym is) (local_past row s can e)
 
 -- A reply,
 reply_passes : (s : Server) (n : ℕ) → (replying s n).answer ≡ Done → past (replying s n).server.state ≡ true
@@ -123,7 +123,7 @@ reply_passes s n done =
 
 -- a transmit,
 transmit_past : (s : Server) (message out : List ℕ) → (transmitting s message out).outcome.answer ≡ Done
-    → past (transmitting s message out).outcome.server.state ≡ true
+    → past (transmitting s message out).outcome.machine.state ≡ true
 unfolding transmitting
 transmit_past s message out done =
     let taken = transmit_accepted s message out done in
@@ -133,7 +133,7 @@ transmit_past s message out done =
 
 -- a fault
 fault_past : (s : Server) (status : ℕ) (out : List ℕ) → (faulting s status out).outcome.answer ≡ Done
-    → past (faulting s status out).outcome.server.state ≡ true
+    → past (faulting s status out).outcome.machine.state ≡ true
 unfolding faulting
 fault_past s status out done =
     let taken = fault_accepted s status out done in
@@ -143,7 +143,7 @@ fault_past s status out done =
 
 -- and the timer.
 timer_past : (s : Server) (ticket : ℕ) (out : List ℕ) → (timing s ticket out).outcome.answer ≡ Done
-    → past (timing s ticket out).outcome.server.state ≡ true
+    → past (timing s ticket out).outcome.machine.state ≡ true
 unfolding timing
 timer_past s ticket out done =
     let taken = timer_accepted s ticket out done in

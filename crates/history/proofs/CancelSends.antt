@@ -115,7 +115,7 @@ cancels_sent w inv out done =
     let uuids = client_uuids c w.client.slots w.books.starts w.books.replies inv.client begun in
     let small : n < 4294967296 = omega arith in
     let armed = armed_then c.cancel c.tickets (cancelled c n).cancel (cancelled c n).tickets
-    (subst (λ (v : Verdict). CancelAfter c.cancel c.tickets (step_by v c [] out).outcome.client.cancel (step_by v c [] out).outcome.client.tickets) is
+    (subst (λ (v : Verdict). CancelAfter c.cancel c.tickets (step_by v c [] out).outcome.machine.cancel (step_by v c [] out).outcome.machine.tickets) is
     (cancel-arms c out done)) in
     subst
     (λ (v : Verdict).

@@ -91,7 +91,7 @@ some_start w inv begun = by_list w.books.starts (inv.client.current begun).start
 pub cancel_counts : (w : World) (out : List ℕ) → Inv w → CancelsInv w.client.machine w.books.starts w.books.cancels
     → (cancelling w.client.machine out).outcome.answer ≡ Done
     → let r = cancelling w.client.machine out in
-    CancelsInv r.outcome.client w.books.starts
+    CancelsInv r.outcome.machine w.books.starts
     (cancelled_after w.books.cancels (client_turn_of r.outcome r.out w.client.slots) (last_start w.books.starts))
 unfolding cancel_row
 cancel_counts w out inv cancels done =
@@ -104,9 +104,9 @@ cancel_counts w out inv cancels done =
     let small = cancels.small some in
     let raised = cancel-number c out small done in
     let left = j.can.numbered in
-    subst (λ (l : List Cancelled). CancelsInv r.outcome.client w.books.starts l)
+    subst (λ (l : List Cancelled). CancelsInv r.outcome.machine w.books.starts l)
     (sym (cancelled_more w.books.cancels r.outcome r.out w.client.slots (last_start w.books.starts) done))
-    (cancels_cancelled c r.outcome.client w.books.starts w.books.cancels some raised (omega (arith, left)) cancels)
+    (cancels_cancelled c r.outcome.machine w.books.starts w.books.cancels some raised (omega (arith, left)) cancels)
 
 -- The states that name CANCEL are the active ones.
 pub named_cancel : (s : State) → names_cancel s ≡ is_active s

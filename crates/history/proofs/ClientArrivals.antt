@@ -176,7 +176,7 @@ module _ (w : World) (inv : Inv w) (o : ℕ) (h : Header) (little : Bool) (body 
   -- and what is known of the client stays known,
   response_inv : (p : Fragment) → p ≡ put_of w.client.machine.incoming h.flags1 h.serial h.fragment (body_length body) → h.kind ≡ 2
       → Judged w.client.machine (ResponseRow p)
-      → ClientInv (response_plan w.client.machine p).client (filled p.number body w.client.slots) w.books.starts w.books.replies
+      → ClientInv (response_plan w.client.machine p).machine (filled p.number body w.client.slots) w.books.starts w.books.replies
   unfolding response_plan with_incoming with_waits step_of
   response_inv p is kind j =
       let c = w.client.machine in

@@ -57,18 +57,18 @@ module _ (c : Client) where
   row_tells (Fack count) = tt
   row_tells CancelAck = tt
 
-  start_tells : (v : StartVerdict) (call : Call) (n : ℕ) → ClientTells (start_by v c call n).client.state (start_by v c call n).notice
+  start_tells : (v : StartVerdict) (call : Call) (n : ℕ) → ClientTells (start_by v c call n).machine.state (start_by v c call n).notice
   unfolding start_by refused
   start_tells (RefuseStart r) call n = tt
   start_tells (GoStart number) call n = tt
 
-  step_tells : (v : Verdict) (lent out : List ℕ) → ClientTells (step_by v c lent out).outcome.client.state (step_by v c lent out).outcome.notice
+  step_tells : (v : Verdict) (lent out : List ℕ) → ClientTells (step_by v c lent out).outcome.machine.state (step_by v c lent out).outcome.notice
   unfolding step_by refused sending done
   step_tells (Refuse r) lent out = tt
   step_tells (Go row) lent out = row_tells row
 
   arrival_tells : (v : Verdict) (body slots out : List ℕ)
-      → ClientTells (arrival_by v c body slots out).outcome.client.state (arrival_by v c body slots out).outcome.notice
+      → ClientTells (arrival_by v c body slots out).outcome.machine.state (arrival_by v c body slots out).outcome.notice
   unfolding arrival_by refused acted sending done
   arrival_tells (Refuse r) body slots out = tt
   arrival_tells (Go row) body slots out = row_tells row

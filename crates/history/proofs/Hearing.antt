@@ -203,7 +203,7 @@ module _ (s : Server) (h : Header) (little : Bool) (body : List ℕ) (collecting
 -- So does an arriving datagram that is answered 0.
 pub arrive_hears : (s : Server) (datagram slots out : List ℕ) → (s.state ≡ Collect → s.seen ≡ 0)
     → (arriving s datagram slots out).outcome.answer ≡ Done
-    → Hearing s (arriving s datagram slots out).outcome.server (arriving s datagram slots out).outcome.notice
+    → Hearing s (arriving s datagram slots out).outcome.machine (arriving s datagram slots out).outcome.notice
 unfolding arriving arrival_by acted sending done_with
 arrive_hears s datagram slots out collecting done =
     let r = reading datagram in
@@ -211,7 +211,7 @@ arrive_hears s datagram slots out collecting done =
     let known = arrive_taken s (length slots) (length out) datagram taken.row taken.is in
     subst
     (λ (v : Verdict).
-    Hearing s (arrival_by v s r.header (body_of datagram) slots out).outcome.server (arrival_by v s r.header (body_of datagram) slots out).outcome.notice)
+    Hearing s (arrival_by v s r.header (body_of datagram) slots out).outcome.machine (arrival_by v s r.header (body_of datagram) slots out).outcome.notice)
     (sym taken.is)
     (row_hears s r.header r.little (body_of datagram) collecting taken.row known.told)
 
@@ -220,7 +220,7 @@ pub told_asked : (w : World) (p : SentPdu) (out : List ℕ) → Inv w → Cancel
     → In p w.client.sent
     → let r = arriving w.server.machine p.bytes w.server.slots out in
     r.outcome.notice ≡ CancelTold
-    → (r.outcome.server.seen ≡ cancel_of p)
+    → (r.outcome.machine.seen ≡ cancel_of p)
     × AskedFor w.books.cancels w.books.dispatches (heard_entry w.books.dispatches (of_arrival w p Done))
 unfolding is_fresh
 told_asked w p out inv cancels sent told =

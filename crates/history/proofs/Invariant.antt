@@ -23,8 +23,8 @@ use Rattle.server.specs.declared.records.State.TheVariants.{Idle as IdleState, C
 use Rattle.server.specs.declared.records.Server.{Server}
 use Rattle.server.specs.records.States.{is_fresh}
 use Rattle.server.specs.records.Rules.{sound as server_sound}
-use Rattle.client.specs.declared.Outcome.{Outcome as ClientOutcome}
-use Rattle.server.specs.declared.Outcome.{Outcome as ServerOutcome}
+use Rattle.client.specs.Outcome.{Outcome as ClientOutcome}
+use Rattle.server.specs.Outcome.{Outcome as ServerOutcome}
 use Rattle.history.specs.Lists.{In, OfLast}
 use Rattle.history.specs.World.{call_number, Started, Dispatched, Replied, Completed, Cancelled, SentPdu, World}
 use Rattle.history.specs.Steps.{dispatch_entry, last_start, last_dispatched, client_turn_of, server_turn_of, started_after, cancelled_after, replied_after, Subject, of_record, client_world, server_world}

@@ -23,9 +23,9 @@ use Rattle.client.proofs.Refusals.{StepUntouched as ClientStepUntouched, start-r
 use Rattle.calls.specs.Events.{Step}
 use Rattle.client.specs.declared.records.Client.{Client}
 use Rattle.client.specs.records.Named.{named_timer}
-use Rattle.client.specs.declared.Outcome.{Outcome as ClientOutcome}
+use Rattle.client.specs.Outcome.{Outcome as ClientOutcome}
 use Rattle.server.specs.declared.records.Server.{Server}
-use Rattle.server.specs.declared.Outcome.{Outcome as ServerOutcome}
+use Rattle.server.specs.Outcome.{Outcome as ServerOutcome}
 use Rattle.server.proofs.Judging.{timer_taken as server-timer-taken}
 use Rattle.server.proofs.Accepting.{timer_accepted as server-timer-accepted}
 use Rattle.server.proofs.Refusals.{StepUntouched as ServerStepUntouched, reply-refused, transmit-refused as server-transmit-refused, fault-refused, timer-refused as server-timer-refused, arrive-refused as server-arrive-refused}
@@ -75,12 +75,12 @@ pub record Untouched {Machine : Type 0} (side : Side Machine) (out : List ℕ) (
 -- What its machine leaves untouched is such a turn: the client,
 client-step-same : (c : Side Client) (out : List ℕ) (s : Step ClientOutcome) → ClientStepUntouched c.machine out s → Untouched c out (client_stepped c s)
 client-step-same c out s u =
-    record { machine = u.outcome.client; slots = refl; sent = u.outcome.sent; notice = u.outcome.notice; buffer = u.buffer }
+    record { machine = u.outcome.machine; slots = refl; sent = u.outcome.sent; notice = u.outcome.notice; buffer = u.buffer }
 
 -- and the server.
 server-step-same : (s : Side Server) (out : List ℕ) (t : Step ServerOutcome) → ServerStepUntouched s.machine out t → Untouched s out (server_stepped s t)
 server-step-same s out t u =
-    record { machine = u.outcome.server; slots = refl; sent = u.outcome.sent; notice = u.outcome.notice; buffer = u.buffer }
+    record { machine = u.outcome.machine; slots = refl; sent = u.outcome.sent; notice = u.outcome.notice; buffer = u.buffer }
 
 -- Every event that is not answered 0 is such: the client's,
 pub client-refused : (c : Side Client) (e : ClientEvent) → ((client_turn c e).answer ≡ Done → ⊥) → Untouched c (client_buffer e) (client_turn c e)
@@ -91,7 +91,7 @@ client-refused c (ClientTransmit message out) other = client-step-same c out _ (
 client-refused c (ClientArrive p lent out) other =
     let same = client-arrive-refused c.machine p.bytes (bytes_lent lent c.slots) out other in
     record {
-      machine = same.outcome.client;
+      machine = same.outcome.machine;
       slots = same_own lent c.slots _ same.stored;
       sent = same.outcome.sent;
       notice = same.outcome.notice;
@@ -105,7 +105,7 @@ pub server-refused : (s : Side Server) (e : ServerEvent) → ((server_turn s e).
 server-refused s (ServerArrive p lent out) other =
     let same = server-arrive-refused s.machine p.bytes (bytes_lent lent s.slots) out other in
     record {
-      machine = same.outcome.server;
+      machine = same.outcome.machine;
       slots = same_own lent s.slots _ same.stored;
       sent = same.outcome.sent;
       notice = same.outcome.notice;

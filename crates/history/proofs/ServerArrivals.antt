@@ -32,8 +32,7 @@ use Rattle.server.specs.judge.Verdict.{Verdict}
 use Rattle.server.specs.records.States.{is_fresh}
 use Rattle.server.specs.records.Record.{with_outgoing}
 use Rattle.server.specs.judge.Rows.{order_for, request_put}
-use Rattle.server.specs.declared.step.Plan.{Plan}
-use Rattle.server.specs.step.Plan.{going}
+use Rattle.server.specs.step.Plan.{Plan, going}
 use Rattle.server.specs.step.Steps.{begun, put_plan, rewinding, acknowledged, heard_plan, step_of}
 use Rattle.server.specs.Machine.{sending, acted, arrival_by, arriving}
 use Rattle.server.proofs.StateLaws.{held_state}
@@ -128,8 +127,8 @@ module _ (w : World) (inv : Inv w) (o : ℕ) (h : Header) (little : Bool) (body 
   of = record { ordinal = o; number = h.number; cancel = cancel; standing = stands }
 
   -- A plan that puts nothing, dispatches nothing and sends no response.
-  quiet_inv : (plan : Plan) → plan.store ≡ Unstored → tells_dispatch plan.notice ≡ false → answers plan.send ≡ false → (of_call plan.send ≡ true → Typed plan.server.call)
-      → ServerInv plan.server w.books.standing w.server.slots w.books.starts w.books.dispatches w.books.replies
+  quiet_inv : (plan : Plan) → plan.store ≡ Unstored → tells_dispatch plan.notice ≡ false → answers plan.send ≡ false → (of_call plan.send ≡ true → Typed plan.machine.call)
+      → ServerInv plan.machine w.books.standing w.server.slots w.books.starts w.books.dispatches w.books.replies
       → (IsRequest h.kind → order_for s h ≡ Equal) → Inv (After plan)
   unfolding storing
   quiet_inv plan unput untold none typed server equal =
@@ -138,9 +137,9 @@ module _ (w : World) (inv : Inv w) (o : ℕ) (h : Header) (little : Bool) (body 
       Inv (server_step w (sending plan h [] out).outcome (sending plan h [] out).out (storing place body w.server.slots) of))
       (sym unput)
       (planned w plan h [] out w.server.slots of inv untold
-      (subst (λ (n : ℕ). ServerInv plan.server n w.server.slots w.books.starts w.books.dispatches w.books.replies) (settles equal) server)
-      (pdu_uuids plan.send plan.server h server.activity sized typed) (omega arith) room
-      (others_known (Response w.books.replies) o plan.send plan.server h [] none))
+      (subst (λ (n : ℕ). ServerInv plan.machine n w.server.slots w.books.starts w.books.dispatches w.books.replies) (settles equal) server)
+      (pdu_uuids plan.send plan.machine h server.activity sized typed) (omega arith) room
+      (others_known (Response w.books.replies) o plan.send plan.machine h [] none))
 
   -- Begin: the request is newer, or repeats an idempotent call.
   begins : Request w.books.starts o h body → RowBegins s h → Begins s w.books.standing o h

@@ -35,7 +35,7 @@ use Rattle.server.proofs.StateLaws.{replying_state}
 use Rattle.server.proofs.RuleLaws.{rules_told, replying_told}
 use Rattle.server.specs.declared.step.Send.{Send}
 use Rattle.server.specs.declared.step.Send.TheVariants.{Nothing, Response as SendResponse, Fault as SendFault, Working, Nocall, Fack, CancelAck}
-use Rattle.server.specs.declared.step.Plan.{Plan}
+use Rattle.server.specs.step.Plan.{Plan}
 use Rattle.server.specs.Sending.{reply_header, echoed, echo_header, response_sent, fault_sent, empty_sent, fack_sent, cancel_ack_sent, sent_out}
 use Rattle.server.specs.Machine.{done, sending}
 use Rattle.history.specs.Lists.{In}
@@ -218,12 +218,12 @@ none_dispatched ds CancelTold d e = refl
 
 -- A world whose server made a step by a plan that dispatches nothing.
 pub planned : (w : World) (plan : Plan) (h : Header) (lent out slots : List ℕ) (of : Subject) → Inv w → tells_dispatch plan.notice ≡ false
-    → ServerInv plan.server of.standing slots w.books.starts w.books.dispatches w.books.replies → SentUuids plan.send plan.server h
-    → Short lent → length out ≡ pdu_size → All (Known IsResponse (Response w.books.replies)) (server_pdus of.ordinal plan.send plan.server h lent)
+    → ServerInv plan.machine of.standing slots w.books.starts w.books.dispatches w.books.replies → SentUuids plan.send plan.machine h
+    → Short lent → length out ≡ pdu_size → All (Known IsResponse (Response w.books.replies)) (server_pdus of.ordinal plan.send plan.machine h lent)
     → Inv (server_step w (sending plan h lent out).outcome (sending plan h lent out).out slots of)
 unfolding sending done
 planned w plan h lent out slots of inv quiet server uuids short room responses =
-    let same = none_dispatched w.books.dispatches plan.notice (dispatch_entry of plan.server slots) quiet in
+    let same = none_dispatched w.books.dispatches plan.notice (dispatch_entry of plan.machine slots) quiet in
     record {
       client = inv.client;
       server = rw same server;
@@ -232,7 +232,7 @@ planned w plan h lent out slots of inv quiet server uuids short room responses =
       acks = inv.acks;
       asked = inv.asked;
       responses =
-          sends_known (Known IsResponse (Response w.books.replies)) plan.send plan.server h lent out w.server.sent of.ordinal uuids short room
+          sends_known (Known IsResponse (Response w.books.replies)) plan.send plan.machine h lent out w.server.sent of.ordinal uuids short room
           inv.responses responses;
       completed = inv.completed;
     }

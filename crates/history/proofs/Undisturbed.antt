@@ -20,7 +20,7 @@ use Rattle.server.specs.declared.records.State.TheVariants.{Idle as IdleState, C
 use Rattle.server.specs.declared.judge.Row.{Row}
 use Rattle.server.specs.declared.judge.Row.TheVariants.{Reply as ReplyRow, TransmitMore, TransmitRepeatable, TransmitHeld, FaultRepeatable, FaultHeld, ResendData, ResendFault, Spend, Begin, Put, Working, Nocall, Rewind, RepeatFault, Acknowledge, HearCancel, AcceptCancel, DeclineCancel}
 use Rattle.server.specs.judge.Verdict.{Verdict, Refuse, Go}
-use Rattle.server.specs.declared.Outcome.{Outcome}
+use Rattle.server.specs.Outcome.{Outcome}
 use Rattle.server.specs.records.Record.{with_seen}
 use Rattle.server.specs.records.States.{is_running, is_replying, is_held}
 use Rattle.server.specs.judge.Refusals.{arrival_verdict}

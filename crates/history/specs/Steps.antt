@@ -12,12 +12,12 @@ use Rattle.calls.specs.Sent.{Sent, Nothing, Pdu, sent_bytes}
 use Rattle.pdu.specs.Header.{body_of}
 use Rattle.reader.specs.Reading.{reading}
 use Rattle.client.specs.declared.records.Client.{Client}
-use Rattle.client.specs.declared.Outcome.{Outcome as ClientOutcome}
+use Rattle.client.specs.Outcome.{Outcome as ClientOutcome}
 use Rattle.client.specs.HandUp.{hands_up as client_hands_up}
 use Rattle.calls.specs.Events.{Step, Arrival}
 use Rattle.client.specs.Machine.{starting, transmitting as client_transmitting, timing as client_timing, cancelling, arriving as client_arriving}
 use Rattle.server.specs.declared.records.Server.{Server}
-use Rattle.server.specs.declared.Outcome.{Outcome as ServerOutcome}
+use Rattle.server.specs.Outcome.{Outcome as ServerOutcome}
 use Rattle.server.specs.HandUp.{hands_up as server_hands_up}
 use Rattle.server.specs.Machine.{replying, transmitting as server_transmitting, timing as server_timing, faulting, arriving as server_arriving}
 use Rattle.history.specs.Lists.{and_then}

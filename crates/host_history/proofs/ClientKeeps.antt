@@ -74,7 +74,7 @@ module _ (c : Client) (fits : FitsClient c) where
   cancel_fits number can = cancels_fits (cancel_armed c) (cancel_armed_fits c fits) number (omega (arith, can.number))
 
   -- the end of a call,
-  failed_fits : (notice : Notice) → FitsClient (failed c notice).client
+  failed_fits : (notice : Notice) → FitsClient (failed c notice).machine
   unfolding failed going
   failed_fits notice = unarmed_fits c fits FaultState
 
@@ -86,7 +86,7 @@ module _ (c : Client) (fits : FitsClient c) where
       (choice_keeps FitsClient idempotent _ _ (unarmed_fits c fits Complete) (ack_pending_fits c fits))
       (waiting_fits c fits ReceiveFrags)
 
-  response_fits : (p : Fragment) → CanRespond c p → FitsClient (response_plan c p).client
+  response_fits : (p : Fragment) → CanRespond c p → FitsClient (response_plan c p).machine
   unfolding response_plan
   response_fits p can =
       incoming_fits _ (put_record_fits p.complete c.call.idempotent) _

@@ -12,12 +12,12 @@ use Rattle.calls.specs.Events.{Step}
 use Rattle.record_bytes.proofs.Keeping.{choice_keeps}
 use Rattle.client.specs.declared.records.TimerKind.TheVariants.{Wait, Ack, Cancel}
 use Rattle.client.specs.records.Rules.{sound as client_sound}
-use Rattle.client.specs.declared.Outcome.{Outcome as ClientOutcome}
+use Rattle.client.specs.Outcome.{Outcome as ClientOutcome}
 use Rattle.client.specs.Machine.{starting, transmitting as client_transmitting, timing as client_timing, cancelling, arriving as client_arriving}
 use Rattle.client.proofs.Refusals.{StepUntouched as ClientUntouched, start-refused, transmit-refused as client-transmit-refused, timer-refused as client-timer-refused, cancel-refused, arrive-refused as client-arrive-refused}
 use Rattle.client_bytes.specs.Layout.{client_in, bytes_of_client}
 use Rattle.server.specs.records.Rules.{sound as server_sound}
-use Rattle.server.specs.declared.Outcome.{Outcome as ServerOutcome}
+use Rattle.server.specs.Outcome.{Outcome as ServerOutcome}
 use Rattle.server.specs.Machine.{replying, transmitting as server_transmitting, timing as server_timing, faulting, arriving as server_arriving}
 use Rattle.server.proofs.Refusals.{StepUntouched as ServerUntouched, reply-refused, transmit-refused as server-transmit-refused, fault-refused, timer-refused as server-timer-refused, arrive-refused as server-arrive-refused}
 use Rattle.server_bytes.specs.Layout.{server_in, bytes_of_server}
@@ -48,7 +48,7 @@ module _ (bytes : List ℕ) where
       → Leaves bytes [] out (client_stepped s bytes)
   unfolding client_result client_kept
   client_step_leaves out s law undone =
-      given-refused s.outcome.answer s.outcome.notice s.outcome.sent (bytes_of_client s.outcome.client)
+      given-refused s.outcome.answer s.outcome.notice s.outcome.sent (bytes_of_client s.outcome.machine)
       bytes [] out [] s.out undone
       (λ (other : s.outcome.answer ≡ Done → ⊥).
       ((law other).outcome.notice, (law other).outcome.sent, refl, (law other).buffer))
@@ -67,7 +67,7 @@ module _ (bytes : List ℕ) where
   unfolding client_result client_kept
   client_arrive_leaves datagram slots out undone =
       let a = client_arriving (client_in bytes) datagram slots out in
-      given-refused a.outcome.answer a.outcome.notice a.outcome.sent (bytes_of_client a.outcome.client)
+      given-refused a.outcome.answer a.outcome.notice a.outcome.sent (bytes_of_client a.outcome.machine)
       bytes slots out a.slots a.out undone
       (λ (other : a.outcome.answer ≡ Done → ⊥).
       let u = client-arrive-refused (client_in bytes) datagram slots out other in
@@ -116,7 +116,7 @@ module _ (bytes : List ℕ) where
       → Leaves bytes [] out (server_stepped s bytes)
   unfolding server_result server_kept
   server_step_leaves out s law undone =
-      given-refused s.outcome.answer s.outcome.notice s.outcome.sent (bytes_of_server s.outcome.server)
+      given-refused s.outcome.answer s.outcome.notice s.outcome.sent (bytes_of_server s.outcome.machine)
       bytes [] out [] s.out undone
       (λ (other : s.outcome.answer ≡ Done → ⊥).
       ((law other).outcome.notice, (law other).outcome.sent, refl, (law other).buffer))
@@ -134,7 +134,7 @@ module _ (bytes : List ℕ) where
   unfolding server_result server_kept
   server_arrive_leaves datagram slots out undone =
       let a = server_arriving (server_in bytes) datagram slots out in
-      given-refused a.outcome.answer a.outcome.notice a.outcome.sent (bytes_of_server a.outcome.server)
+      given-refused a.outcome.answer a.outcome.notice a.outcome.sent (bytes_of_server a.outcome.machine)
       bytes slots out a.slots a.out undone
       (λ (other : a.outcome.answer ≡ Done → ⊥).
       let u = server-arrive-refused (server_in bytes) datagram slots out other in

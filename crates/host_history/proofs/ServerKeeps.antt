@@ -20,7 +20,7 @@ use Rattle.server.specs.declared.judge.Row.{Row}
 use Rattle.server.specs.declared.judge.Row.TheVariants.{Reply, TransmitMore, TransmitRepeatable, TransmitHeld, FaultRepeatable, FaultHeld, ResendData, ResendFault, Spend, Begin, Put, Working, Nocall, Rewind, RepeatFault, Acknowledge, HearCancel, AcceptCancel, DeclineCancel}
 use Rattle.server.specs.step.Plan.{going}
 use Rattle.server.specs.step.Steps.{answered, transmitted, repeatable, rewinding, call_of, begun, put_state, put_plan, acknowledged, heard_plan, step_of}
-use Rattle.server.specs.declared.Outcome.{Outcome}
+use Rattle.server.specs.Outcome.{Outcome}
 use Rattle.server.specs.Machine.{refused, done, sending, acted}
 use Rattle.server.proofs.TableLaws.{RowTells}
 use Rattle.server.proofs.Judging.{CanTake, reply_taken, transmit-rows, transmit_taken, fault-rows, fault_taken, resend-rows, timer_taken}
@@ -59,7 +59,7 @@ module _ (s : Server) (fits : FitsServer s) where
   unfolding put_state
   put_state_fits all = choice_keeps FitsState all Running Collect tt tt
 
-  put_fits : (p : Fragment) → p.number ≤ last_number → p.length ≤ body_size → FitsServer (put_plan s p).server
+  put_fits : (p : Fragment) → p.number ≤ last_number → p.length ≤ body_size → FitsServer (put_plan s p).machine
   unfolding put_plan
   put_fits p low short =
       incoming_fits _ (unarmed_fits s fits _ (put_state_fits p.complete)) _
@@ -174,14 +174,14 @@ unfolding refused done sending acted
 server_turn_fits side (ServerArrive p lent out) fits given =
     let s = side.machine in
     let slots = bytes_lent lent side.slots in
-    arrive_cases s p.bytes slots out (λ (x : Arrival Outcome). FitsServer x.outcome.server) (λ r e. fits)
+    arrive_cases s p.bytes slots out (λ (x : Arrival Outcome). FitsServer x.outcome.machine) (λ r e. fits)
     (λ row e.
     let taken = arrive_taken s (length slots) (length out) p.bytes row e in
     row_fits s fits (reading p.bytes).header row taken.judged.can
     (arrival_carries s p.bytes given.0 row taken.told))
 server_turn_fits side (ServerTransmit message out) fits given =
     let s = side.machine in
-    transmit_cases s message out (λ (x : Step Outcome). FitsServer x.outcome.server) (λ r e. fits)
+    transmit_cases s message out (λ (x : Step Outcome). FitsServer x.outcome.machine) (λ r e. fits)
     (λ row e.
     let taken = transmit_taken s (length message) (length out) row e in
     row_fits s fits blank row taken.judged.can
@@ -189,7 +189,7 @@ server_turn_fits side (ServerTransmit message out) fits given =
     (transmit-rows s (λ (r : Row). Carries r blank) (λ more. tt) (λ last again. tt) (λ last once. tt))))
 server_turn_fits side (ServerTimer ticket out) fits given =
     let s = side.machine in
-    timer_cases s ticket out (λ (x : Step Outcome). FitsServer x.outcome.server) (λ r e. fits)
+    timer_cases s ticket out (λ (x : Step Outcome). FitsServer x.outcome.machine) (λ r e. fits)
     (λ row e.
     let taken = timer_taken s ticket (length out) row e in
     row_fits s fits blank row taken.judged.can
@@ -203,7 +203,7 @@ server_turn_fits side (ReplyEvent n message) fits given =
     row_fits s fits blank row taken.judged.can (subst (λ (r : Row). Carries r blank) (sym taken.is) tt))
 server_turn_fits side (Fault status out) fits given =
     let s = side.machine in
-    fault_cases s status out (λ (x : Step Outcome). FitsServer x.outcome.server) (λ r e. fits)
+    fault_cases s status out (λ (x : Step Outcome). FitsServer x.outcome.machine) (λ r e. fits)
     (λ row e.
     let taken = fault_taken s status (length out) row e in
     row_fits s fits blank row taken.judged.can

@@ -19,10 +19,9 @@ use Rattle.server.specs.declared.judge.Order.TheVariants.{Equal}
 use Rattle.server.specs.declared.judge.Row.{Row}
 use Rattle.server.specs.declared.judge.Row.TheVariants.{Reply as ReplyRow, TransmitMore, TransmitRepeatable, TransmitHeld, FaultRepeatable, FaultHeld, ResendData, ResendFault, Spend, Begin, Put, Working, Nocall, Rewind, RepeatFault, Acknowledge, HearCancel, AcceptCancel, DeclineCancel}
 use Rattle.server.specs.judge.Rows.{order_for}
-use Rattle.server.specs.declared.step.Plan.{Plan}
-use Rattle.server.specs.step.Plan.{going}
+use Rattle.server.specs.step.Plan.{Plan, going}
 use Rattle.server.specs.step.Steps.{begun, put_state, put_notice, put_plan, heard_plan, step_of}
-use Rattle.server.specs.declared.Outcome.{Outcome}
+use Rattle.server.specs.Outcome.{Outcome}
 use Rattle.server.specs.Machine.{refused, done, sending, acted}
 use Rattle.server.proofs.TableLaws.{equal_told}
 use Rattle.server.proofs.Judging.{CanTake}
@@ -67,7 +66,7 @@ module _ (s : Server) (h : Header) where
 
   -- Each row,
   abbrev PlanTells : Plan → Type 0
-  PlanTells plan = ServerTells h.number plan.server.number plan.server.state plan.notice
+  PlanTells plan = ServerTells h.number plan.machine.number plan.machine.state plan.notice
 
   row_tells : (row : Row) → CanTake row s h → PlanTells (step_of row s h)
   unfolding step_of going put_plan with_incoming unarmed begun heard_plan
@@ -102,7 +101,7 @@ server_tells w (ServerArrive p lent out) a =
     let h = (reading p.bytes).header in
     arrive_cases s p.bytes slots out
     (λ (x : Arrival Outcome).
-    ServerTells h.number x.outcome.server.number x.outcome.server.state x.outcome.notice)
+    ServerTells h.number x.outcome.machine.number x.outcome.machine.state x.outcome.notice)
     (λ r e. tt)
     (λ row e. row_tells s h row (arrive_taken s (length slots) (length out) p.bytes row e).judged.can)
 server_tells w (ServerTransmit message out) a =

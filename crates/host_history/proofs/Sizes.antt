@@ -23,7 +23,7 @@ use Rattle.server.specs.declared.records.Server.{Server}
 use Rattle.server.specs.declared.step.Send.{Send as ServerSend}
 use Rattle.server.specs.declared.step.Send.TheVariants.{Nothing as NoneOfServer, Response, Fault, Working, Nocall, Fack as FackOfServer, CancelAck}
 use Rattle.server.specs.Sending.{sent_out as server_sent, response_sent, fault_sent, empty_sent as server_empty, fack_sent as server_fack, cancel_ack_sent}
-use Rattle.server.specs.declared.Outcome.{Outcome}
+use Rattle.server.specs.Outcome.{Outcome}
 use Rattle.server.specs.Machine.{refused as refused_server, done as done_server, sending as server_sending, acted as server_acted}
 use Rattle.server.proofs.Accepting.{reply_cases, transmit_cases, timer_cases, fault_cases, arrive_cases}
 use Rattle.history.specs.World.{Side}

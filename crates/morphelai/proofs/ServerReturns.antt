@@ -14,7 +14,7 @@ use Rattle.record_bytes.specs.Parts.{uuid_in}
 use Rattle.server.specs.declared.records.Server.{Server}
 use Rattle.server.specs.records.Record.{fresh}
 use Rattle.server.specs.records.Rules.{sound}
-use Rattle.server.specs.declared.Outcome.{Outcome}
+use Rattle.server.specs.Outcome.{Outcome}
 use Rattle.server.specs.Machine.{replying, transmitting, timing, faulting, arriving, handed_up_of}
 use Rattle.server_bytes.specs.Layout.{server_in, bytes_of_server}
 use Rattle.morphelai.specs.Export.{Exported, sized, other_timer, other_kind}

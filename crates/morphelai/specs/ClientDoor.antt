@@ -10,7 +10,7 @@ use Rattle.client.specs.declared.records.TimerKind.TheVariants.{Wait, Ack, Cance
 use Rattle.client.specs.declared.records.Client.{Client}
 use Rattle.client.specs.records.Record.{fresh}
 use Rattle.client.specs.records.Rules.{sound}
-use Rattle.client.specs.declared.Outcome.{Outcome}
+use Rattle.client.specs.Outcome.{Outcome}
 use Rattle.client.specs.Machine.{starting, transmitting, timing, cancelling, arriving, handed_up_of}
 use Rattle.client_bytes.specs.Layout.{client_in, bytes_of_client}
 use Rattle.morphelai.specs.Result.{result_of}

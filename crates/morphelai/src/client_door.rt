@@ -23,7 +23,7 @@ fn keep(o: Outcome, bytes: &mut [u8])
     ensures { bytes.new ≡ client_kept o bytes.old }
 {
     let answer = o.answer;
-    let client = o.client;
+    let client = o.machine;
     let number = answers::number(answer);
     if number == 0 {
         client_bytes::encode(client, bytes);

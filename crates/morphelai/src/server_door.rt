@@ -21,7 +21,7 @@ fn keep(o: Outcome, bytes: &mut [u8])
     ensures { bytes.new ≡ server_kept o bytes.old }
 {
     let answer = o.answer;
-    let server = o.server;
+    let server = o.machine;
     let number = answers::number(answer);
     if number == 0 {
         server_bytes::encode(server, bytes);

@@ -28,8 +28,7 @@ use Rattle.client.specs.judge.Verdict.{Verdict, Refuse, Go}
 use Rattle.client.specs.judge.Rows.{arrival_cell}
 use Rattle.client.specs.judge.Refusals.{transmit_verdict, timer_verdict, cancel_verdict, pdu_refusals, arrival_refusals, arrival_verdict}
 use Rattle.client.specs.declared.step.Send.TheVariants.{Nothing}
-use Rattle.client.specs.declared.step.Plan.{Plan}
-use Rattle.client.specs.step.Plan.{going}
+use Rattle.client.specs.step.Plan.{Plan, going}
 use Rattle.client.specs.step.Steps.{step_of}
 use Rattle.client.specs.Sending.{sent_out}
 use Rattle.client.specs.Machine.{refused, done, sending, step_by, transmitting, timing, cancelling, acted, arrival_by, arriving}
@@ -75,9 +74,9 @@ abbrev client_left : List Cancelled → World → Plan → List ℕ → List ℕ
 client_left cancels w plan lent slots = record {
   client =
       record {
-        machine = plan.client;
+        machine = plan.machine;
         slots = slots;
-        sent = w.client.sent ++ client_pdus (last_start w.books.starts) plan.send plan.client lent;
+        sent = w.client.sent ++ client_pdus (last_start w.books.starts) plan.send plan.machine lent;
       };
   server = w.server;
   books = (client_world w (client_turn_of (done plan Unsent) [] slots) w.books.starts cancels).books;
@@ -163,10 +162,10 @@ module _ (w : World) (out : List ℕ) (room : length out ≡ pdu_size) where
             ∙ (λ i. record {
               client =
                   record {
-                    machine = plan.client;
+                    machine = plan.machine;
                     slots = left;
                     sent =
-                        client-sent plan.send plan.client lent out w.client.sent
+                        client-sent plan.send plan.machine lent out w.client.sent
                         (last_start w.books.starts) z short room i;
                   };
               server = w.server;

@@ -29,8 +29,7 @@ use Rattle.server.specs.judge.Verdict.{Verdict, Refuse, Go}
 use Rattle.server.specs.judge.Rows.{arrival_cell}
 use Rattle.server.specs.judge.Refusals.{transmit_verdict, timer_verdict, fault_verdict, pdu_refusals, arrival_refusals, arrival_verdict}
 use Rattle.server.specs.declared.step.Send.TheVariants.{Nothing}
-use Rattle.server.specs.declared.step.Plan.{Plan}
-use Rattle.server.specs.step.Plan.{going}
+use Rattle.server.specs.step.Plan.{Plan, going}
 use Rattle.server.specs.step.Steps.{step_of}
 use Rattle.server.specs.Sending.{echoed, sent_out}
 use Rattle.server.specs.Machine.{refused, done, sending, step_by, transmitting, timing, faulting, acted, arrival_by, arriving}
@@ -95,9 +94,9 @@ server_left w plan h lent slots of = record {
   client = w.client;
   server =
       record {
-        machine = plan.server;
+        machine = plan.machine;
         slots = slots;
-        sent = w.server.sent ++ server_pdus of.ordinal plan.send plan.server h lent;
+        sent = w.server.sent ++ server_pdus of.ordinal plan.send plan.machine h lent;
       };
   books = (server_world w (server_turn_of (done plan Unsent) [] slots) of w.books.replies).books;
 }
@@ -169,7 +168,7 @@ module _ (w : World) (out : List ℕ) (room : length out ≡ pdu_size) where
   unfolding answer_to notice_of happens done echoed
   makes e v h lent left of steps turn z sized short =
       let plan = server_plan v s h in
-      let own : Uuids plan.server.activity (echoed h) =
+      let own : Uuids plan.machine.activity (echoed h) =
       record { activity_16 = z.activity_16; object_16 = sized.object; interface_16 = sized.interface } in
       record {
         answered = ap (λ (t : Turn Server). number_of t.answer) turn;
@@ -181,10 +180,10 @@ module _ (w : World) (out : List ℕ) (room : length out ≡ pdu_size) where
               client = w.client;
               server =
                   record {
-                    machine = plan.server;
+                    machine = plan.machine;
                     slots = left;
                     sent =
-                        server-sent plan.send plan.server h lent out w.server.sent
+                        server-sent plan.send plan.machine h lent out w.server.sent
                         (of (answered_by v)).ordinal (λ e. z, own) short room i;
                   };
               books = (server_left w plan h lent left (of (answered_by v))).books;

@@ -39,7 +39,7 @@ use Rattle.server.specs.declared.step.Send.TheVariants.{CancelAck}
 use Rattle.server.specs.step.Plan.{going}
 use Rattle.server.specs.step.Steps.{heard_plan, step_of}
 use Rattle.server.specs.Sending.{echoed, echo_header, sent_out}
-use Rattle.server.specs.declared.Outcome.{Outcome}
+use Rattle.server.specs.Outcome.{Outcome}
 use Rattle.server.specs.Machine.{refused, done, sending, acted, arriving}
 use Rattle.server.proofs.TableLaws.{choice_by, refusal_no_row, same_row, cancel_arrives}
 use Rattle.server.proofs.Arriving.{arrive_taken}
@@ -161,10 +161,10 @@ module _ (s : Server) (h : Header) (n : ℕ) where
   own_sends false = refl
 
   -- and what its header is made of stays.
-  own_header : (t : Bool) → echo_header 10 0 (step_of (own_row t s.seen n) s h).server h ≡ echo_header 10 0 s h
+  own_header : (t : Bool) → echo_header 10 0 (step_of (own_row t s.seen n) s h).machine h ≡ echo_header 10 0 s h
   unfolding running_cancel step_of going heard_plan choose echo_header with_seen
   own_header true =
-      choice_by (λ (r : Row). echo_header 10 0 (step_of r s h).server h ≡ echo_header 10 0 s h) (ltb s.seen n) (HearCancel n) (AcceptCancel n)
+      choice_by (λ (r : Row). echo_header 10 0 (step_of r s h).machine h ≡ echo_header 10 0 s h) (ltb s.seen n) (HearCancel n) (AcceptCancel n)
       (λ e. refl) (λ e. refl)
   own_header false = refl
 
@@ -174,7 +174,7 @@ module _ (s : Server) (datagram slots out : List ℕ) where
   h = (reading datagram).header
 
   abbrev after : Server
-  after = (arriving s datagram slots out).outcome.server
+  after = (arriving s datagram slots out).outcome.machine
 
   abbrev notice : Notice
   notice = (arriving s datagram slots out).outcome.notice
@@ -203,7 +203,7 @@ module _ (s : Server) (datagram slots out : List ℕ) where
     cancel-answered fits small =
         let n = cancel_number datagram in
         let runs = is_running s.state in
-        let t = (step_of own s h).server in
+        let t = (step_of own s h).machine in
         let posted : sent_out (step_of own s h).send t h [] out ≡ sent_out (CancelAck n runs) t h [] out =
         ap (λ (x : Send). sent_out x t h [] out) (own_sends s h n runs) in (
           cancel_taken,
@@ -225,8 +225,8 @@ module _ (s : Server) (datagram slots out : List ℕ) where
         ∙ ap (λ (r : Row). acted (step_of r s h) h (body_of datagram) slots out)
         (choose_true (is_running s.state) _ _ runs ∙ choose_true _ _ _ (lt-ltb s.seen n above)) in (
           ap (λ (x : Arrival Outcome). x.outcome.notice) is,
-          ap (λ (x : Arrival Outcome). x.outcome.server.seen) is,
-          subst (λ (x : Arrival Outcome). SameButSeen s x.outcome.server) (sym is) (remembering s n),
+          ap (λ (x : Arrival Outcome). x.outcome.machine.seen) is,
+          subst (λ (x : Arrival Outcome). SameButSeen s x.outcome.machine) (sym is) (remembering s n),
         )
 
   -- A PDU of type 8, taken or refused: it is refused, or has one of these rows.
@@ -257,7 +257,7 @@ module _ (s : Server) (datagram slots out : List ℕ) where
   pub cancel_touches_nothing : h.kind ≡ 8 → ((arriving s datagram slots out).slots ≡ slots) × SameButSeen s after
   unfolding acted sending done refused step_of going heard_plan storing
   cancel_touches_nothing typed =
-      by_cancel (λ (x : Arrival Outcome). (x.slots ≡ slots) × SameButSeen s x.outcome.server) typed (λ r. (refl, unchanged s))
+      by_cancel (λ (x : Arrival Outcome). (x.slots ≡ slots) × SameButSeen s x.outcome.machine) typed (λ r. (refl, unchanged s))
       (λ runs above. (refl, remembering s (cancel_number datagram))) (refl, unchanged s) (refl, unchanged s)
 
   -- Where the server is not in RUNNING, or has seen that number or a higher one, the stub is told nothing and the record is
@@ -266,7 +266,7 @@ module _ (s : Server) (datagram slots out : List ℕ) where
       → (notice ≡ Untold) × (after ≡ s)
   unfolding acted sending done refused step_of going is_running
   cancel_not_heard typed why =
-      by_cancel (λ (x : Arrival Outcome). (x.outcome.notice ≡ Untold) × (x.outcome.server ≡ s)) typed (λ r. (refl, refl))
+      by_cancel (λ (x : Arrival Outcome). (x.outcome.notice ≡ Untold) × (x.outcome.machine ≡ s)) typed (λ r. (refl, refl))
       (λ runs above. absurd (unheard runs above why)) (refl, refl) (refl, refl)
     where
       unheard : s.state ≡ Running → s.seen < cancel_number datagram

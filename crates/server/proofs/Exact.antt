@@ -40,7 +40,7 @@ use Rattle.server.specs.judge.Rows.{request_put}
 use Rattle.server.specs.judge.Refusals.{arrival_verdict}
 use Rattle.server.specs.step.Plan.{going}
 use Rattle.server.specs.step.Steps.{answered, repeatable, put_plan, acknowledged, step_of}
-use Rattle.server.specs.declared.Outcome.{Outcome}
+use Rattle.server.specs.Outcome.{Outcome}
 use Rattle.server.specs.Machine.{done, replying, sending, transmitting, acted, arriving}
 use Rattle.server.proofs.RuleLaws.{rules_told}
 use Rattle.server.proofs.TableLaws.{fack_row}
@@ -51,25 +51,25 @@ use Rattle.server.proofs.Accepting.{reply_accepted, transmit_accepted, arrive_ac
 
 -- A reply gives the message's fragment count.
 pub reply-count : (s : Server) (n : ℕ) → (replying s n).answer ≡ Done
-    → (replying s n).server.outgoing.count ≡ fragments n
+    → (replying s n).machine.outgoing.count ≡ fragments n
 unfolding done step_of going answered unarmed with_outgoing replied
 reply-count s n is =
     let a = reply_accepted s n is in
     let j = reply_taken s n a.row a.is in
-    ap (λ (o : Outcome). o.server.outgoing.count) (reply_is s a.row n a.is)
-    ∙ ap (λ (r : Row). (step_of r s blank).server.outgoing.count) j.is ∙ message-count n s.outgoing.serial j.short
+    ap (λ (o : Outcome). o.machine.outgoing.count) (reply_is s a.row n a.is)
+    ∙ ap (λ (r : Row). (step_of r s blank).machine.outgoing.count) j.is ∙ message-count n s.outgoing.serial j.short
 
 -- A transmit counts one fragment more as sent.
 pub transmit-sent : (s : Server) (message out : List ℕ) → (transmitting s message out).outcome.answer ≡ Done
-    → (transmitting s message out).outcome.server.outgoing.sent ≡ s.outgoing.sent + 1
+    → (transmitting s message out).outcome.machine.outgoing.sent ≡ s.outgoing.sent + 1
 unfolding sending done step_of going repeatable holding unarmed
 transmit-sent s message out is =
     let a = transmit_accepted s message out is in
     let j = transmit_taken s (length message) (length out) a.row a.is in
     let more = transmitted_one_more s j.judged.kept j.replying in
-    ap (λ (x : Step Outcome). x.outcome.server.outgoing.sent) (transmit_is s a.row message out a.is)
-    ∙ ap (λ (r : Row). (step_of r s blank).server.outgoing.sent) j.is
-    ∙ transmit-rows s (λ (r : Row). (step_of r s blank).server.outgoing.sent ≡ s.outgoing.sent + 1) (λ e. more) (λ e t. more) (λ e t. more)
+    ap (λ (x : Step Outcome). x.outcome.machine.outgoing.sent) (transmit_is s a.row message out a.is)
+    ∙ ap (λ (r : Row). (step_of r s blank).machine.outgoing.sent) j.is
+    ∙ transmit-rows s (λ (r : Row). (step_of r s blank).machine.outgoing.sent ≡ s.outgoing.sent + 1) (λ e. more) (λ e t. more) (λ e t. more)
 
 -- An arriving datagram.
 module _ (s : Server) (datagram slots out : List ℕ) where
@@ -77,7 +77,7 @@ module _ (s : Server) (datagram slots out : List ℕ) where
   h = (reading datagram).header
 
   abbrev after : Server
-  after = (arriving s datagram slots out).outcome.server
+  after = (arriving s datagram slots out).outcome.machine
 
   abbrev Taken : Row → Type 0
   Taken row = arrival_verdict s (length slots) (length out) datagram ≡ Go row
@@ -93,13 +93,13 @@ module _ (s : Server) (datagram slots out : List ℕ) where
       let a = arrive_accepted s datagram slots out is in
       let j = known a.row a.is in
       let row = fack_row s h (reading datagram).little (body_of datagram) a.row typed j.is in
-      ap (λ (x : Arrival Outcome). x.outcome.server.outgoing.acknowledged) (arrive_is s a.row datagram slots out a.is)
-      ∙ ap (λ (r : Row). (step_of r s h).server.outgoing.acknowledged) row
+      ap (λ (x : Arrival Outcome). x.outcome.machine.outgoing.acknowledged) (arrive_is s a.row datagram slots out a.is)
+      ∙ ap (λ (r : Row). (step_of r s h).machine.outgoing.acknowledged) row
 
   -- What is held after a row is taken,
-  held_then : (row : Row) → Taken row → after.incoming ≡ (step_of row s h).server.incoming
+  held_then : (row : Row) → Taken row → after.incoming ≡ (step_of row s h).machine.incoming
   unfolding acted sending done
-  held_then row taken = ap (λ (x : Arrival Outcome). x.outcome.server.incoming) (arrive_is s row datagram slots out taken)
+  held_then row taken = ap (λ (x : Arrival Outcome). x.outcome.machine.incoming) (arrive_is s row datagram slots out taken)
 
   -- and where a body lies that one stores.
   stored_then : (row : Row) → Taken row → (f : ℕ) → (step_of row s h).store ≡ At f → f ≡ h.fragment

@@ -36,12 +36,12 @@ use Rattle.server.specs.declared.judge.Row.TheVariants.{Begin, Put}
 use Rattle.server.specs.judge.Verdict.{Go}
 use Rattle.server.specs.judge.Rows.{request_put}
 use Rattle.server.specs.judge.Refusals.{arrival_verdict}
-use Rattle.server.specs.declared.step.Plan.{Plan}
+use Rattle.server.specs.step.Plan.{Plan}
 use Rattle.server.specs.declared.step.Send.{Send}
 use Rattle.server.specs.declared.step.Send.TheVariants.{Fack}
 use Rattle.server.specs.step.Steps.{begun, fack_for, put_plan, heard_plan, step_of}
 use Rattle.server.specs.Sending.{echoed, echo_header, sent_out}
-use Rattle.server.specs.declared.Outcome.{Outcome}
+use Rattle.server.specs.Outcome.{Outcome}
 use Rattle.server.specs.Machine.{done, sending, acted, arriving}
 use Rattle.server.proofs.RuleLaws.{rules_told}
 use Rattle.server.proofs.TableLaws.{RowTells}
@@ -66,7 +66,7 @@ puts-stored s h =
 -- A request that is put is answered by what its flags ask for: a fack of what is held then.
 put_sends : (s : Server) (h : Header) (little : Bool) (body : List ℕ) (row : Row) → puts_fragment row ≡ true
     → RowTells row s h little body
-    → (step_of row s h).send ≡ fack_for (wants_fack h.flags1) h.serial (contiguous (step_of row s h).server.incoming)
+    → (step_of row s h).send ≡ fack_for (wants_fack h.flags1) h.serial (contiguous (step_of row s h).machine.incoming)
 unfolding step_of put_plan begun with_incoming request_put put_of
 put_sends s h little body =
     plain_rows s h (λ (row : Row). puts_fragment row ≡ true → RowTells row s h little body → Asked row)
@@ -76,17 +76,17 @@ put_sends s h little body =
   where
     Asked : Row → Type 0
     Asked row =
-        (step_of row s h).send ≡ fack_for (wants_fack h.flags1) h.serial (contiguous (step_of row s h).server.incoming)
+        (step_of row s h).send ≡ fack_for (wants_fack h.flags1) h.serial (contiguous (step_of row s h).machine.incoming)
 
 -- The fack that a plan sends, of what its record holds, tells it.
-plan_tells : (plan : Plan) (h : Header) (out : List ℕ) → sound plan.server ≡ true → length out ≡ pdu_size
-    → plan.send ≡ Fack h.serial (contiguous plan.server.incoming) → Fits (echo_header 9 0 plan.server h)
+plan_tells : (plan : Plan) (h : Header) (out : List ℕ) → sound plan.machine ≡ true → length out ≡ pdu_size
+    → plan.send ≡ Fack h.serial (contiguous plan.machine.incoming) → Fits (echo_header 9 0 plan.machine h)
     → h.serial < 65536
-    → let posted = sent_out plan.send plan.server h [] out in
-    TellsHeld plan.server.incoming h.number plan.server.outgoing.serial h.serial (sent_bytes posted.sent posted.out)
+    → let posted = sent_out plan.send plan.machine h [] out in
+    TellsHeld plan.machine.incoming h.number plan.machine.outgoing.serial h.serial (sent_bytes posted.sent posted.out)
 unfolding echo_header sent_header sent_out mask_of
 plan_tells plan h out kept room is fits small =
-    let t = plan.server in
+    let t = plan.machine in
     let m = t.incoming in
     let slotted = (kept_by m (rules_told t kept).incoming).slotted in
     let number = last_contiguous (contiguous m) in
@@ -104,7 +104,7 @@ module _ (s : Server) (datagram slots out : List ℕ) (row : Row)
 
   -- The record that the datagram leaves,
   abbrev after : Server
-  after = (arriving s datagram slots out).outcome.server
+  after = (arriving s datagram slots out).outcome.machine
 
   -- and the PDU that goes out.
   abbrev sent : Sent
@@ -126,11 +126,11 @@ module _ (s : Server) (datagram slots out : List ℕ) (row : Row)
   request_facked put clear set =
       let send =
       put_sends s h (reading datagram).little (body_of datagram) row put j.told
-      ∙ ap (λ (t : Bool). fack_for t h.serial (contiguous (step_of row s h).server.incoming)) (fack_asked h.flags1 clear set) in
+      ∙ ap (λ (t : Bool). fack_for t h.serial (contiguous (step_of row s h).machine.incoming)) (fack_asked h.flags1 clear set) in
       subst
       (λ (x : Arrival Outcome).
-      Fits (echo_header 9 0 x.outcome.server h) → h.serial < 65536
-      → TellsHeld x.outcome.server.incoming h.number x.outcome.server.outgoing.serial h.serial
+      Fits (echo_header 9 0 x.outcome.machine h) → h.serial < 65536
+      → TellsHeld x.outcome.machine.incoming h.number x.outcome.machine.outgoing.serial h.serial
       (sent_bytes x.outcome.sent x.out))
       (sym (arrive_is s row datagram slots out taken))
       (plan_tells (step_of row s h) h out (row_sound s h row j.judged) j.buffer send)
@@ -141,27 +141,27 @@ module _ (s : Server) (datagram slots out : List ℕ) (row : Row)
   request_unfacked put off =
       let send =
       put_sends s h (reading datagram).little (body_of datagram) row put j.told
-      ∙ ap (λ (t : Bool). fack_for t h.serial (contiguous (step_of row s h).server.incoming)) (fack_unasked h.flags1 off) in
+      ∙ ap (λ (t : Bool). fack_for t h.serial (contiguous (step_of row s h).machine.incoming)) (fack_unasked h.flags1 off) in
       ap (λ (x : Arrival Outcome). x.outcome.sent) (arrive_is s row datagram slots out taken)
-      ∙ ap (λ (x : Send). (sent_out x (step_of row s h).server h [] out).sent) send
+      ∙ ap (λ (x : Send). (sent_out x (step_of row s h).machine h [] out).sent) send
 
   -- What is not put gets no fack.
   pub others_unfacked : puts_fragment row ≡ false → SizedHeaders after h
       → Unfacked sent (arriving s datagram slots out).out
   unfolding acted
   others_unfacked other =
-      subst (λ (x : Arrival Outcome). SizedHeaders x.outcome.server h → Unfacked x.outcome.sent x.out)
+      subst (λ (x : Arrival Outcome). SizedHeaders x.outcome.machine h → Unfacked x.outcome.sent x.out)
       (sym (arrive_is s row datagram slots out taken)) (step_unfacked s h row [] out other (omega arith) j.buffer)
 
   -- The record's serial is as it was in COLLECT, and 0 at a begin.
   pub put_serial : (p : Fragment) → row ≡ Put p → after.outgoing.serial ≡ s.outgoing.serial
   unfolding acted sending done step_of put_plan with_incoming unarmed
   put_serial p is =
-      ap (λ (x : Arrival Outcome). x.outcome.server.outgoing.serial) (arrive_is s row datagram slots out taken)
-      ∙ ap (λ (r : Row). (step_of r s h).server.outgoing.serial) is
+      ap (λ (x : Arrival Outcome). x.outcome.machine.outgoing.serial) (arrive_is s row datagram slots out taken)
+      ∙ ap (λ (r : Row). (step_of r s h).machine.outgoing.serial) is
 
   pub begin_serial : (p : Fragment) → row ≡ Begin p → after.outgoing.serial ≡ 0
   unfolding acted sending done step_of put_plan begun with_incoming unarmed no_message
   begin_serial p is =
-      ap (λ (x : Arrival Outcome). x.outcome.server.outgoing.serial) (arrive_is s row datagram slots out taken)
-      ∙ ap (λ (r : Row). (step_of r s h).server.outgoing.serial) is
+      ap (λ (x : Arrival Outcome). x.outcome.machine.outgoing.serial) (arrive_is s row datagram slots out taken)
+      ∙ ap (λ (r : Row). (step_of r s h).machine.outgoing.serial) is

@@ -29,7 +29,7 @@ use Rattle.server.specs.judge.Rows.{order_for, request_put, arrival_cell}
 use Rattle.server.specs.judge.Refusals.{arrival_verdict}
 use Rattle.server.specs.step.Plan.{going}
 use Rattle.server.specs.step.Steps.{answered, transmitted, repeatable, rewinding, begun, put_notice, put_plan, heard_plan, step_of}
-use Rattle.server.specs.declared.Outcome.{Outcome}
+use Rattle.server.specs.Outcome.{Outcome}
 use Rattle.server.specs.Machine.{refused, done, replying, sending, transmitting, timing, faulting, acted, arriving}
 use Rattle.server.proofs.TableLaws.{equal_told, newer_ordered, equal_ordered, newer_begins, again_begins}
 use Rattle.server.proofs.StepLaws.{plain_rows}
@@ -44,21 +44,21 @@ pub record Deaf (s : Server) (notice : Notice) (t : Server) : Type 0 where
   pub seen : t.seen ≡ s.seen
 
 abbrev DeafRow : Server → Header → Row → Type 0
-DeafRow s h row = Deaf s (step_of row s h).notice (step_of row s h).server
+DeafRow s h row = Deaf s (step_of row s h).notice (step_of row s h).machine
 
 -- At a reply nothing is told,
-pub reply_deaf : (s : Server) (n : ℕ) → Deaf s (replying s n).notice (replying s n).server
+pub reply_deaf : (s : Server) (n : ℕ) → Deaf s (replying s n).notice (replying s n).machine
 unfolding refused done step_of going answered with_outgoing unarmed
 reply_deaf s n =
-    reply_cases s n (λ (o : Outcome). Deaf s o.notice o.server) (λ r e. record { untold = refl; seen = refl })
+    reply_cases s n (λ (o : Outcome). Deaf s o.notice o.machine) (λ r e. record { untold = refl; seen = refl })
     (λ row e. subst (DeafRow s blank) (sym (reply_taken s n row e).is) (record { untold = refl; seen = refl }))
 
 -- nor at a transmit,
 pub transmit_deaf : (s : Server) (message out : List ℕ)
-    → Deaf s (transmitting s message out).outcome.notice (transmitting s message out).outcome.server
+    → Deaf s (transmitting s message out).outcome.notice (transmitting s message out).outcome.machine
 unfolding refused sending done step_of going transmitted repeatable holding with_outgoing unarmed
 transmit_deaf s message out =
-    transmit_cases s message out (λ (x : Step Outcome). Deaf s x.outcome.notice x.outcome.server)
+    transmit_cases s message out (λ (x : Step Outcome). Deaf s x.outcome.notice x.outcome.machine)
     (λ r e. record { untold = refl; seen = refl })
     (λ row e.
     subst (DeafRow s blank) (sym (transmit_taken s (length message) (length out) row e).is)
@@ -67,10 +67,10 @@ transmit_deaf s message out =
 
 -- a fault
 pub fault_deaf : (s : Server) (status : ℕ) (out : List ℕ)
-    → Deaf s (faulting s status out).outcome.notice (faulting s status out).outcome.server
+    → Deaf s (faulting s status out).outcome.notice (faulting s status out).outcome.machine
 unfolding refused sending done step_of going repeatable holding unarmed
 fault_deaf s status out =
-    fault_cases s status out (λ (x : Step Outcome). Deaf s x.outcome.notice x.outcome.server)
+    fault_cases s status out (λ (x : Step Outcome). Deaf s x.outcome.notice x.outcome.machine)
     (λ r e. record { untold = refl; seen = refl })
     (λ row e.
     subst (DeafRow s blank) (sym (fault_taken s status (length out) row e).is)
@@ -78,10 +78,10 @@ fault_deaf s status out =
 
 -- and the timer.
 pub timer_deaf : (s : Server) (ticket : ℕ) (out : List ℕ)
-    → Deaf s (timing s ticket out).outcome.notice (timing s ticket out).outcome.server
+    → Deaf s (timing s ticket out).outcome.notice (timing s ticket out).outcome.machine
 unfolding refused sending done step_of going rewinding holding with_resends with_outgoing unarmed
 timer_deaf s ticket out =
-    timer_cases s ticket out (λ (x : Step Outcome). Deaf s x.outcome.notice x.outcome.server)
+    timer_cases s ticket out (λ (x : Step Outcome). Deaf s x.outcome.notice x.outcome.machine)
     (λ r e. record { untold = refl; seen = refl })
     (λ row e.
     resend-rows s row (DeafRow s blank) (timer_taken s ticket (length out) row e).is (λ held below. record { untold = refl; seen = refl })
@@ -119,10 +119,10 @@ heard_row s h =
 
 -- Every row but a begin leaves the number last seen as it was or raises it.
 row_raises : (s : Server) (h : Header) (row : Row) → CanTake row s h → ((p : Fragment) → row ≡ Begin p → ⊥)
-    → s.seen ≤ (step_of row s h).server.seen
+    → s.seen ≤ (step_of row s h).machine.seen
 unfolding step_of put_plan heard_plan with_incoming with_seen unarmed
 row_raises s h =
-    plain_rows s h (λ (row : Row). CanTake row s h → ((p : Fragment) → row ≡ Begin p → ⊥) → s.seen ≤ (step_of row s h).server.seen)
+    plain_rows s h (λ (row : Row). CanTake row s h → ((p : Fragment) → row ≡ Begin p → ⊥) → s.seen ≤ (step_of row s h).machine.seen)
     (λ row plain can other. omega (arith, plain.seen)) (λ p can other. absurd (other p refl)) (λ p can other. omega arith)
     (λ n can other. omega (arith, can.above))
 
@@ -131,7 +131,7 @@ module _ (s : Server) (datagram slots out : List ℕ) where
   h = (reading datagram).header
 
   abbrev after : Server
-  after = (arriving s datagram slots out).outcome.server
+  after = (arriving s datagram slots out).outcome.machine
 
   abbrev verdict : Verdict
   verdict = arrival_verdict s (length slots) (length out) datagram
@@ -166,7 +166,7 @@ module _ (s : Server) (datagram slots out : List ℕ) where
         own = (equal_told (is_fresh s.state) s.number h.number told.1).1;
         running = told.2;
         above = subst (λ (x : ℕ). s.seen < x) number told.4;
-        seen = ap (λ (x : Arrival Outcome). x.outcome.server.seen) (arrive_is s (HearCancel n) datagram slots out taken) ∙ number;
+        seen = ap (λ (x : Arrival Outcome). x.outcome.machine.seen) (arrive_is s (HearCancel n) datagram slots out taken) ∙ number;
       }
 
   pub only_cancel_heard : (arriving s datagram slots out).outcome.notice ≡ CancelNotice → HeardCancel
@@ -195,13 +195,13 @@ module _ (s : Server) (datagram slots out : List ℕ) where
       → arrival_cell s h (reading datagram).little (body_of datagram) ≡ Go (Begin p) → after.seen ≡ 0
   unfolding acted sending done step_of put_plan begun with_incoming unarmed
   begin_forgets_seen p is has =
-      ap (λ (x : Arrival Outcome). x.outcome.server.seen)
+      ap (λ (x : Arrival Outcome). x.outcome.machine.seen)
       (arrive_is s (Begin p) datagram slots out (arrive_row s datagram slots out (Begin p) is has))
 
   -- and at any other datagram, taken or refused, it does not go down.
   pub else_seen_stays : ((p : Fragment) → verdict ≡ Go (Begin p) → ⊥) → s.seen ≤ after.seen
   unfolding refused acted sending done
   else_seen_stays other =
-      arrive_cases s datagram slots out (λ (x : Arrival Outcome). s.seen ≤ x.outcome.server.seen) (λ r e. omega arith)
+      arrive_cases s datagram slots out (λ (x : Arrival Outcome). s.seen ≤ x.outcome.machine.seen) (λ r e. omega arith)
       (λ row e.
       row_raises s h row (arrive_taken s (length slots) (length out) datagram row e).judged.can (λ p is. other p (e ∙ ap Go is)))

@@ -64,7 +64,7 @@ rewinding-sound s b =
 -- A request is put where no message is out: to COLLECT, or to RUNNING where all is held.
 putting_sound : (s : Server) (p : Fragment) → leb s.resends retry_limit ≡ true
     → outgoing_sound Collect s.outgoing ≡ true
-    → incoming_sound (put_into s.incoming p) ≡ true → sound (put_plan s p).server ≡ true
+    → incoming_sound (put_into s.incoming p) ≡ true → sound (put_plan s p).machine ≡ true
 unfolding put_plan with_incoming unarmed put_state message_rule choose
 putting_sound s p count out right =
     unarmed-sound (with_incoming s (put_into s.incoming p)) (put_state p.complete)
@@ -168,7 +168,7 @@ module _ (s : Server) (kept : sound s ≡ true) where
 
   -- Put, in COLLECT: where what is held after the put keeps its rules.
   pub put-sound : (p : Fragment) → s.state ≡ Collect → incoming_sound (put_into s.incoming p) ≡ true
-      → sound (put_plan s p).server ≡ true
+      → sound (put_plan s p).machine ≡ true
   put-sound p state right = putting_sound s p (rules_told s kept).count (out_in Collect state) right
 
   -- Fack: where no more is acknowledged than the message has.
@@ -186,7 +186,7 @@ module _ (s : Server) (kept : sound s ≡ true) where
       })
 
 -- Every row that is taken keeps the rules.
-pub row_sound : (s : Server) (h : Header) (row : Row) → Judged s h row → sound (step_of row s h).server ≡ true
+pub row_sound : (s : Server) (h : Header) (row : Row) → Judged s h row → sound (step_of row s h).machine ≡ true
 unfolding step_of going
 row_sound s h (ReplyRow n) j = replied-sound s j.kept n j.can.short
 row_sound s h TransmitMore j = more_sound s j.kept j.can
@@ -261,8 +261,8 @@ pub record Plain (s : Server) (h : Header) (row : Row) : Type 0 where
   pub untold : (step_of row s h).notice ≡ Untold
   pub unfacked : is_fack (step_of row s h).send ≡ false
   pub unstored : (step_of row s h).store ≡ Unstored
-  pub held : (step_of row s h).server.incoming ≡ s.incoming
-  pub seen : (step_of row s h).server.seen ≡ s.seen
+  pub held : (step_of row s h).machine.incoming ≡ s.incoming
+  pub seen : (step_of row s h).machine.seen ≡ s.seen
 
 -- Every row but a begin, a put and a cancel that is heard is so: what is known of these and of those is known of all.
 pub plain_rows : (s : Server) (h : Header) (P : Row → Type 0) → ((row : Row) → Plain s h row → P row)
@@ -271,8 +271,8 @@ unfolding step_of going answered transmitted repeatable rewinding acknowledged h
 plain_rows s h P plain begin put hear = by_row
   where
     left : (row : Row) → puts_fragment row ≡ false → (step_of row s h).notice ≡ Untold → is_fack (step_of row s h).send ≡ false
-        → (step_of row s h).store ≡ Unstored → (step_of row s h).server.incoming ≡ s.incoming
-        → (step_of row s h).server.seen ≡ s.seen → P row
+        → (step_of row s h).store ≡ Unstored → (step_of row s h).machine.incoming ≡ s.incoming
+        → (step_of row s h).machine.seen ≡ s.seen → P row
     left row unput untold unfacked unstored held seen =
         plain row
         (record { unput = unput; untold = untold; unfacked = unfacked; unstored = unstored; held = held; seen = seen })
@@ -299,10 +299,10 @@ plain_rows s h P plain begin put hear = by_row
     by_row (DeclineCancel n) = left (DeclineCancel n) refl refl refl refl refl refl
 
 -- A begin and a put hold what they make.
-pub begin_held : (s : Server) (h : Header) (p : Fragment) → (step_of (Begin p) s h).server.incoming ≡ put_into cleared p
+pub begin_held : (s : Server) (h : Header) (p : Fragment) → (step_of (Begin p) s h).machine.incoming ≡ put_into cleared p
 unfolding step_of put_plan begun with_incoming
 begin_held s h p = refl
 
-pub put-held : (s : Server) (h : Header) (p : Fragment) → (step_of (Put p) s h).server.incoming ≡ put_into s.incoming p
+pub put-held : (s : Server) (h : Header) (p : Fragment) → (step_of (Put p) s h).machine.incoming ≡ put_into s.incoming p
 unfolding step_of put_plan with_incoming
 put-held s h p = refl

@@ -27,7 +27,7 @@ use Rattle.server.specs.declared.step.Send.{Send}
 use Rattle.server.specs.declared.step.Send.TheVariants.{Nothing, Response, Fault, Working as SendWorking, Nocall as SendNocall, Fack, CancelAck}
 use Rattle.server.specs.step.Steps.{heard_plan, step_of}
 use Rattle.server.specs.Sending.{echoed, echo_header, reply_header, response_sent, empty_sent, sent_out}
-use Rattle.server.specs.declared.Outcome.{Outcome}
+use Rattle.server.specs.Outcome.{Outcome}
 use Rattle.server.specs.Machine.{refused, done, replying, sending, transmitting, timing, faulting}
 use Rattle.server.proofs.StepLaws.{puts_fragment, is_fack, plain_rows}
 use Rattle.server.proofs.Judging.{transmit-rows, fault-rows, resend-rows, transmit_taken, fault_taken, timer_taken}
@@ -88,10 +88,10 @@ others_send s h =
 pub step_unfacked : (s : Server) (h : Header) (row : Row) (lent out : List ℕ) → puts_fragment row ≡ false
     → length lent ≤ body_size
     → length out ≡ pdu_size → let x = sending (step_of row s h) h lent out in
-    SizedHeaders x.outcome.server h → Unfacked x.outcome.sent x.out
+    SizedHeaders x.outcome.machine h → Unfacked x.outcome.sent x.out
 unfolding sending done
 step_unfacked s h row lent out other short room z =
-    unfacked (step_of row s h).server h lent out short room z (step_of row s h).send (others_send s h row other)
+    unfacked (step_of row s h).machine h lent out short room z (step_of row s h).send (others_send s h row other)
 
 -- A reply sends nothing.
 pub reply_unsent : (s : Server) (n : ℕ) → (replying s n).sent ≡ Unsent
@@ -100,37 +100,37 @@ reply_unsent s n = reply_cases s n (λ (o : Outcome). o.sent ≡ Unsent) (λ r e
 
 -- No fack goes out at a transmit,
 pub transmit_unfacked : (s : Server) (message out : List ℕ) → (transmitting s message out).outcome.answer ≡ Done
-    → SizedHeaders (transmitting s message out).outcome.server blank
+    → SizedHeaders (transmitting s message out).outcome.machine blank
     → Unfacked (transmitting s message out).outcome.sent (transmitting s message out).out
 transmit_unfacked s message out is =
     let f = s.outgoing.sent in
     let a = transmit_accepted s message out is in
     let j = transmit_taken s (length message) (length out) a.row a.is in
     let other = ap puts_fragment j.is ∙ transmit-rows s (λ (r : Row). puts_fragment r ≡ false) (λ e. refl) (λ e t. refl) (λ e t. refl) in
-    subst (λ (x : Step Outcome). SizedHeaders x.outcome.server blank → Unfacked x.outcome.sent x.out)
+    subst (λ (x : Step Outcome). SizedHeaders x.outcome.machine blank → Unfacked x.outcome.sent x.out)
     (sym (transmit_is s a.row message out a.is))
     (step_unfacked s blank a.row (fragment_of message f) out other (fragment_most message f) j.buffer)
 
 -- nor at a fault,
 pub fault_unfacked : (s : Server) (status : ℕ) (out : List ℕ) → (faulting s status out).outcome.answer ≡ Done
-    → SizedHeaders (faulting s status out).outcome.server blank
+    → SizedHeaders (faulting s status out).outcome.machine blank
     → Unfacked (faulting s status out).outcome.sent (faulting s status out).out
 fault_unfacked s status out is =
     let a = fault_accepted s status out is in
     let j = fault_taken s status (length out) a.row a.is in
     let other = ap puts_fragment j.is ∙ fault-rows s status (λ (r : Row). puts_fragment r ≡ false) (λ e. refl) (λ e. refl) in
-    subst (λ (x : Step Outcome). SizedHeaders x.outcome.server blank → Unfacked x.outcome.sent x.out)
+    subst (λ (x : Step Outcome). SizedHeaders x.outcome.machine blank → Unfacked x.outcome.sent x.out)
     (sym (fault_is s a.row status out a.is)) (step_unfacked s blank a.row [] out other (omega arith) j.buffer)
 
 -- nor at the timer.
 pub timer_unfacked : (s : Server) (ticket : ℕ) (out : List ℕ) → (timing s ticket out).outcome.answer ≡ Done
-    → SizedHeaders (timing s ticket out).outcome.server blank
+    → SizedHeaders (timing s ticket out).outcome.machine blank
     → Unfacked (timing s ticket out).outcome.sent (timing s ticket out).out
 timer_unfacked s ticket out is =
     let a = timer_accepted s ticket out is in
     let j = timer_taken s ticket (length out) a.row a.is in
     let other =
     resend-rows s a.row (λ (r : Row). puts_fragment r ≡ false) j.is (λ held below. refl) (λ status held below. refl) (λ held limit. refl) in
-    subst (λ (x : Step Outcome). SizedHeaders x.outcome.server blank → Unfacked x.outcome.sent x.out)
+    subst (λ (x : Step Outcome). SizedHeaders x.outcome.machine blank → Unfacked x.outcome.sent x.out)
     (sym (timer_is s a.row ticket out a.is))
     (step_unfacked s blank a.row [] out other (omega arith) j.buffer)

@@ -10,9 +10,8 @@ ghost use Rattle.std.specs.Prelude.{◌≡◌, []};
 ghost use Rattle.calls.specs.Sent.{Posted};
 ghost use Rattle.server.specs.Sending.{reply_header, echoed as echoed_call, echo_header, response_sent, fault_sent, empty_sent, fack_sent, cancel_ack_sent, sent_out};
 ghost use Rattle.calls.specs.Events.{Stepped, Arrived};
-ghost use Rattle.server.specs.Machine.{refused as refused_outcome, done as done_outcome, replying, sending, step_by, transmitting, timing, faulting, acted, arrival_by, arriving, handed_up_of};
+ghost use Rattle.server.specs.Machine.{replying, sending, step_by, transmitting, timing, faulting, acted, arrival_by, arriving, handed_up_of};
 
-use answers::{Answer, Refusal};
 use calls::{Call, Notice, Sent};
 use judge::Verdict;
 use pdu::Header;
@@ -20,13 +19,7 @@ pub use records::{Idle, Reply, Server, State, fresh, is_held, is_replying, is_ru
 use step::{Plan, Send};
 
 // What an event gives back.
-#[derive(Clone, Copy)]
-pub struct Outcome {
-    pub answer: Answer,
-    pub server: Server,
-    pub sent: Sent,
-    pub notice: Notice,
-}
+pub type Outcome = calls::Outcome<Server>;
 
 // The header of a response or fault: the call's number and data.
 fn reply_header(kind: u8, flags1: u8, fragment: u16, s: Server) -> Header
@@ -134,39 +127,13 @@ fn send_out(send: Send, s: Server, h: Header, lent: &[u8], out: &mut [u8]) -> Se
     }
 }
 
-// A refusal: the record stays, nothing is sent or told.
-fn refused(s: Server, refusal: Refusal) -> Outcome
-    ensures { result ≡ refused_outcome s refusal }
-{
-    Outcome {
-        answer: Err(refusal),
-        server: s,
-        sent: None,
-        notice: Notice::Nothing,
-    }
-}
-
-// What a row's plan gives back with what was sent.
-fn done(plan: Plan, sent: Sent) -> Outcome
-    ensures { result ≡ done_outcome plan sent }
-{
-    let server = plan.server;
-    let notice = plan.notice;
-    Outcome {
-        answer: Ok(()),
-        server,
-        sent,
-        notice,
-    }
-}
-
 // Reply: a message of this length for the call that is running.
 pub fn reply(s: Server, length: u32) -> Outcome
     ensures { result ≡ replying s length }
 {
     match judge::reply(s, length) {
-        Err(refusal) => refused(s, refusal),
-        Ok(row) => done(step::step(row, s, pdu::no_header()), None),
+        Err(refusal) => calls::refused(s, refusal),
+        Ok(row) => calls::done(step::step(row, s, pdu::no_header()), None),
     }
 }
 
@@ -174,9 +141,9 @@ pub fn reply(s: Server, length: u32) -> Outcome
 fn send(plan: Plan, h: Header, lent: &[u8], out: &mut [u8]) -> Outcome
     ensures { Stepped (sending plan h lent.now out.old) result out.new }
 {
-    let server = plan.server;
+    let server = plan.machine;
     let send = plan.send;
-    done(plan, send_out(send, server, h, lent, out))
+    calls::done(plan, send_out(send, server, h, lent, out))
 }
 
 // An event of the stub or the timer, judged; no PDU is answered.
@@ -184,7 +151,7 @@ fn act(verdict: Verdict, s: Server, lent: &[u8], out: &mut [u8]) -> Outcome
     ensures { Stepped (step_by verdict s lent.now out.old) result out.new }
 {
     match verdict {
-        Err(refusal) => refused(s, refusal),
+        Err(refusal) => calls::refused(s, refusal),
         Ok(row) => {
             let h = pdu::no_header();
             send(step::step(row, s, h), h, lent, out)
@@ -234,7 +201,7 @@ pub fn arrive(s: Server, datagram: &[u8], slots: &mut [u8], out: &mut [u8]) -> O
     ensures { Arrived (arriving s datagram.now slots.old out.old) result slots.new out.new }
 {
     match judge::arrival(s, slots.len(), out.len(), datagram) {
-        Err(refusal) => refused(s, refusal),
+        Err(refusal) => calls::refused(s, refusal),
         Ok((row, h)) => store_and_send(step::step(row, s, h), h, reader::body(datagram), slots, out),
     }
 }

@@ -25,21 +25,15 @@ pub enum Send {
     CancelAck(u32, bool),
 }
 
-// What a row is to do: the next record, the PDU to send, the notice, and what of an arriving body is stored.
-#[derive(Clone, Copy)]
-pub struct Plan {
-    pub server: Server,
-    pub send: Send,
-    pub notice: Notice,
-    pub store: Stored,
-}
+// What a row is to do.
+pub type Plan = calls::Plan<Server, Send>;
 
 // A row that puts no fragment and tells the stub nothing.
 fn going(s: Server, send: Send) -> Plan
     ensures { result ≡ going_plan s send }
 {
-    Plan {
-        server: s,
+    calls::Plan {
+        machine: s,
         send,
         notice: Notice::Nothing,
         store: None,
@@ -168,8 +162,8 @@ fn put(s: Server, p: Fragment) -> Plan
 {
     let m = s.incoming;
     let next = records::to_unarmed(s, put_state(p.complete));
-    Plan {
-        server: records::with_incoming(next, fragments::put_into(m, p)),
+    calls::Plan {
+        machine: records::with_incoming(next, fragments::put_into(m, p)),
         send: fack_for(p.facked, p.serial, p.count),
         notice: put_notice(p.complete),
         store: Some(p.number),
@@ -188,8 +182,8 @@ fn acknowledged(s: Server, count: u16) -> Server
 fn heard(s: Server, number: u32) -> Plan
     ensures { result ≡ heard_plan s number }
 {
-    Plan {
-        server: records::with_seen(s, number),
+    calls::Plan {
+        machine: records::with_seen(s, number),
         send: Send::CancelAck(number, true),
         notice: Notice::Cancel,
         store: None,

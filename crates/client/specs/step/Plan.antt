@@ -6,11 +6,14 @@ use Rattle.client.specs.declared.records.Client.{Client}
 use Rattle.client.specs.records.Record.{unarmed}
 use Rattle.client.specs.declared.step.Send.{Send}
 use Rattle.client.specs.declared.step.Send.TheVariants.{Nothing}
-use Rattle.client.specs.declared.step.Plan.{Plan}
+use Rattle.calls.specs.declared.Plan.{Plan as PlanOf}
+
+abbrev pub Plan : Type 0
+Plan = PlanOf Client Send
 
 -- A row that puts no fragment.
 unfoldable pub going : Client → Send → Notice → Plan
-going c send notice = record { client = c; send = send; notice = notice; store = Unstored }
+going c send notice = record { machine = c; send = send; notice = notice; store = Unstored }
 
 -- To FAULT, with nothing armed and a notice.
 unfoldable pub failed : Client → Notice → Plan

@@ -16,8 +16,7 @@ use Rattle.client.specs.declared.judge.Row.{Row}
 use Rattle.client.specs.declared.judge.Row.TheVariants.{Transmit, Ping, SendAck, Cancel, Response, Fault, Reject, Working, Resend, GiveUp, Fack, CancelAck}
 use Rattle.client.specs.declared.step.Send.{Send}
 use Rattle.client.specs.declared.step.Send.TheVariants.{Nothing, Request, Ping as SendPing, Ack, Fack as SendFack, Cancel as SendCancel}
-use Rattle.client.specs.declared.step.Plan.{Plan}
-use Rattle.client.specs.step.Plan.{going, failed}
+use Rattle.client.specs.step.Plan.{Plan, going, failed}
 
 -- Start: the next number, all counts, the serial and the cancel number 0, slots and known last forgotten, to SEND_FRAGS.
 unfoldable pub started : Client → ℕ → Call → ℕ → Client
@@ -55,7 +54,7 @@ fack_for wanted serial count = choose wanted (SendFack serial count) Nothing
 
 unfoldable pub response_plan : Client → Fragment → Plan
 response_plan c p = record {
-  client = received (put_record p.complete c.call.idempotent c) (put_into c.incoming p);
+  machine = received (put_record p.complete c.call.idempotent c) (put_into c.incoming p);
   send = fack_for p.facked p.serial p.count;
   notice = put_notice p.complete p.count;
   store = At p.number;

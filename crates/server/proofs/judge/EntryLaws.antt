@@ -13,8 +13,8 @@ use Rattle.server.specs.declared.judge.Row.{Row}
 use Rattle.server.specs.judge.Verdict.{Verdict, Refuse, Go}
 use Rattle.server.specs.judge.Refusals.{activity_verdict, arrival_verdict}
 use Rattle.calls.specs.Events.{Arrived}
-use Rattle.server.specs.declared.Outcome.{Outcome}
-use Rattle.server.specs.declared.step.Plan.{Plan}
+use Rattle.server.specs.Outcome.{Outcome}
+use Rattle.server.specs.step.Plan.{Plan}
 use Rattle.server.specs.step.Steps.{step_of}
 use Rattle.server.specs.Machine.{refused, acted, arrival_by, arriving}
 use Rattle.server.proofs.Returns.{refused-arrival, taken_arrival}

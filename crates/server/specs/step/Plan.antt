@@ -3,8 +3,11 @@ use Rattle.calls.specs.declared.Notice.TheVariants.{Nothing as Untold}
 use Rattle.fragments.specs.Stored.{Nothing as Unstored}
 use Rattle.server.specs.declared.records.Server.{Server}
 use Rattle.server.specs.declared.step.Send.{Send}
-use Rattle.server.specs.declared.step.Plan.{Plan}
+use Rattle.calls.specs.declared.Plan.{Plan as PlanOf}
+
+abbrev pub Plan : Type 0
+Plan = PlanOf Server Send
 
 -- A row that puts no fragment and tells the stub nothing: only a put and a cancel tell it anything.
 unfoldable pub going : Server → Send → Plan
-going s send = record { server = s; send = send; notice = Untold; store = Unstored }
+going s send = record { machine = s; send = send; notice = Untold; store = Unstored }

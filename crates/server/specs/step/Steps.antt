@@ -20,8 +20,7 @@ use Rattle.server.specs.declared.judge.Row.{Row}
 use Rattle.server.specs.declared.judge.Row.TheVariants.{Reply, TransmitMore, TransmitRepeatable, TransmitHeld, FaultRepeatable, FaultHeld, ResendData, ResendFault, Spend, Begin, Put, Working, Nocall, Rewind, RepeatFault, Acknowledge, HearCancel, AcceptCancel, DeclineCancel}
 use Rattle.server.specs.declared.step.Send.{Send}
 use Rattle.server.specs.declared.step.Send.TheVariants.{Nothing, Response, Fault as SendFault, Working as SendWorking, Nocall as SendNocall, Fack, CancelAck}
-use Rattle.server.specs.declared.step.Plan.{Plan}
-use Rattle.server.specs.step.Plan.{going}
+use Rattle.server.specs.step.Plan.{Plan, going}
 
 -- Reply: to REPLYING, nothing sent or acknowledged.
 unfoldable pub answered : Server → ℕ → Server
@@ -69,7 +68,7 @@ fack_for wanted serial count = choose wanted (Fack serial count) Nothing
 -- A request is put.
 unfoldable pub put_plan : Server → Fragment → Plan
 put_plan s p = record {
-  server = with_incoming (unarmed s (put_state p.complete)) (put_into s.incoming p);
+  machine = with_incoming (unarmed s (put_state p.complete)) (put_into s.incoming p);
   send = fack_for p.facked p.serial p.count;
   notice = put_notice p.complete;
   store = At p.number;
@@ -82,7 +81,7 @@ acknowledged s count = with_outgoing s (acknowledged_to s.outgoing count)
 -- A cancel that is heard: its number is remembered, notice "cancel", cancel_ack with its number and 1.
 unfoldable pub heard_plan : Server → ℕ → Plan
 heard_plan s n = record {
-  server = with_seen s n;
+  machine = with_seen s n;
   send = CancelAck n true;
   notice = Cancel;
   store = Unstored;
