@@ -83,7 +83,7 @@ arrives (AcceptCancel n) = true
 arrives (DeclineCancel n) = true
 
 -- The server's events that are no arrival take the call past RUNNING.
-local_past : (row : Row) (s : Server) → CanTake row s blank → arrives row ≡ false → past (step_of row s blank).server.state ≡ true
+local_past : (row : Row) (s : Server) → CanTake row s blank → arrives row ≡ false → past (step_of row s blank).machine.state ≡ true
 unfolding step_of going answered transmitted repeatable rewinding holding with_resends with_outgoing unarmed
 local_past (ReplyRow n) s can e = refl
 local_past TransmitMore s can e = ap past (replying_state s.state can.row)
@@ -112,13 +112,13 @@ step_past v s lent out row is can e =
     subst (λ (x : Verdict). past (step_by x s lent out).outcome.machine.state ≡ true) (sym is) (local_past row s can e)
 
 -- A reply,
-reply_passes : (s : Server) (n : ℕ) → (replying s n).answer ≡ Done → past (replying s n).server.state ≡ true
+reply_passes : (s : Server) (n : ℕ) → (replying s n).answer ≡ Done → past (replying s n).machine.state ≡ true
 unfolding replying reply_by done_with
 reply_passes s n done =
     let taken = reply_accepted s n done in
     let known = reply_taken s n taken.row taken.is in
     let is = taken.is ∙ ap Go known.is in
-    subst (λ (x : Verdict). past (reply_by x s).server.state ≡ true) (sym is)
+    subst (λ (x : Verdict). past (reply_by x s).machine.state ≡ true) (sym is)
     (local_past (ReplyRow n) s (subst (λ (r : Row). CanTake r s blank) known.is known.judged.can) refl)
 
 -- a transmit,
@@ -175,8 +175,8 @@ client_keeps w (Start call n message) inv known done =
     let more = start_more w call n message done in
     record {
       client =
-          subst (λ (l : List Started). CancelsInv (starting w.client.machine call n).client l w.books.cancels) (sym more.is)
-          (cancels_started w.client.machine (starting w.client.machine call n).client w.books.starts more.start w.books.cancels
+          subst (λ (l : List Started). CancelsInv (starting w.client.machine call n).machine l w.books.cancels) (sym more.is)
+          (cancels_started w.client.machine (starting w.client.machine call n).machine w.books.starts more.start w.books.cancels
           (start_uncancelled w.client.machine call n done) known.client);
       server = known.server;
     }

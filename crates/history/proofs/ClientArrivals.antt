@@ -198,12 +198,12 @@ module _ (w : World) (inv : Inv w) (o : ℕ) (h : Header) (little : Bool) (body 
       }
 
   other : (row : Row) → Judged w.client.machine row → puts row ≡ false
-      → ClientInv (step_of row w.client.machine).client w.client.slots w.books.starts w.books.replies
+      → ClientInv (step_of row w.client.machine).machine w.client.slots w.books.starts w.books.replies
   other row j none = kept_on w inv row j none
 
   -- as it does at every other row, which goes on with the call.
   arrival_inv : (row : Row) → Arrives row w.client.machine h little body → Judged w.client.machine row
-      → ClientInv (step_of row w.client.machine).client (storing (step_of row w.client.machine).store body w.client.slots)
+      → ClientInv (step_of row w.client.machine).machine (storing (step_of row w.client.machine).store body w.client.slots)
       w.books.starts w.books.replies
   unfolding step_of going failed response_plan working_plan storing
   arrival_inv (ResponseRow p) is j =
@@ -221,7 +221,7 @@ module _ (w : World) (inv : Inv w) (o : ℕ) (h : Header) (little : Bool) (body 
   arrival_inv CancelAck is j = other CancelAck j refl
 
 -- A row that tells "last" leaves all held.
-row_tells : (row : Row) (c : Client) → CanTake row c → tells_last (step_of row c).notice ≡ true → complete (step_of row c).client.incoming ≡ true
+row_tells : (row : Row) (c : Client) → CanTake row c → tells_last (step_of row c).notice ≡ true → complete (step_of row c).machine.incoming ≡ true
 unfolding step_of going failed response_plan working_plan with_incoming with_waits
 row_tells (ResponseRow p) c can e = sym can.complete ∙ notice_told p.complete p.count e
 row_tells (Transmit last) c can e = absurd (false≢true e)
@@ -237,7 +237,7 @@ row_tells (Fack count) c can e = absurd (false≢true e)
 row_tells CancelAck c can e = absurd (false≢true e)
 
 -- A client with a call still has one after the row.
-still : (row : Row) (c : Client) → CanTake row c → is_queued (step_of row c).client.state ≡ false
+still : (row : Row) (c : Client) → CanTake row c → is_queued (step_of row c).machine.state ≡ false
 unfolding step_of response_plan
 still (ResponseRow p) c can = put-started p.complete c.call.idempotent c (put_into c.incoming p)
 still (Transmit last) c can = (row_goes_on (Transmit last) c can refl).started
@@ -278,5 +278,5 @@ client_arrive_inv w p out inv done sent =
     (sym taken.is)
     (row_inv w row [] out (storing (step_of row c).store body slots) inv told.judged next (still row c told.judged.can)
     (arrival_sends row c r.header r.little body told.arrives) (omega arith) told.buffer
-    (completed_known w inv (step_of row c).client (storing (step_of row c).store body slots) next (step_of row c).notice
+    (completed_known w inv (step_of row c).machine (storing (step_of row c).store body slots) next (step_of row c).notice
     (row_tells row c told.judged.can)))

@@ -42,7 +42,7 @@ module _ (c : Client) where
   put_tells true false count = refl
   put_tells false idempotent count = tt
 
-  row_tells : (row : Row) → ClientTells (step_of row c).client.state (step_of row c).notice
+  row_tells : (row : Row) → ClientTells (step_of row c).machine.state (step_of row c).notice
   unfolding step_of response_plan with_incoming with_waits working_plan going failed unarmed
   row_tells (Transmit last) = tt
   row_tells (Ping waits) = tt

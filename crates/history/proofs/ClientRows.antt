@@ -99,7 +99,7 @@ sends_no_cancel (Fack count) c e = refl
 sends_no_cancel CancelAck c e = refl
 
 -- Where an ack is sent the call has ended.
-pub ack_ends : (row : Row) (c : Client) → acknowledges (step_of row c).send ≡ true → is_active (step_of row c).client.state ≡ false
+pub ack_ends : (row : Row) (c : Client) → acknowledges (step_of row c).send ≡ true → is_active (step_of row c).machine.state ≡ false
 unfolding step_of going failed response_plan working_plan unarmed is_active
 ack_ends (Transmit last) c e = absurd (false≢true e)
 ack_ends (Ping waits) c e = absurd (false≢true e)
@@ -119,7 +119,7 @@ ack_ends (Fack count) c e = absurd (false≢true e)
 ack_ends CancelAck c e = absurd (false≢true e)
 
 -- A call that has ended is not active after a row.
-pub idle_stays : (row : Row) (c : Client) → CanTake row c → is_active c.state ≡ false → is_active (step_of row c).client.state ≡ false
+pub idle_stays : (row : Row) (c : Client) → CanTake row c → is_active c.state ≡ false → is_active (step_of row c).machine.state ≡ false
 unfolding step_of going unarmed is_active
 idle_stays (Transmit last) c can idle = absurd (false≢true (sym idle ∙ ap is_active (sending_state c.state can.row)))
 idle_stays (Ping waits) c can idle = absurd (false≢true (sym idle ∙ waiting_active c.state can.row))
@@ -136,23 +136,23 @@ idle_stays CancelAck c can idle = absurd (false≢true (sym idle ∙ can.row))
 
 -- A row that puts nothing: what is known of the client stays known.
 pub kept_on : (w : World) → Inv w → (row : Row) → Judged w.client.machine row → puts row ≡ false
-    → ClientInv (step_of row w.client.machine).client w.client.slots w.books.starts w.books.replies
+    → ClientInv (step_of row w.client.machine).machine w.client.slots w.books.starts w.books.replies
 kept_on w inv row j none =
     let c = w.client.machine in
-    goes_on c (step_of row c).client w.client.slots w.books.starts w.books.replies inv.client (taken_started row c j.can)
+    goes_on c (step_of row c).machine w.client.slots w.books.starts w.books.replies inv.client (taken_started row c j.can)
     (row_sound c row j) (row_goes_on row c j.can none)
 
 -- A row that is no transmit and no cancel keeps what is known of the world, where it does so of its side.
 pub row_inv : (w : World) (row : Row) (lent out slots : List ℕ) → Inv w → Judged w.client.machine row
-    → ClientInv (step_of row w.client.machine).client slots w.books.starts w.books.replies
-    → is_queued (step_of row w.client.machine).client.state ≡ false
+    → ClientInv (step_of row w.client.machine).machine slots w.books.starts w.books.replies
+    → is_queued (step_of row w.client.machine).machine.state ≡ false
     → sends_other row ≡ true → Short lent → length out ≡ pdu_size
     → ((x : Completed) → In x (completions_after w.books.completions (step_of row w.client.machine).notice
-    (completion_entry w.books.starts (step_of row w.client.machine).client slots)) → WholeReply w.books.replies x)
+    (completion_entry w.books.starts (step_of row w.client.machine).machine slots)) → WholeReply w.books.replies x)
     → Inv (client_step w (sending (step_of row w.client.machine) lent out).outcome (sending (step_of row w.client.machine) lent out).out slots)
 row_inv w row lent out slots inv j next begun other short room completed =
     let c = w.client.machine in
     planned w (step_of row c) lent out slots inv next begun short room (idle_stays row c j.can) (ack_ends row c) completed
-    (others_known (Request w.books.starts) (last_start w.books.starts) (step_of row c).send (step_of row c).client lent
+    (others_known (Request w.books.starts) (last_start w.books.starts) (step_of row c).send (step_of row c).machine lent
     (sends_no_request row c other))
     (sends_no_cancel row c other)

@@ -178,7 +178,7 @@ module _ (s : Server) (h : Header) (little : Bool) (body : List ℕ) (collecting
   replied_past x (inl e) = ap past e
   replied_past x (inr e) = ap past (held_state x e).is
 
-  row_hears : (row : Row) → RowTells row s h little body → Hearing s (step_of row s h).server (step_of row s h).notice
+  row_hears : (row : Row) → RowTells row s h little body → Hearing s (step_of row s h).machine (step_of row s h).notice
   unfolding step_of going put_plan begun with_incoming unarmed rewinding acknowledged with_outgoing heard_plan with_seen
   row_hears (ReplyRow n) told = absurd told
   row_hears TransmitMore told = absurd told

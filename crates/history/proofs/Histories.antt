@@ -88,7 +88,7 @@ pub record OneMore (before after : List Started) : Type 0 where
 pub start_more : (w : World) (call : Call) (n : ℕ) (message : List ℕ) → (starting w.client.machine call n).answer ≡ Done
     → OneMore w.books.starts (start_step w (starting w.client.machine call n) call message).books.starts
 start_more w call n message done =
-    let new : Started = record { ordinal = length w.books.starts; number = (starting w.client.machine call n).client.number; call = call; message = message } in
+    let new : Started = record { ordinal = length w.books.starts; number = (starting w.client.machine call n).machine.number; call = call; message = message } in
     record { start = new; is = choose_true (is_done (starting w.client.machine call n).answer) (and_then w.books.starts new) w.books.starts (ap is_done done) }
 
 -- and no other event changes the starts.

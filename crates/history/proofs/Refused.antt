@@ -86,7 +86,7 @@ server-step-same s out t u =
 pub client-refused : (c : Side Client) (e : ClientEvent) → ((client_turn c e).answer ≡ Done → ⊥) → Untouched c (client_buffer e) (client_turn c e)
 client-refused c (Start call n message) other =
     let same = start-refused c.machine call n other in
-    record { machine = same.client; slots = refl; sent = same.sent; notice = same.notice; buffer = refl }
+    record { machine = same.machine; slots = refl; sent = same.sent; notice = same.notice; buffer = refl }
 client-refused c (ClientTransmit message out) other = client-step-same c out _ (client-transmit-refused c.machine message out other)
 client-refused c (ClientArrive p lent out) other =
     let same = client-arrive-refused c.machine p.bytes (bytes_lent lent c.slots) out other in
@@ -115,7 +115,7 @@ server-refused s (ServerTransmit message out) other = server-step-same s out _ (
 server-refused s (ServerTimer ticket out) other = server-step-same s out _ (server-timer-refused s.machine ticket out other)
 server-refused s (Reply n message) other =
     let same = reply-refused s.machine n other in
-    record { machine = same.server; slots = refl; sent = same.sent; notice = same.notice; buffer = refl }
+    record { machine = same.machine; slots = refl; sent = same.sent; notice = same.notice; buffer = refl }
 server-refused s (Fault status out) other = server-step-same s out _ (fault-refused s.machine status out other)
 
 -- Such a turn leaves its side,

@@ -199,7 +199,7 @@ module _ (w : World) (inv : Inv w) (o : ℕ) (h : Header) (little : Bool) (body 
   arrival_inv Spend told j =
       let later = replied_past s.state told.2 in
       quiet_inv (step_of Spend s h) refl refl refl (λ x. absurd (false≢true x))
-      (goes_on s (step_of Spend s h).server w.books.standing w.server.slots w.books.starts w.books.dispatches w.books.replies inv.server
+      (goes_on s (step_of Spend s h).machine w.books.standing w.server.slots w.books.starts w.books.dispatches w.books.replies inv.server
       (past_called s.state later.0) (row_sound s h Spend j) (spent_goes_on s w.books.standing w.books.replies)) (λ x. told.1)
   arrival_inv (Begin p) told j = begin_inv p told j
   arrival_inv (Put p) told j = put_row_inv p told j

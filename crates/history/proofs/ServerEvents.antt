@@ -56,7 +56,7 @@ module _ (w : World) (inv : Inv w) (row : Row) (j : Judged w.server.machine blan
   s = w.server.machine
 
   abbrev t : Server
-  t = (step_of row s blank).server
+  t = (step_of row s blank).machine
 
   next_inv : is_fresh s.state ≡ false → GoesOn s t w.books.standing w.books.replies
       → ServerInv t w.books.standing w.server.slots w.books.starts w.books.dispatches w.books.replies
@@ -77,8 +77,8 @@ module _ (w : World) (inv : Inv w) (row : Row) (j : Judged w.server.machine blan
 -- Transmit: the rows that send the next fragment.
 module _ (w : World) (inv : Inv w) (message out : List ℕ) (lent : OfLastReply w.books.replies message) (room : length out ≡ pdu_size) where
   transmits : (row : Row) → Judged w.server.machine blank row → w.server.machine.state ≡ Replying
-      → GoesOn w.server.machine (step_of row w.server.machine blank).server w.books.standing w.books.replies
-      → ((step_of row w.server.machine blank).server.outgoing ≡ after_send w.server.machine.outgoing)
+      → GoesOn w.server.machine (step_of row w.server.machine blank).machine w.books.standing w.books.replies
+      → ((step_of row w.server.machine blank).machine.outgoing ≡ after_send w.server.machine.outgoing)
       → ((step_of row w.server.machine blank).send ≡ SendResponse w.server.machine.outgoing.sent)
       → tells_dispatch (step_of row w.server.machine blank).notice ≡ false
       → Inv
@@ -87,7 +87,7 @@ module _ (w : World) (inv : Inv w) (message out : List ℕ) (lent : OfLastReply 
   unfolding step_by is_fresh is_replying after_send next_serial
   transmits row j state g sent sends untold =
       let s = w.server.machine in
-      let t = (step_of row s blank).server in
+      let t = (step_of row s blank).machine in
       let called : is_fresh s.state ≡ false = ap is_fresh state in
       let k = inv.server.called called in
       let now = inv.server.replying (ap has_data state) in

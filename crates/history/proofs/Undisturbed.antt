@@ -42,7 +42,7 @@ use Rattle.history.proofs.ServerSends.{tells_dispatch, none_dispatched}
 -- An arrival that leaves the record and tells nothing, or tells a cancel and leaves the record but for the number last seen; it
 -- stores nothing.
 abbrev Quiet : Server → Outcome → Type 0
-Quiet s r = ((r.server ≡ s) × (r.notice ≡ Untold)) ⊎ ((r.notice ≡ CancelTold) × RaisesSeen s r.server)
+Quiet s r = ((r.machine ≡ s) × (r.notice ≡ Untold)) ⊎ ((r.notice ≡ CancelTold) × RaisesSeen s r.machine)
 
 record Alone (s : Server) (slots : List ℕ) (a : Arrival Outcome) : Type 0 where
   server : Quiet s a.outcome
@@ -112,7 +112,7 @@ arrival_alone w p lent out state =
     }
   where
     by_server : (r : Outcome) → Quiet w.server.machine r
-        → (r.server ≡ w.server.machine) ⊎ ((r.notice ≡ CancelTold) × RaisesSeen w.server.machine r.server)
+        → (r.machine ≡ w.server.machine) ⊎ ((r.notice ≡ CancelTold) × RaisesSeen w.server.machine r.machine)
     by_server r (inl same) = inl same.0
     by_server r (inr told) = inr told
 

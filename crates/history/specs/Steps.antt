@@ -104,7 +104,7 @@ pub record Turn (Machine : Type 0) : Type 0 where
 -- The client's: from what its definitions give, by the buffers after it.
 abbrev pub client_turn_of : ClientOutcome → List ℕ → List ℕ → Turn Client
 client_turn_of r out slots =
-    record { answer = r.answer; notice = r.notice; sent = r.sent; out = out; machine = r.client; slots = slots }
+    record { answer = r.answer; notice = r.notice; sent = r.sent; out = out; machine = r.machine; slots = slots }
 
 abbrev pub client_stepped : Side Client → Step ClientOutcome → Turn Client
 client_stepped c s = client_turn_of s.outcome s.out c.slots
@@ -123,7 +123,7 @@ client_turn c (ClientCancel out) = client_stepped c (cancelling c.machine out)
 -- The server's.
 abbrev pub server_turn_of : ServerOutcome → List ℕ → List ℕ → Turn Server
 server_turn_of r out slots =
-    record { answer = r.answer; notice = r.notice; sent = r.sent; out = out; machine = r.server; slots = slots }
+    record { answer = r.answer; notice = r.notice; sent = r.sent; out = out; machine = r.machine; slots = slots }
 
 abbrev pub server_stepped : Side Server → Step ServerOutcome → Turn Server
 server_stepped s t = server_turn_of t.outcome t.out s.slots

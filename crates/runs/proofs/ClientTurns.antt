@@ -57,9 +57,9 @@ abbrev planned : Verdict → Client → List ℕ → List ℕ → List ℕ → T
 planned v c lent out slots = record {
   answer = answered_by v;
   notice = (client_plan v c).notice;
-  sent = (sent_out (client_plan v c).send (client_plan v c).client lent out).sent;
-  out = (sent_out (client_plan v c).send (client_plan v c).client lent out).out;
-  machine = (client_plan v c).client;
+  sent = (sent_out (client_plan v c).send (client_plan v c).machine lent out).sent;
+  out = (sent_out (client_plan v c).send (client_plan v c).machine lent out).out;
+  machine = (client_plan v c).machine;
   slots = slots;
 }
 
@@ -89,7 +89,7 @@ ClientMakes w e v cancels lent slots =
     (client_left cancels w (client_plan v w.client.machine) lent slots)
 
 abbrev ClientUuids : Verdict → Client → Type 0
-ClientUuids v c = Uuids (client_plan v c).client.activity (client_plan v c).client.call
+ClientUuids v c = Uuids (client_plan v c).machine.activity (client_plan v c).machine.call
 
 -- The verdict on a PDU that was read, where what is lent is right,
 abbrev arrival_as : Client → Reading → List ℕ → Verdict

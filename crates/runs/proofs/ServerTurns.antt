@@ -57,9 +57,9 @@ abbrev planned : Verdict → Server → Header → List ℕ → List ℕ → Lis
 planned v s h lent out slots = record {
   answer = answered_by v;
   notice = (server_plan v s h).notice;
-  sent = (sent_out (server_plan v s h).send (server_plan v s h).server h lent out).sent;
-  out = (sent_out (server_plan v s h).send (server_plan v s h).server h lent out).out;
-  machine = (server_plan v s h).server;
+  sent = (sent_out (server_plan v s h).send (server_plan v s h).machine h lent out).sent;
+  out = (sent_out (server_plan v s h).send (server_plan v s h).machine h lent out).out;
+  machine = (server_plan v s h).machine;
   slots = slots;
 }
 
@@ -108,7 +108,7 @@ ServerMakes w e v h lent slots of =
     (server_left w (server_plan v w.server.machine h) h lent slots of)
 
 abbrev ServerUuids : Verdict → Server → Header → Type 0
-ServerUuids v s h = Uuids (server_plan v s h).server.activity (server_plan v s h).server.call
+ServerUuids v s h = Uuids (server_plan v s h).machine.activity (server_plan v s h).machine.call
 
 -- The verdict on a PDU that was read, where what is lent is right,
 abbrev arrival_as : Server → Reading → List ℕ → Verdict
