@@ -21,7 +21,7 @@ unfoldable pub client_result : Outcome → ℕ
 client_result o = result_of o.answer o.notice o.sent
 
 unfoldable pub client_kept : Outcome → List ℕ → List ℕ
-client_kept o bytes = kept_bytes o.answer (bytes_of_client o.client) bytes
+client_kept o bytes = kept_bytes o.answer (bytes_of_client o.machine) bytes
 
 abbrev pub client_given : Outcome → List ℕ → List ℕ → List ℕ → Export
 client_given o bytes slots out = record { result = client_result o; bytes = client_kept o bytes; slots = slots; out = out }

@@ -1,9 +1,11 @@
 -- What the exported reader and writer give and leave.
-use Rattle.std.specs.Prelude.{ℕ, ◌%◌, Bool, true, List, [], ◌∷◌, ◌≡◌, length, eqb}
+use Rattle.std.specs.Prelude.{ℕ, Result, ◌%◌, Bool, true, List, [], ◌∷◌, ◌≡◌, length, eqb}
 use Rattle.words.specs.Choice.{choose}
 use Rattle.words.specs.Place.{placed}
 use Rattle.words.specs.Sizes.{header_size}
-use Rattle.answers.specs.Number.{number_of}
+use Rattle.answers.specs.declared.Refusal.{Refusal}
+use Rattle.answers.specs.Answer.{Ok, Refused}
+use Rattle.answers.specs.Number.{number_of, refusal_number}
 use Rattle.pdu.specs.Header.{header_bytes, header_of, body_of}
 use Rattle.reader.specs.Reading.{Reading, reading}
 use Rattle.writer.specs.Writing.{Written, Writing, writing}
@@ -46,6 +48,11 @@ codec_read datagram out =
 -- What writing gives: its answer, and the length of the PDU in 16 bits, which no PDU passes.
 unfoldable pub written_result : Written → ℕ
 written_result w = packed (number_of w.answer) 0 (w.length % 65536) 0
+
+-- The same of what the code of the writer gives.
+unfoldable pub written_number : Result ℕ Refusal → ℕ
+written_number (Ok n) = packed 0 0 (n % 65536) 0
+written_number (Refused r) = packed (refusal_number r) 0 0 0
 
 unfoldable pub codec_written : Writing → Codec
 codec_written w = record { result = written_result w.result; out = w.out }

@@ -19,7 +19,7 @@ unfoldable pub server_result : Outcome → ℕ
 server_result o = result_of o.answer o.notice o.sent
 
 unfoldable pub server_kept : Outcome → List ℕ → List ℕ
-server_kept o bytes = kept_bytes o.answer (bytes_of_server o.server) bytes
+server_kept o bytes = kept_bytes o.answer (bytes_of_server o.machine) bytes
 
 abbrev pub server_given : Outcome → List ℕ → List ℕ → List ℕ → Export
 server_given o bytes slots out = record { result = server_result o; bytes = server_kept o bytes; slots = slots; out = out }

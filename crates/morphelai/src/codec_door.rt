@@ -3,11 +3,11 @@ ghost use Rattle.std.specs.Prelude.{◌≡◌, [], ◌∷◌};
 ghost use Rattle.words.specs.Place.{placed};
 ghost use Rattle.pdu.specs.Header.{header_bytes};
 ghost use Rattle.record_bytes.specs.Layout.{record_size};
-ghost use Rattle.morphelai.specs.CodecDoor.{Coded, order_byte, codec_read, written_result, codec_write};
+ghost use Rattle.morphelai.specs.CodecDoor.{Coded, order_byte, codec_read, written_number, codec_write};
 
+use answers::Refusal;
 use pdu::Header;
 use words::HEADER_SIZE;
-use writer::Written;
 
 // How many bytes a record has.
 pub fn morphelai_record_size() -> usize
@@ -43,25 +43,24 @@ pub fn morphelai_read(datagram: &[u8], out: &mut [u8]) -> u64
     if out.len() != HEADER_SIZE {
         return 1;
     }
-    let length = reader::body(datagram).len();
-    let reading = reader::read(datagram);
-    let answer = reading.answer;
-    let header = reading.header;
-    let number = answers::number(answer);
-    if number == 0 {
-        lay(header, (length % 65536) as u16, reading.little, out);
-        return 0;
+    match reader::read(datagram) {
+        Ok(read) => {
+            let length = reader::body(datagram).len();
+            lay(read.header, (length % 65536) as u16, read.little, out);
+            0
+        }
+        Err(refusal) => answers::number(Err(refusal)) as u64,
     }
-    number as u64
 }
 
 // The answer of a write and the length of the PDU, in one number.
-fn written(w: Written) -> u64
-    ensures { result ≡ written_result w }
+fn written(w: Result<usize, Refusal>) -> u64
+    ensures { result ≡ written_number w }
 {
-    let answer = w.answer;
-    let length = (w.length % 65536) as u16;
-    crate::result::pack(answers::number(answer), 0, length, 0)
+    match w {
+        Ok(length) => crate::result::pack(0, 0, (length % 65536) as u16, 0),
+        Err(refusal) => crate::result::pack(answers::number(Err(refusal)), 0, 0, 0),
+    }
 }
 
 // Writes the PDU of a header in its little-endian form and a body.
@@ -72,6 +71,5 @@ pub fn morphelai_write(header: &[u8], body: &[u8], out: &mut [u8]) -> u64
     if header.len() != HEADER_SIZE {
         return 1;
     }
-    let w = writer::write(pdu::fields(header, true), body, out);
-    written(w)
+    written(writer::write(pdu::fields(header, true), body, out))
 }

@@ -108,6 +108,6 @@ unfolding shared client_tables server_tables
     ClientSending.pdu_header
     ClientMachine.refused ClientMachine.done ClientMachine.start_by ClientMachine.starting ClientMachine.arrival_by ClientMachine.arriving
     ServerSending.reply_header ServerSending.echoed ServerSending.echo_header
-    ServerMachine.done ServerMachine.reply_by ServerMachine.replying
+    ServerMachine.reply_by ServerMachine.replying
     Steps.bytes_lent Steps.own_after Steps.sent_after Steps.dispatches_after Steps.completions_after Steps.heard_after Steps.happens Steps.step Steps.answer_to Steps.notice_of
 opened = tt

@@ -1,7 +1,11 @@
 -- `morphelai::codec_door::written` meets its contract.
-use Rattle.morphelai.specs.CodecDoor.{written_result}
+use Rattle.morphelai.specs.CodecDoor.{written_number}
 use Rattle.morphelai.proofs.codec_door.written.Goals as goal
 
-pub returns : goal.returns
-unfolding written_result
-returns c = rw (c.pack.ensures, c.number.ensures)
+pub returns-in-Ok : goal.returns-in-Ok
+unfolding written_number
+returns-in-Ok c = rw (c.in-Ok.is, c.pack.ensures)
+
+pub returns-in-Err : goal.returns-in-Err
+unfolding written_number
+returns-in-Err c = rw (c.in-Err.is, c.pack-in-Err.ensures, c.number.ensures)
