@@ -101,7 +101,7 @@ module _ (c : Client) (fits : FitsClient c) where
       resends_fits _ (sending_fits _ back) resends (omega (arith, can.count, can.below))
 
   -- and so every row that is taken.
-  row_fits : (row : Row) → CanTake row c → FitsClient (step_of row c).client
+  row_fits : (row : Row) → CanTake row c → FitsClient (step_of row c).machine
   unfolding step_of going working_plan acknowledged
   row_fits (Transmit last) can = transmit_fits last
   row_fits (Ping waits) can = ping_fits waits can

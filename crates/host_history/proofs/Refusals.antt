@@ -58,7 +58,7 @@ module _ (bytes : List ℕ) where
   unfolding client_result client_kept
   client_start_leaves call n undone =
       let o = starting (client_in bytes) call n in
-      given-refused o.answer o.notice o.sent (bytes_of_client o.client) bytes [] [] [] [] undone
+      given-refused o.answer o.notice o.sent (bytes_of_client o.machine) bytes [] [] [] [] undone
       (λ (other : o.answer ≡ Done → ⊥).
       let u = start-refused (client_in bytes) call n other in (u.notice, u.sent, refl, refl))
 
@@ -125,7 +125,7 @@ module _ (bytes : List ℕ) where
   unfolding server_result server_kept
   server_reply_leaves n undone =
       let o = replying (server_in bytes) n in
-      given-refused o.answer o.notice o.sent (bytes_of_server o.server) bytes [] [] [] [] undone
+      given-refused o.answer o.notice o.sent (bytes_of_server o.machine) bytes [] [] [] [] undone
       (λ (other : o.answer ≡ Done → ⊥).
       let u = reply-refused (server_in bytes) n other in (u.notice, u.sent, refl, refl))
 

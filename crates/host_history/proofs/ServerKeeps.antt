@@ -112,7 +112,7 @@ Carries (DeclineCancel n) h = Unit {0}
 
 -- So every row that is taken keeps the widths.
 module _ (s : Server) (fits : FitsServer s) (h : Header) where
-  row_fits : (row : Row) → CanTake row s h → Carries row h → FitsServer (step_of row s h).server
+  row_fits : (row : Row) → CanTake row s h → Carries row h → FitsServer (step_of row s h).machine
   unfolding step_of going answered acknowledged heard_plan
   row_fits (Reply n) can carried =
       unarmed_fits _
@@ -197,7 +197,7 @@ server_turn_fits side (ServerTimer ticket out) fits given =
     (λ held limit. tt)))
 server_turn_fits side (ReplyEvent n message) fits given =
     let s = side.machine in
-    reply_cases s n (λ (o : Outcome). FitsServer o.server) (λ r e. fits)
+    reply_cases s n (λ (o : Outcome). FitsServer o.machine) (λ r e. fits)
     (λ row e.
     let taken = reply_taken s n row e in
     row_fits s fits blank row taken.judged.can (subst (λ (r : Row). Carries r blank) (sym taken.is) tt))
