@@ -5,6 +5,9 @@ ghost use Rattle.std.specs.Prelude.{◌≡◌, true, false, ◌+◌, ◌≤◌, 
 ghost use Rattle.words.specs.Sizes.{header_size};
 ghost use Rattle.pdu.specs.Header.{uuid_at, header_of, blank, header_in};
 
+mod kind;
+
+pub use kind::Kind;
 use words::HEADER_SIZE;
 
 // The header, but for version, representation and body length, which the writer sets itself. UUIDs are in the
