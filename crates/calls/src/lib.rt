@@ -2,12 +2,13 @@
 #![tactic(auto, unfolding(crate::specs::Outcome::refused, crate::specs::Outcome::done))]
 
 ghost use Rattle.std.specs.Prelude.{◌≡◌};
+ghost use Rattle.pdu.specs.Kind.{kind_number};
 ghost use Rattle.calls.specs.Outcome.{refused, done};
 ghost use Rattle.calls.specs.Sent.{blank_call, sent_header, posting, Posted, sent_bytes};
 
 use answers::{Answer, Refusal};
 use fragments::Stored;
-use pdu::Header;
+use pdu::{Header, Kind};
 
 // The data of an operation, and whether the call is marked idempotent. UUIDs are in the little-endian form.
 #[derive(Clone, Copy)]
@@ -99,7 +100,7 @@ pub fn no_call() -> Call
 
 // The header of a sent PDU.
 pub fn header(
-    kind: u8,
+    kind: Kind,
     flags1: u8,
     serial: u16,
     activity: [u8; 16],
@@ -108,12 +109,12 @@ pub fn header(
     call: Call,
     fragment: u16,
 ) -> Header
-    ensures { result ≡ sent_header kind flags1 serial activity boot number call fragment }
+    ensures { result ≡ sent_header (kind_number kind) flags1 serial activity boot number call fragment }
 {
     let object = call.object;
     let interface = call.interface;
     Header {
-        kind,
+        kind: u8::from(kind),
         flags1,
         flags2: 0,
         serial,

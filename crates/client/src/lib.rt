@@ -8,13 +8,14 @@ mod step;
 
 ghost use Rattle.std.specs.Prelude.{◌≡◌, []};
 ghost use Rattle.calls.specs.Sent.{Posted};
+ghost use Rattle.pdu.specs.Kind.{kind_number};
 ghost use Rattle.client.specs.Sending.{pdu_header, request_sent, empty_sent, fack_sent, cancel_sent, sent_out};
 ghost use Rattle.calls.specs.Events.{Stepped, Arrived};
 ghost use Rattle.client.specs.Machine.{starting, sending, step_by, transmitting, timing, cancelling, acted, arriving, handed_up_of};
 
 use calls::{Call, Notice, Sent};
 use judge::{StartVerdict, Verdict};
-use pdu::Header;
+use pdu::{Header, Kind};
 pub use records::{Client, State, TimerKind, fresh, is_queued, is_sending, is_sound};
 use step::{Plan, Send};
 
@@ -22,53 +23,42 @@ use step::{Plan, Send};
 pub type Outcome = calls::Outcome<Client>;
 
 // The header of a PDU of the call that the record is in.
-fn header(kind: u8, flags1: u8, fragment: u16, c: Client) -> Header
-    ensures { result ≡ pdu_header kind flags1 fragment c }
+fn header(kind: Kind, flags1: u8, fragment: u16, c: Client) -> Header
+    ensures { result ≡ pdu_header (kind_number kind) flags1 fragment c }
 {
-    let call = c.call;
-    let activity = c.activity;
-    let o = c.outgoing;
-    let marked = flags::with(flags1, flags::IDEMPOTENT, call.idempotent);
-    calls::header(
-        kind, marked, o.serial, activity, 0, c.number, call, fragment,
-    )
+    let marked = flags::with(flags1, flags::IDEMPOTENT, c.call.idempotent);
+    let serial = c.outgoing.serial;
+    calls::header(kind, marked, serial, c.activity, 0, c.number, c.call, fragment)
 }
 
 // Sends the request's fragment f, whose bytes are lent.
 fn send_request(f: u16, c: Client, lent: &[u8], out: &mut [u8]) -> Sent
     ensures { Posted (request_sent f c lent.now out.old) result out.new }
 {
-    let o = c.outgoing;
-    let h = header(0, outgoing::flags(o.count, f), f, c);
-    calls::post(h, lent, out)
+    let flags1 = outgoing::flags(c.outgoing.count, f);
+    calls::post(header(Kind::Request, flags1, f, c), lent, out)
 }
 
 // Sends a PDU that has no body.
-fn send_empty(kind: u8, c: Client, out: &mut [u8]) -> Sent
-    ensures { Posted (empty_sent kind c out.old) result out.new }
+fn send_empty(kind: Kind, c: Client, out: &mut [u8]) -> Sent
+    ensures { Posted (empty_sent (kind_number kind) c out.old) result out.new }
 {
-    let h = header(kind, 0, 0, c);
-    let none: [u8; 0] = [];
-    calls::post(h, &none, out)
+    calls::post(header(kind, 0, 0, c), &[], out)
 }
 
 // Sends a fack for the serial answered; count is the contiguous count of what is held.
 fn send_fack(serial: u16, count: u16, c: Client, out: &mut [u8]) -> Sent
     ensures { Posted (fack_sent serial count c out.old) result out.new }
 {
-    let m = c.incoming;
-    let h = header(9, 0, facks::number(count), c);
-    let body = bodies::write_fack(serial, facks::mask(m, count));
-    calls::post(h, &body, out)
+    let body = bodies::write_fack(serial, facks::mask(c.incoming, count));
+    calls::post(header(Kind::Fack, 0, facks::number(count), c), &body, out)
 }
 
 // Sends a cancel of that number.
 fn send_cancel(number: u32, c: Client, out: &mut [u8]) -> Sent
     ensures { Posted (cancel_sent number c out.old) result out.new }
 {
-    let h = header(8, 0, 0, c);
-    let body = bodies::write_cancel(number);
-    calls::post(h, &body, out)
+    calls::post(header(Kind::Cancel, 0, 0, c), &bodies::write_cancel(number), out)
 }
 
 // Sends what a plan says, from the record after the step.
@@ -78,8 +68,8 @@ fn send_out(send: Send, c: Client, lent: &[u8], out: &mut [u8]) -> Sent
     match send {
         Send::Nothing => None,
         Send::Request(f) => send_request(f, c, lent, out),
-        Send::Ping => send_empty(1, c, out),
-        Send::Ack => send_empty(7, c, out),
+        Send::Ping => send_empty(Kind::Ping, c, out),
+        Send::Ack => send_empty(Kind::Ack, c, out),
         Send::Fack(serial, count) => send_fack(serial, count, c, out),
         Send::Cancel(number) => send_cancel(number, c, out),
     }
@@ -104,9 +94,8 @@ pub fn start(c: Client, call: Call, length: u32) -> Outcome
 fn send(plan: Plan, lent: &[u8], out: &mut [u8]) -> Outcome
     ensures { Stepped (sending plan lent.now out.old) result out.new }
 {
-    let client = plan.machine;
-    let send = plan.send;
-    calls::done(plan, send_out(send, client, lent, out))
+    let sent = send_out(plan.send, plan.machine, lent, out);
+    calls::done(plan, sent)
 }
 
 // An event with a PDU buffer, judged.
@@ -123,37 +112,30 @@ fn act(verdict: Verdict, c: Client, lent: &[u8], out: &mut [u8]) -> Outcome
 pub fn transmit(c: Client, message: &[u8], out: &mut [u8]) -> Outcome
     ensures { Stepped (transmitting c message.now out.old) result out.new }
 {
-    let o = c.outgoing;
     let verdict = judge::transmit(c, message.len(), out.len());
-    act(verdict, c, outgoing::fragment(message, o.sent), out)
+    act(verdict, c, outgoing::fragment(message, c.outgoing.sent), out)
 }
 
 // A timer of that kind and ticket.
 pub fn timer(c: Client, kind: TimerKind, ticket: u64, out: &mut [u8]) -> Outcome
     ensures { Stepped (timing c kind ticket out.old) result out.new }
 {
-    let verdict = judge::timer(c, kind, ticket, out.len());
-    let none: [u8; 0] = [];
-    act(verdict, c, &none, out)
+    act(judge::timer(c, kind, ticket, out.len()), c, &[], out)
 }
 
 // Local cancel: the client's user asks that the call be stopped; the call goes on.
 pub fn cancel(c: Client, out: &mut [u8]) -> Outcome
     ensures { Stepped (cancelling c out.old) result out.new }
 {
-    let verdict = judge::cancel(c, out.len());
-    let none: [u8; 0] = [];
-    act(verdict, c, &none, out)
+    act(judge::cancel(c, out.len()), c, &[], out)
 }
 
 // Acts on the plan of an arriving PDU: its body goes into its slot, the PDU into the buffer.
 fn store_and_send(plan: Plan, body: &[u8], slots: &mut [u8], out: &mut [u8]) -> Outcome
     ensures { Arrived (acted plan body.now slots.old out.old) result slots.new out.new }
 {
-    let place = plan.store;
-    let none: [u8; 0] = [];
-    fragments::store(place, body, slots);
-    send(plan, &none, out)
+    fragments::store(plan.store, body, slots);
+    send(plan, &[], out)
 }
 
 // An arriving PDU.
@@ -171,7 +153,5 @@ pub fn arrive(c: Client, datagram: &[u8], slots: &mut [u8], out: &mut [u8]) -> O
 pub fn hand_up(c: Client, f: u16, slots: &[u8]) -> &[u8]
     ensures { result.now ≡ handed_up_of c f slots.now }
 {
-    let m = c.incoming;
-    let sound = records::is_sound(c);
-    fragments::hand_up_where(sound, m, f, slots)
+    fragments::hand_up_where(records::is_sound(c), c.incoming, f, slots)
 }
