@@ -1,5 +1,5 @@
 // A call as both machines see it: its operation data, the PDUs sent for it, and what the stub is told.
-#![tactic(auto)]
+#![tactic(auto, unfolding(crate::specs::Sent::blank_call, crate::specs::Sent::sent_header, crate::specs::Sent::sent_of, crate::specs::Sent::posting, crate::specs::Sent::sent_bytes, words::specs::Choice::choose))]
 
 ghost use Rattle.std.specs.Prelude.{◌≡◌};
 ghost use Rattle.calls.specs.Sent.{blank_call, sent_header, sent_of, posting, Posted, sent_bytes};
@@ -17,7 +17,7 @@ pub struct Call {
 }
 
 // What the stub is told.
-#[derive(Clone, Copy)]
+#[derive(Clone, Copy, PartialEq, Eq, Debug)]
 pub enum Notice {
     Nothing,
     // All fragments to the last are held.
@@ -64,8 +64,13 @@ pub fn header(
 ) -> Header
     ensures { result ≡ sent_header kind flags1 serial activity boot number call fragment }
 {
-    let object = call.object;
-    let interface = call.interface;
+    let Call {
+        object,
+        interface,
+        version,
+        operation,
+        ..
+    } = call;
     Header {
         kind,
         flags1,
@@ -75,11 +80,11 @@ pub fn header(
         interface,
         activity,
         boot,
-        version: call.version,
+        version,
         number,
-        operation: call.operation,
-        ihint: 65535,
-        ahint: 65535,
+        operation,
+        ihint: u16::MAX,
+        ahint: u16::MAX,
         fragment,
         authentication: 0,
     }
@@ -89,26 +94,19 @@ pub fn header(
 fn sent_of(length: usize) -> Sent
     ensures { result ≡ sent_of length }
 {
-    if length == 0 {
-        return None;
-    }
-    Some(length)
+    (length > 0).then_some(length)
 }
 
 // Writes a PDU to send into the lent buffer.
 pub fn post(h: Header, body: &[u8], out: &mut [u8]) -> Sent
     ensures { Posted (posting h body.now out.old) result out.new }
 {
-    let written = writer::write(h, body, out);
-    sent_of(written.length)
+    sent_of(writer::write(h, body, out).length)
 }
 
 // The PDU that was sent: the front of the lent buffer, or an empty part where nothing was.
 pub fn sent_bytes(sent: Sent, buffer: &[u8]) -> &[u8]
     ensures { result.now ≡ sent_bytes sent buffer.now }
 {
-    match sent {
-        None => &buffer[0..0],
-        Some(length) => words::first(buffer, length),
-    }
+    words::first(buffer, sent.unwrap_or(0))
 }
