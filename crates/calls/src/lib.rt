@@ -1,5 +1,5 @@
 // A call as both machines see it: its operation data, the PDUs sent for it, and what the stub is told.
-#![tactic(auto, unfolding(crate::specs::Outcome::refused, crate::specs::Outcome::done))]
+#![tactic(auto, unfolding(crate::specs::Outcome::refused, crate::specs::Outcome::done, crate::specs::Sent::blank_call, crate::specs::Sent::sent_header, crate::specs::Sent::posting, crate::specs::Sent::sent_bytes, words::specs::Choice::choose))]
 
 ghost use Rattle.std.specs.Prelude.{◌≡◌};
 ghost use Rattle.pdu.specs.Kind.{kind_number};
@@ -21,7 +21,7 @@ pub struct Call {
 }
 
 // What the stub is told.
-#[derive(Clone, Copy)]
+#[derive(Clone, Copy, PartialEq, Eq, Debug)]
 pub enum Notice {
     Nothing,
     // All fragments to the last are held.
@@ -111,8 +111,13 @@ pub fn header(
 ) -> Header
     ensures { result ≡ sent_header (kind_number kind) flags1 serial activity boot number call fragment }
 {
-    let object = call.object;
-    let interface = call.interface;
+    let Call {
+        object,
+        interface,
+        version,
+        operation,
+        ..
+    } = call;
     Header {
         kind: u8::from(kind),
         flags1,
@@ -122,11 +127,11 @@ pub fn header(
         interface,
         activity,
         boot,
-        version: call.version,
+        version,
         number,
-        operation: call.operation,
-        ihint: 65535,
-        ahint: 65535,
+        operation,
+        ihint: u16::MAX,
+        ahint: u16::MAX,
         fragment,
         authentication: 0,
     }
@@ -143,8 +148,5 @@ pub fn post(h: Header, body: &[u8], out: &mut [u8]) -> Sent
 pub fn sent_bytes(sent: Sent, buffer: &[u8]) -> &[u8]
     ensures { result.now ≡ sent_bytes sent buffer.now }
 {
-    match sent {
-        None => &buffer[0..0],
-        Some(length) => words::first(buffer, length),
-    }
+    words::first(buffer, sent.unwrap_or(0))
 }

@@ -1,51 +1,44 @@
 // Fragments of a message received: judged against what is held, put into their slot, and handed up.
-#![tactic(auto)]
+#![tactic(auto, unfolding(crate::specs::Fragment::lent_right, crate::specs::Fragment::is_last, crate::specs::Fragment::wants_fack, crate::specs::Fragment::wrong_fragment, crate::specs::Judgement::held, crate::specs::Judgement::held_above, crate::specs::Judgement::above_last, crate::specs::Judgement::other_last, crate::specs::Judgement::last_below_held, crate::specs::Judgement::contradicts, crate::specs::Put::put_of, crate::specs::Put::storing, crate::specs::Slots::filled, crate::specs::Slots::is_handed_up, crate::specs::Slots::handed_up, crate::specs::Joined::part_of, incoming::specs::Slots::progress_of, words::specs::Choice::both, words::specs::Choice::either, words::specs::Choice::choose))]
 
-ghost use Rattle.std.specs.Prelude.{◌≡◌, ◌%◌, get_or, drop, eqb, leb};
+ghost use Rattle.std.specs.Prelude.{◌≡◌, ◌%◌, drop, eqb, leb};
 ghost use Rattle.words.specs.Choice.{both};
 ghost use Rattle.words.specs.Sizes.{body_size, slots_size};
-ghost use Rattle.incoming.specs.Slots.{missing};
 ghost use Rattle.fragments.specs.Fragment.{lent_right, is_last, wants_fack, wrong_fragment};
 ghost use Rattle.fragments.specs.Judgement.{held, any_held, above_last, other_last, contradicts};
 ghost use Rattle.fragments.specs.Put.{put_of, put_into, storing};
 ghost use Rattle.fragments.specs.Slots.{filled, is_handed_up, handed_up};
 ghost use Rattle.fragments.specs.Joined.{part_of};
 
-use incoming::{Incoming, Last, Slot};
-use words::{BODY_SIZE, LAST_NUMBER, PDU_SIZE, SLOTS_SIZE, WINDOW_SIZE};
+use incoming::{Incoming, Last, Slots};
+use words::{BODY_SIZE, LAST_NUMBER, PDU_SIZE, SLOTS_SIZE};
 
 // Whether a slot buffer and a PDU buffer have their lengths.
 pub fn is_lent_right(slots: usize, out: usize) -> bool
     ensures { result ≡ lent_right slots out }
 {
-    words::both(slots == SLOTS_SIZE, out == PDU_SIZE)
+    slots == SLOTS_SIZE && out == PDU_SIZE
 }
 
 // Whether a fragment is the last: last set, or fragment clear.
 pub fn is_last(flags1: u8) -> bool
     ensures { result ≡ is_last flags1 }
 {
-    let last = flags::is_last(flags1);
-    let part = flags::is_fragment(flags1);
-    words::either(last, !part)
+    flags::is_last(flags1) || !flags::is_fragment(flags1)
 }
 
 // Whether what is put is answered by a fack: a fragment whose sender did not ask for none.
 fn wants_fack(flags1: u8) -> bool
     ensures { result ≡ wants_fack flags1 }
 {
-    let unwanted = flags::has_no_fack(flags1);
-    let part = flags::is_fragment(flags1);
-    words::both(!unwanted, part)
+    !flags::has_no_fack(flags1) && flags::is_fragment(flags1)
 }
 
 // Whether a fragment number is above 31, or other than 0 where fragment is clear.
 pub fn is_wrong(flags1: u8, number: u16) -> bool
     ensures { result ≡ wrong_fragment flags1 number }
 {
-    let part = flags::is_fragment(flags1);
-    let alone = words::both(!part, number != 0);
-    words::either(LAST_NUMBER < number, alone)
+    number > LAST_NUMBER || (!flags::is_fragment(flags1) && number != 0)
 }
 
 // The length of a body as a record keeps it.
@@ -71,82 +64,48 @@ pub struct Fragment {
 // What of an arriving body is stored: nothing, or all of it as the fragment of that number.
 pub type Stored = Option<u16>;
 
-// The slot of number f; beyond the window it is a missing one.
-fn slot_of(slots: [Slot; WINDOW_SIZE as usize], f: u16) -> Slot
-    ensures { result ≡ get_or slots f missing }
-{
-    if f < WINDOW_SIZE {
-        let at = f as usize;
-        return slots[at];
-    }
-    Slot {
-        held: false,
-        length: 0,
-    }
-}
-
 // Whether fragment f is held.
 pub fn is_held(m: Incoming, f: u16) -> bool
     ensures { result ≡ held m f }
 {
-    let slots = m.slots;
-    let slot = slot_of(slots, f);
-    slot.held
+    m.slots.get(usize::from(f)).is_some_and(|slot| slot.held)
 }
 
 // Whether some slot from number `from` on is held.
-fn held_from(slots: [Slot; WINDOW_SIZE as usize], from: u32) -> bool
-    ensures { result ≡ any_held (drop from slots) }
+fn held_from(slots: &Slots, from: usize) -> bool
+    ensures { result ≡ any_held (drop from slots.now) }
 {
-    let mut i = from;
-    while i < WINDOW_SIZE as u32 {
-        let at = i as usize;
-        let slot = slots[at];
-        if slot.held {
-            return true;
-        }
-        i += 1;
-    }
-    false
+    slots.iter().skip(from).any(|slot| slot.held)
 }
 
 // Whether fragment f is above the known last.
 fn above_last(last: Last, f: u16) -> bool
     ensures { result ≡ above_last last f }
 {
-    match last {
-        None => false,
-        Some(number) => number < f,
-    }
+    last.is_some_and(|number| number < f)
 }
 
 // Whether the last fragment is f and another is known to be.
 fn other_last(last: Last, f: u16, is_last: bool) -> bool
     ensures { result ≡ other_last last f is_last }
 {
-    match last {
-        None => false,
-        Some(number) => words::both(is_last, number != f),
-    }
+    last.is_some_and(|number| is_last && number != f)
 }
 
 // Whether fragment f contradicts what is held, in one of the three ways.
 pub fn contradicts_held(m: Incoming, f: u16, is_last: bool) -> bool
     ensures { result ≡ contradicts m f is_last }
 {
-    let slots = m.slots;
-    let last = m.last;
-    let above = above_last(last, f);
-    let other = other_last(last, f, is_last);
-    let below = words::both(is_last, held_from(slots, f as u32 + 1));
-    words::either(above, words::either(other, below))
+    above_last(m.last, f)
+        || other_last(m.last, f, is_last)
+        || (is_last && held_from(&m.slots, usize::from(f) + 1))
 }
 
 // Whether a body has its place in a slot buffer.
 fn has_place(size: usize, body: usize) -> bool
     ensures { result ≡ both (eqb size slots_size) (leb body body_size) }
 {
-    words::both(size == SLOTS_SIZE, body <= BODY_SIZE)
+    size == SLOTS_SIZE && body <= BODY_SIZE
 }
 
 // Puts a fragment's bytes into their place of the slot buffer. A body that is too long, a number beyond the window and
@@ -155,7 +114,7 @@ fn fill(buffer: &mut [u8], f: u16, body: &[u8])
     ensures { buffer.new ≡ filled f body.now buffer.old }
 {
     if has_place(buffer.len(), body.len()) {
-        words::put(buffer, BODY_SIZE * (f as usize), body);
+        words::put(buffer, BODY_SIZE * usize::from(f), body);
     }
 }
 
@@ -163,9 +122,8 @@ fn fill(buffer: &mut [u8], f: u16, body: &[u8])
 pub fn store(place: Stored, body: &[u8], slots: &mut [u8])
     ensures { slots.new ≡ storing place body.now slots.old }
 {
-    match place {
-        None => {}
-        Some(f) => fill(slots, f, body),
+    if let Some(f) = place {
+        fill(slots, f, body);
     }
 }
 
@@ -197,24 +155,20 @@ pub fn put_into(m: Incoming, p: Fragment) -> Incoming
 fn is_handed_up(m: Incoming, f: u16, size: usize) -> bool
     ensures { result ≡ is_handed_up m f size }
 {
-    let sized = size == SLOTS_SIZE;
-    let sound = incoming::is_sound(m);
-    let contiguous = f < incoming::count(m);
-    words::both(sized, words::both(sound, contiguous))
+    size == SLOTS_SIZE && incoming::is_sound(m) && f < incoming::count(m)
 }
 
 // The part of the slot buffer that is fragment f, where f is handed up; else an empty part.
+#[tactic(auto, using(crate::proofs::FragmentLaws::handed_number, crate::proofs::FragmentLaws::handed_within), unfolding(crate::specs::Slots::handed_up, words::specs::Choice::choose))]
 fn hand_up(m: Incoming, f: u16, buffer: &[u8]) -> &[u8]
     ensures { result.now ≡ handed_up m f buffer.now }
 {
-    let slots = m.slots;
-    let slot = slot_of(slots, f);
-    let from = BODY_SIZE * (f as usize);
-    let to = from + slot.length as usize;
-    if is_handed_up(m, f, buffer.len()) {
-        return &buffer[from..to];
+    if !is_handed_up(m, f, buffer.len()) {
+        return &buffer[..0];
     }
-    &buffer[0..0]
+    let number = usize::from(f);
+    let from = BODY_SIZE * number;
+    &buffer[from..from + usize::from(m.slots[number].length)]
 }
 
 // The part that a machine hands back for number f; an empty one where its record breaks its rules.
@@ -222,7 +176,8 @@ pub fn hand_up_where(kept: bool, m: Incoming, f: u16, slots: &[u8]) -> &[u8]
     ensures { result.now ≡ part_of kept m f slots.now }
 {
     if kept {
-        return hand_up(m, f, slots);
+        hand_up(m, f, slots)
+    } else {
+        &slots[..0]
     }
-    &slots[0..0]
 }

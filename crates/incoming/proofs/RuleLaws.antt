@@ -1,6 +1,6 @@
 -- The record rules of a message received, by name.
 use Prim.Native.Nat.{ℕ, ◌<◌, ◌≤◌}
-use mathlib.Core.Bool.{Bool, true, false≢true}
+use mathlib.Core.Bool.{true, false≢true}
 use mathlib.Core.Path.{◌≡◌, sym, ap, ◌∙◌}
 use native.Mathlib.Omega.{arith}
 use native.Mathlib.Decide.{dec_lt}
@@ -8,9 +8,8 @@ use native.Mathlib.Nat.{zero-add}
 use lib.Dec.{eqb}
 use lib.ListN.{length, get_or, get_or-eq_default}
 use borrow.Author.Tests.{eq-eqb, eqb-true}
-use Rattle.words.specs.Choice.{both}
 use Rattle.words.specs.Sizes.{body_size, window_size}
-use Rattle.words.proofs.Tests.{choose_true, both_hold, both_true}
+use Rattle.words.proofs.Tests.{both_hold, both_true}
 use Rattle.incoming.specs.declared.Slot.{Slot}
 use Rattle.incoming.specs.declared.Incoming.{Incoming}
 use Rattle.incoming.specs.Slots.{missing, window, within, sound_from, last_sound, sound, ready}
@@ -36,13 +35,6 @@ unfolding sound
 sound_by m kept =
     both_hold (eqb (length m.slots) window_size) _ (eq-eqb (length m.slots) window_size kept.slotted)
     (both_hold (last_sound m.last) (sound_from m.last 0 (window m)) kept.last kept.slots)
-
--- Of a record that has its slots, as every one of the code does, the other two rules decide.
-pub sound_is : (m : Incoming) → length m.slots ≡ window_size → (t : Bool)
-    → t ≡ both (last_sound m.last) (sound_from m.last 0 (window m)) → t ≡ sound m
-unfolding sound both
-sound_is m long t e =
-    e ∙ sym (choose_true (eqb (length m.slots) window_size) _ _ (eq-eqb (length m.slots) window_size long))
 
 -- A slot that is held is one of them,
 pub held_inside : (m : Incoming) → Kept m → (g : ℕ) → (get_or (window m) g missing).held ≡ true → g < window_size

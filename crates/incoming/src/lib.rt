@@ -1,24 +1,28 @@
 // The message received: which fragments are held, how long each is, and which is known to be the last.
-#![tactic(auto)]
+#![tactic(auto, unfolding(crate::specs::Slots::slot_sound, crate::specs::Slots::sound, crate::specs::Slots::contiguous, crate::specs::Slots::complete, crate::specs::Slots::progress_of, crate::specs::Slots::cleared, crate::specs::Slots::slots_with, crate::specs::Slots::last_with, crate::specs::Slots::stored, words::specs::Choice::both, words::specs::Choice::either, words::specs::Choice::choose))]
 
 ghost use Rattle.std.specs.Prelude.{◌≡◌};
-ghost use Rattle.incoming.specs.Slots.{within, held_sound, sound_from, last_sound, sound, contiguous_from, contiguous, all_to, progress_of, cleared, slots_with, last_with, stored};
+ghost use Rattle.incoming.specs.Slots.{within, held_sound, sound_from, last_sound, sound, contiguous_from, contiguous, all_to, progress_of, cleared, stored};
 
 use words::{BODY_SIZE, LAST_NUMBER, WINDOW_SIZE};
 
-// A fragment's place: held or missing, and its length where it is held.
+// A fragment's place: held or missing, and its length where it is held. It is no Option of a length: a missing slot has
+// any length in `slot_sound`, which says of every record what both machines answer to it, and an Option has fewer values.
 #[derive(Clone, Copy)]
 pub struct Slot {
     pub held: bool,
     pub length: u16,
 }
 
+// The slots of a record, in the order of their numbers.
+pub type Slots = [Slot; WINDOW_SIZE as usize];
+
 // The number known to be the last fragment's.
 pub type Last = Option<u16>;
 
 #[derive(Clone, Copy)]
 pub struct Incoming {
-    pub slots: [Slot; WINDOW_SIZE as usize],
+    pub slots: Slots,
     pub last: Last,
 }
 
@@ -30,107 +34,68 @@ pub struct Progress {
 }
 
 // Whether number i is not above the known last.
-fn is_within(last: Last, i: u16) -> bool
+fn is_within(last: Last, i: usize) -> bool
     ensures { result ≡ within last i }
 {
-    match last {
-        None => true,
-        Some(number) => i <= number,
-    }
+    last.is_none_or(|number| i <= usize::from(number))
 }
 
 // Whether what is held at number i keeps the rules.
-fn held_is_sound(last: Last, i: u16, length: u16) -> bool
+fn held_is_sound(last: Last, i: usize, length: u16) -> bool
     ensures { result ≡ held_sound last i length }
 {
-    if length as usize > BODY_SIZE {
-        return false;
-    }
-    is_within(last, i)
+    usize::from(length) <= BODY_SIZE && is_within(last, i)
 }
 
 fn last_is_sound(last: Last) -> bool
     ensures { result ≡ last_sound last }
 {
-    match last {
-        None => true,
-        Some(number) => number <= LAST_NUMBER,
-    }
+    last.is_none_or(|number| number <= LAST_NUMBER)
 }
 
 // Whether every slot keeps the rules; one that is not held does.
-fn slots_are_sound(slots: [Slot; WINDOW_SIZE as usize], last: Last) -> bool
-    ensures { result ≡ sound_from last 0 slots }
+fn slots_are_sound(slots: &Slots, last: Last) -> bool
+    ensures { result ≡ sound_from last 0 slots.now }
 {
-    let mut i: u16 = 0;
-    while i < WINDOW_SIZE {
-        let at = i as usize;
-        let slot = slots[at];
-        if slot.held {
-            if !held_is_sound(last, i, slot.length) {
-                return false;
-            }
-        }
-        i += 1;
-    }
-    true
+    slots.iter().enumerate().all(|(i, slot)| !slot.held || held_is_sound(last, i, slot.length))
 }
 
 // Whether a message received keeps the record rules.
 pub fn is_sound(m: Incoming) -> bool
     ensures { result ≡ sound m }
 {
-    let slots = m.slots;
-    let last = m.last;
-    if !last_is_sound(last) {
-        return false;
-    }
-    slots_are_sound(slots, last)
+    last_is_sound(m.last) && slots_are_sound(&m.slots, m.last)
 }
 
 // How many slots from the first on are held without a gap.
-fn count_held(slots: [Slot; WINDOW_SIZE as usize]) -> u16
-    ensures { result ≡ contiguous_from slots }
+fn count_held(slots: &Slots) -> u16
+    ensures { result ≡ contiguous_from slots.now }
 {
-    let mut i: u16 = 0;
-    while i < WINDOW_SIZE {
-        let at = i as usize;
-        let slot = slots[at];
-        if !slot.held {
-            return i;
-        }
-        i += 1;
-    }
-    WINDOW_SIZE
+    slots.iter().take_while(|slot| slot.held).count() as u16
 }
 
 // The contiguous count.
 pub fn count(m: Incoming) -> u16
     ensures { result ≡ contiguous m }
 {
-    let slots = m.slots;
-    count_held(slots)
+    count_held(&m.slots)
 }
 
 // Whether a count reaches the known last.
 fn reaches(last: Last, held: u16) -> bool
     ensures { result ≡ all_to last held }
 {
-    match last {
-        None => false,
-        Some(number) => number < held,
-    }
+    last.is_some_and(|number| number < held)
 }
 
 // How far a message has come.
 pub fn progress_of(m: Incoming) -> Progress
     ensures { result ≡ progress_of m }
 {
-    let last = m.last;
     let count = count(m);
     Progress {
         count,
-        complete: reaches(last, count),
+        complete: reaches(m.last, count),
     }
 }
 
@@ -147,41 +112,15 @@ pub fn empty() -> Incoming
     }
 }
 
-// The slots with fragment f held; a number beyond the window has no slot.
-fn slots_with(
-    slots: [Slot; WINDOW_SIZE as usize],
-    f: u16,
-    length: u16,
-) -> [Slot; WINDOW_SIZE as usize]
-    ensures { result ≡ slots_with slots f length }
-{
-    let mut after = slots;
-    if f < WINDOW_SIZE {
-        let at = f as usize;
-        after[at] = Slot { held: true, length };
-        return after;
-    }
-    after
-}
-
-// The known last after fragment f.
-fn last_with(last: Last, f: u16, is_last: bool) -> Last
-    ensures { result ≡ last_with last f is_last }
-{
-    if is_last {
-        return Some(f);
-    }
-    last
-}
-
-// The message with fragment f held, and known to be the last where it is.
-pub fn with(m: Incoming, f: u16, length: u16, is_last: bool) -> Incoming
+// The message with fragment f held, and known to be the last where it is; a number beyond the window has no slot.
+pub fn with(mut m: Incoming, f: u16, length: u16, is_last: bool) -> Incoming
     ensures { result ≡ stored m f length is_last }
 {
-    let slots = m.slots;
-    let last = m.last;
-    Incoming {
-        slots: slots_with(slots, f, length),
-        last: last_with(last, f, is_last),
+    if f < WINDOW_SIZE {
+        m.slots[usize::from(f)] = Slot { held: true, length };
     }
+    if is_last {
+        m.last = Some(f);
+    }
+    m
 }

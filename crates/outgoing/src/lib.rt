@@ -1,7 +1,7 @@
 // The message being sent: its cut into fragments, how far it is sent and acknowledged, and the sender's serial.
-#![tactic(auto)]
+#![tactic(auto, unfolding(crate::specs::Message::fragments, crate::specs::Message::fragment_of, crate::specs::Message::flags_of, crate::specs::Lent::same_message, crate::specs::Lent::transmit_lent, crate::specs::Sending::next_serial, crate::specs::Sending::sent_more, crate::specs::Sending::in_field, crate::specs::Sending::after_send, crate::specs::Sending::sends_last, crate::specs::Sending::after_ping, crate::specs::Sending::acknowledged_to, crate::specs::Sending::first_to_send, crate::specs::Sending::rewound, crate::specs::Sending::message_of, crate::specs::Sending::started_message, crate::specs::Sending::replied, crate::specs::Sending::no_message, crate::specs::Sending::bounded, crate::specs::Sending::has_message, crate::specs::Sending::has_nothing, words::specs::Choice::both, words::specs::Choice::either, words::specs::Choice::choose))]
 
-ghost use Rattle.std.specs.Prelude.{◌≡◌, max};
+ghost use Rattle.std.specs.Prelude.{◌≡◌};
 ghost use Rattle.outgoing.specs.Message.{fragments, fragment_of, flags_of};
 ghost use Rattle.outgoing.specs.Lent.{same_message, transmit_lent};
 ghost use Rattle.outgoing.specs.Sending.{next_serial, sent_more, in_field, after_send, sends_last, after_ping, acknowledged_to, first_to_send, rewound, message_of, started_message, replied, no_message, bounded, has_message, has_nothing};
@@ -23,26 +23,18 @@ pub struct Outgoing {
 fn fragments(length: u32) -> u32
     ensures { result ≡ fragments length }
 {
-    if length == 0 {
-        return 1;
-    }
-    (length - 1) / (BODY_SIZE as u32) + 1
+    length.max(1).div_ceil(BODY_SIZE as u32)
 }
 
 // The part of a message that is its fragment f; an empty part where there is none.
+#[tactic(auto, using(crate::proofs::OutgoingLaws::fragment_within))]
 pub fn fragment(message: &[u8], f: u16) -> &[u8]
     ensures { result.now ≡ fragment_of message.now f }
 {
-    let from = BODY_SIZE * (f as usize);
     let size = message.len();
-    if size <= from {
-        return &message[0..0];
-    }
-    if size - from < BODY_SIZE {
-        return &message[from..size];
-    }
+    let from = BODY_SIZE * usize::from(f);
     let to = from + BODY_SIZE;
-    &message[from..to]
+    &message[from.min(size)..to.min(size)]
 }
 
 // flags1 of fragment f of a message of `count` fragments.
@@ -52,73 +44,60 @@ pub fn flags(count: u16, f: u16) -> u8
     if count == 1 {
         return 0;
     }
-    flags::with(FRAGMENT, LAST_FRAGMENT, f as u32 + 1 == count as u32)
+    let is_last = u32::from(f) + 1 == u32::from(count);
+    flags::with(FRAGMENT, LAST_FRAGMENT, is_last)
 }
 
 // The serial of the next request, response or ping.
 fn next_serial(serial: u16) -> u16
     ensures { result ≡ next_serial serial }
 {
-    std::num::wrapping_add_u16(serial, 1)
+    serial.wrapping_add(1)
 }
 
 // One more is sent; 65535, which no sound record has, stays.
 fn sent_more(sent: u16) -> u16
     ensures { result ≡ sent_more sent }
 {
-    if sent < 65535 {
-        return sent + 1;
-    }
-    sent
+    sent.saturating_add(1)
 }
 
 // After the next fragment is sent.
 pub fn after_send(o: Outgoing) -> Outgoing
     ensures { result ≡ after_send o }
 {
-    let sent = sent_more(o.sent);
-    let serial = next_serial(o.serial);
-    let mut next = o;
-    next.sent = sent;
-    next.serial = serial;
-    next
+    Outgoing {
+        sent: sent_more(o.sent),
+        serial: next_serial(o.serial),
+        ..o
+    }
 }
 
 // Whether the next fragment to send is the message's last.
 pub fn sends_last(o: Outgoing) -> bool
     ensures { result ≡ sends_last o }
 {
-    o.sent as u32 + 1 == o.count as u32
+    u32::from(o.sent) + 1 == u32::from(o.count)
 }
 
 // The next ping is sent: the serial goes up.
 pub fn after_ping(o: Outgoing) -> Outgoing
     ensures { result ≡ after_ping o }
 {
-    let raised = next_serial(o.serial);
-    let mut next = o;
-    next.serial = raised;
-    next
-}
-
-// The larger of two numbers.
-fn larger(a: u16, b: u16) -> u16
-    ensures { result ≡ max a b }
-{
-    if a < b {
-        return b;
+    Outgoing {
+        serial: next_serial(o.serial),
+        ..o
     }
-    a
 }
 
 // After a fack for the first `count` fragments.
 pub fn acknowledge(o: Outgoing, count: u16) -> Outgoing
     ensures { result ≡ acknowledged_to o count }
 {
-    let acknowledged = larger(o.acknowledged, count);
-    let mut next = o;
-    next.acknowledged = acknowledged;
-    next
+    Outgoing {
+        acknowledged: o.acknowledged.max(count),
+        ..o
+    }
 }
 
 // The first unacknowledged fragment, or 0 if none.
@@ -126,39 +105,36 @@ fn first_to_send(acknowledged: u16, count: u16) -> u16
     ensures { result ≡ first_to_send acknowledged count }
 {
     if acknowledged < count {
-        return acknowledged;
+        acknowledged
+    } else {
+        0
     }
-    0
 }
 
 // The message goes out again, from the first unacknowledged fragment, or 0 if none.
 pub fn rewind(o: Outgoing) -> Outgoing
     ensures { result ≡ rewound o }
 {
-    let sent = first_to_send(o.acknowledged, o.count);
-    let mut next = o;
-    next.sent = sent;
-    next
+    Outgoing {
+        sent: first_to_send(o.acknowledged, o.count),
+        ..o
+    }
 }
 
 // A fragment count as the record keeps it; more than 65535, which no message has, counts as 65535.
 fn counted(count: u32) -> u16
     ensures { result ≡ in_field count }
 {
-    if count < 65535 {
-        return count as u16;
-    }
-    65535
+    u16::try_from(count).unwrap_or(u16::MAX)
 }
 
 // A message of this length, of which nothing is sent or acknowledged.
 fn message_of(length: u32, serial: u16) -> Outgoing
     ensures { result ≡ message_of length serial }
 {
-    let count = counted(fragments(length));
     Outgoing {
         length,
-        count,
+        count: counted(fragments(length)),
         sent: 0,
         acknowledged: 0,
         serial,
@@ -196,15 +172,14 @@ pub fn nothing(serial: u16) -> Outgoing
 pub fn is_bounded(o: Outgoing) -> bool
     ensures { result ≡ bounded o }
 {
-    words::both(o.sent <= o.count, o.acknowledged <= o.count)
+    o.sent <= o.count && o.acknowledged <= o.count
 }
 
 // Whether the fragment count is the message length's, as it must be where a message is out.
 pub fn has_message(o: Outgoing) -> bool
     ensures { result ≡ has_message o }
 {
-    let count = fragments(o.length);
-    words::both(o.length <= MESSAGE_SIZE, o.count as u32 == count)
+    o.length <= MESSAGE_SIZE && u32::from(o.count) == fragments(o.length)
 }
 
 // Whether the fragment count is 0, as it must be where no message is out.
@@ -218,7 +193,7 @@ pub fn has_nothing(o: Outgoing) -> bool
 fn is_same_message(sending: bool, message: usize, length: u32) -> bool
     ensures { result ≡ same_message sending message length }
 {
-    words::either(!sending, message == length as usize)
+    !sending || message == length as usize
 }
 
 // Whether what is lent at a transmit is right: the PDU buffer and the message, whose length the record has where it is
@@ -226,7 +201,5 @@ fn is_same_message(sending: bool, message: usize, length: u32) -> bool
 pub fn is_transmit_lent(sending: bool, message: usize, length: u32, out: usize) -> bool
     ensures { result ≡ transmit_lent sending message length out }
 {
-    let same = is_same_message(sending, message, length);
-    let fits = words::both(message <= MESSAGE_SIZE as usize, same);
-    words::both(out == PDU_SIZE, fits)
+    out == PDU_SIZE && message <= MESSAGE_SIZE as usize && is_same_message(sending, message, length)
 }

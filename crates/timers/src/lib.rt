@@ -1,11 +1,8 @@
 // Timers: off, or armed with a ticket that a record's one counter gives out.
-#![tactic(auto)]
+#![tactic(auto, unfolding(crate::specs::Tickets::used_up, crate::specs::Tickets::next_ticket, crate::specs::Tickets::armed_afresh, crate::specs::Tickets::armed_if_off, crate::specs::Tickets::tickets_if_off, crate::specs::Tickets::armed_with, crate::specs::Tickets::off, crate::specs::Tickets::sound, crate::specs::Tickets::timer_sound, words::specs::Choice::both, words::specs::Choice::either, words::specs::Choice::choose))]
 
 ghost use Rattle.std.specs.Prelude.{◌≡◌};
 ghost use Rattle.timers.specs.Tickets.{used_up, next_ticket, armed_afresh, armed_if_off, tickets_if_off, armed_with, off, sound, timer_sound};
-
-// The largest counter.
-const LARGEST: u64 = 18446744073709551615;
 
 // A timer: off, or armed with that ticket.
 pub type Timer = Option<u64>;
@@ -14,44 +11,38 @@ pub type Timer = Option<u64>;
 pub fn used_up(counter: u64) -> bool
     ensures { result ≡ used_up counter }
 {
-    counter == LARGEST
+    counter == u64::MAX
 }
 
 // The counter after arming, which is the new ticket; a used up counter stays as it is.
 pub fn next_ticket(counter: u64) -> u64
     ensures { result ≡ next_ticket counter }
 {
-    if counter == LARGEST {
-        return counter;
-    }
-    counter + 1
+    counter.saturating_add(1)
 }
 
 // A timer armed with the next ticket.
 pub fn armed_afresh(counter: u64) -> Timer
     ensures { result ≡ armed_afresh counter }
 {
-    let ticket = next_ticket(counter);
-    Some(ticket)
+    Some(next_ticket(counter))
 }
 
 // The timer armed with the next ticket where it is off; one that is armed stays as it is.
 pub fn armed_if_off(timer: Timer, counter: u64) -> Timer
     ensures { result ≡ armed_if_off timer counter }
 {
-    match timer {
-        None => armed_afresh(counter),
-        Some(held) => Some(held),
-    }
+    timer.or(armed_afresh(counter))
 }
 
 // The counter after that.
 pub fn tickets_if_off(timer: Timer, counter: u64) -> u64
     ensures { result ≡ tickets_if_off timer counter }
 {
-    match timer {
-        None => next_ticket(counter),
-        Some(_) => counter,
+    if timer.is_none() {
+        next_ticket(counter)
+    } else {
+        counter
     }
 }
 
@@ -59,37 +50,26 @@ pub fn tickets_if_off(timer: Timer, counter: u64) -> u64
 pub fn is_armed_with(timer: Timer, ticket: u64) -> bool
     ensures { result ≡ armed_with timer ticket }
 {
-    match timer {
-        None => false,
-        Some(held) => held == ticket,
-    }
+    timer == Some(ticket)
 }
 
 // Whether no ticket is armed.
 pub fn is_off(timer: Timer) -> bool
     ensures { result ≡ off timer }
 {
-    match timer {
-        None => true,
-        Some(_) => false,
-    }
+    timer.is_none()
 }
 
 // Whether the timer is off or its ticket at most the counter.
 fn is_sound(timer: Timer, counter: u64) -> bool
     ensures { result ≡ sound timer counter }
 {
-    match timer {
-        None => true,
-        Some(held) => held <= counter,
-    }
+    timer.is_none_or(|held| held <= counter)
 }
 
 // Whether the timer is off, or named by the state and its ticket at most the counter.
 pub fn is_sound_where(named: bool, timer: Timer, tickets: u64) -> bool
     ensures { result ≡ timer_sound named timer tickets }
 {
-    let off = is_off(timer);
-    let sound = is_sound(timer, tickets);
-    words::both(words::either(named, off), sound)
+    (named || is_off(timer)) && is_sound(timer, tickets)
 }

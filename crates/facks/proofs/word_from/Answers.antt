@@ -1,29 +1,16 @@
--- `facks::word_from` meets its contract. Before each turn the word is that of the slots from i on.
-use Prim.Native.Nat.{◌≤◌}
-use mathlib.Core.Logic.{inl, inr}
-use mathlib.Core.Path.{◌≡◌, sym, ap, ◌∙◌}
-use native.Mathlib.Omega.{arith}
-use borrow.Author.Rules.{rules}
-use lib.ListN.{length, drop_of_length-le}
-use Rattle.words.specs.Sizes.{window_size}
-use Rattle.facks.specs.Mask.{held_word}
-use Rattle.facks.proofs.MaskLaws.{word_step, word_end}
+-- `facks::word_from` meets its contract.
+use Rattle.std.proofs.Common.{rules, ◌≡◌, ◌∙◌, ap, arith, drop, length-drop}
+use Rattle.std.proofs.lemmas.Iterator.Adapters.{YieldsList-from_rev_slice}
+use Rattle.std.proofs.lemmas.Iterator.Consumers.{fold_from_yields_List}
+use Rattle.facks.proofs.MaskLaws.{shifted_in, word_built, slots_behind}
 use Rattle.facks.proofs.word_from.Goals as goal
-
-pub loop-i-init : goal.loop-i-init
-loop-i-init c =
-    let long : length c.args.slots ≡ window_size = search rules in
-    let past : length c.args.slots ≤ window_size = omega arith in
-    (inr (omega arith), omega arith, long, sym (ap held_word (drop_of_length-le c.args.slots past)))
-
-pub loop-i-preserved : goal.loop-i-preserved
-loop-i-preserved c =
-    let l = c.loop-i in
-    let slots = c.args.slots in
-    (inl (omega arith), omega arith, l.invariant.2, word_step slots l.i l.word c.bit_of.result _ l.invariant.2 (omega arith) l.invariant.1 l.invariant.3 c.bit_of.ensures)
 
 pub returns : goal.returns
 returns c =
-    let l = c.loop-i in
     let a = c.args in
-    l.invariant.3 ∙ word_end a.slots a.from l.i l.invariant.2 (omega arith) l.invariant.0
+    let behind = drop a.from a.slots.now in
+    let rest : c.iter.result.rest.now ≡ behind =
+    c.iter.ensures.rest ∙ slots_behind a.slots.now a.from c.min.result c.told-slots (omega arith) in
+    let source : c.rev.result.iter.rest.now ≡ behind = ap (λ s. s.rest.now) c.rev.ensures.source ∙ rest in
+    fold_from_yields_List _ shifted_in 0 c.fold.result c.fold.ensures.ran (YieldsList-from_rev_slice behind source) (λ a x b q k. search rules)
+    ∙ word_built behind (omega (arith, length-drop a.from a.slots.now))

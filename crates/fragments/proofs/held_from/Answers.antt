@@ -1,31 +1,15 @@
--- `fragments::held_from` meets its contract. Before each turn no slot from `from` to below i is held.
-use Prim.Native.Nat.{◌≤◌}
-use mathlib.Core.Path.{refl, sym, ap, ◌∙◌}
-use native.Mathlib.Omega.{arith}
-use borrow.Author.Rules.{rules}
-use lib.ListN.{length, drop_of_length-le}
-use Rattle.fragments.specs.Judgement.{any_held}
-use Rattle.fragments.proofs.FragmentLaws.{any_found, any_on}
+-- `fragments::held_from` meets its contract.
+use Rattle.std.proofs.Common.{rules, drop, ◌∙◌}
+use Rattle.std.proofs.lemmas.Iterator.{YieldsList-from_slice}
+use Rattle.std.proofs.lemmas.Iterator.Adapters.{YieldsList-from_skip}
+use Rattle.std.proofs.lemmas.Iterator.Search.{any_from_yields_List}
+use Rattle.incoming.specs.declared.Slot.{Slot}
+use Rattle.fragments.proofs.FragmentLaws.{any_each}
 use Rattle.fragments.proofs.held_from.Goals as goal
-
-pub loop-i-init : goal.loop-i-init
-loop-i-init c = (search rules, refl)
-
-pub returns-then-slot : goal.returns-then-slot
-returns-then-slot c =
-    let l = c.loop-i in
-    let slots = c.args.slots in
-    sym (l.invariant.1 ∙ any_found slots l.i _ (omega arith) c.if-slot.true)
-
-pub loop-i-preserved : goal.loop-i-preserved
-loop-i-preserved c =
-    let l = c.loop-i in
-    let slots = c.args.slots in
-    (l.invariant.0, l.invariant.1 ∙ any_on slots l.i _ (omega arith) c.if-slot.false)
 
 pub returns : goal.returns
 returns c =
-    let l = c.loop-i in
-    let slots = c.args.slots in
-    let past : length slots ≤ l.i = omega arith in
-    sym (l.invariant.1 ∙ ap any_held (drop_of_length-le slots past))
+    let a = c.args in
+    any_from_yields_List (λ (s : Slot). s.held) _ _ _ c.any.ensures.ran
+    (YieldsList-from_skip a.from (YieldsList-from_slice a.slots.now (cc)) (cc)) (λ x b q k. search rules)
+    ∙ any_each (drop a.from a.slots.now)

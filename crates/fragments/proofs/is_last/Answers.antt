@@ -1,7 +1,0 @@
--- `fragments::is_last` meets its contract.
-use Rattle.fragments.specs.Fragment.{is_last}
-use Rattle.fragments.proofs.is_last.Goals as goal
-
-pub returns : goal.returns
-unfolding is_last
-returns c = rw (c.either.ensures, c.is_fragment-part.ensures, c.is_last-last.ensures)

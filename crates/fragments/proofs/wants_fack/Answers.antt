@@ -1,7 +1,0 @@
--- `fragments::wants_fack` meets its contract.
-use Rattle.fragments.specs.Fragment.{wants_fack}
-use Rattle.fragments.proofs.wants_fack.Goals as goal
-
-pub returns : goal.returns
-unfolding wants_fack
-returns c = rw (c.both.ensures, c.is_fragment-part.ensures, c.has_no_fack-unwanted.ensures)
