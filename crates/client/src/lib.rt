@@ -1,6 +1,6 @@
 // The client call machine: a console's side of an activity. Each event takes the record by value and
 // the lent memory, judges, steps and only then acts.
-#![tactic(auto)]
+#![tactic(auto, unfolding(crate::specs::Sending::pdu_header, crate::specs::Sending::request_sent, crate::specs::Sending::empty_sent, crate::specs::Sending::fack_sent, crate::specs::Sending::cancel_sent, crate::specs::Sending::sent_out, crate::specs::Machine::start_by, crate::specs::Machine::starting, crate::specs::Machine::sending, crate::specs::Machine::step_by, crate::specs::Machine::transmitting, crate::specs::Machine::timing, crate::specs::Machine::cancelling, crate::specs::Machine::acted, crate::specs::Machine::arrival_by, crate::specs::Machine::arriving, crate::specs::Machine::handed_up_of, calls::specs::Outcome::refused, calls::specs::Outcome::done))]
 
 mod judge;
 mod records;

@@ -1,7 +1,0 @@
--- `client::hand_up` meets its contract.
-use Rattle.client.specs.Machine.{handed_up_of}
-use Rattle.client.proofs.hand_up.Goals as goal
-
-pub returns : goal.returns
-unfolding handed_up_of
-returns c = rw (c.hand_up_where.ensures, c.is_sound-sound.ensures)
