@@ -177,7 +177,7 @@ pub fn timer(c: Client, kind: TimerKind, ticket: u64, out: usize) -> Verdict
     if !records::is_named(kind, state) {
         return Err(Refusal::NoRow);
     }
-    if !timers::is_armed_with(records::timer_of(kind, wait, ack, cancel), ticket) {
+    if !timers::is_armed_with(records::timer_of(c, kind), ticket) {
         return Err(Refusal::LateTimer);
     }
     with_ticket(c, timer_row(kind, c))
