@@ -231,7 +231,7 @@ pub fn disarm_cancel(c: Client) -> Client
 }
 
 // The timer of a kind.
-pub fn timer_of(c: Client, kind: TimerKind) -> Timer
+pub fn timer_of(kind: TimerKind, c: Client) -> Timer
     ensures { result ≡ named_timer kind c.wait c.ack c.cancel }
 {
     match kind {

@@ -183,11 +183,12 @@ fn acknowledged(c: Client, count: u16) -> Client
 fn working(c: Client) -> Plan
     ensures { result ≡ working_plan c }
 {
-    let next = Client {
-        waits: 0,
-        ..records::to_waiting(c, State::Dispatched)
-    };
-    going(next, Send::Nothing, Notice::Nothing)
+    let heard = Client { waits: 0, ..c };
+    going(
+        records::to_waiting(heard, State::Dispatched),
+        Send::Nothing,
+        Notice::Nothing,
+    )
 }
 
 // The plan of a row.
