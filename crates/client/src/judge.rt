@@ -1,5 +1,7 @@
 // The client's judgement of each event: the first refusal of document 01's table that it meets, or its row with all
 // that the step needs. Nothing is written here.
+#![tactic(auto, unfolding(crate::specs::judge::Rows::next_number, crate::specs::judge::Rows::wait_row, crate::specs::judge::Rows::timer_row, crate::specs::judge::Rows::nocall_row, crate::specs::judge::Rows::is_current, crate::specs::judge::Rows::transmit_row, crate::specs::judge::Rows::cancel_row, crate::specs::judge::Rows::arms, crate::specs::judge::Rows::cell_in, crate::specs::judge::Rows::is_row, crate::specs::judge::Rows::arms_timer, crate::specs::judge::Rows::is_for_client, crate::specs::judge::Rows::arrival_cell, crate::specs::judge::Refusals::start_verdict, crate::specs::judge::Refusals::start_refusals, crate::specs::judge::Refusals::transmit_verdict, crate::specs::judge::Refusals::transmit_refusals, crate::specs::judge::Refusals::timer_verdict, crate::specs::judge::Refusals::timer_refusals, crate::specs::judge::Refusals::may_cancel, crate::specs::judge::Refusals::cancel_verdict, crate::specs::judge::Refusals::cancel_refusals, crate::specs::judge::Refusals::is_response, crate::specs::judge::Refusals::is_old, crate::specs::judge::Refusals::is_malformed, crate::specs::judge::Refusals::is_contradiction, crate::specs::judge::Refusals::pdu_verdict, crate::specs::judge::Refusals::pdu_refusals, crate::specs::judge::Refusals::activity_verdict, crate::specs::records::States::is_queued, timers::specs::Tickets::off, answers::specs::Table::first_of, answers::specs::Answer::if_done, bodies::specs::Status::status_result, bodies::specs::Status::status_reading, bodies::specs::Cancel::cancel_ack_result, bodies::specs::Cancel::cancel_ack_reading, bodies::specs::Cancel::acknowledging, facks::specs::Mask::acknowledges_more, words::specs::Choice::choose, words::specs::Choice::both, words::specs::Choice::either))]
+
 ghost use Rattle.std.specs.Prelude.{◌≡◌, ◌≤◌, ◌⊎◌};
 ghost use Rattle.words.specs.Choice.{choose, both};
 ghost use Rattle.answers.specs.declared.Refusal.TheVariants.{TicketsUsedUp};
@@ -9,10 +11,10 @@ ghost use Rattle.client.specs.judge.Rows.{next_number, wait_row, timer_row as ro
 ghost use Rattle.client.specs.judge.Refusals.{start_verdict, transmit_verdict, timer_verdict, may_cancel, cancel_verdict, is_old, pdu_verdict, activity_verdict, arrival_verdict};
 
 use crate::records;
-use crate::records::{Client, State, TimerKind};
-use answers::{Answer, Refusal};
+use crate::records::{Client, TimerKind};
+use answers::Refusal;
 use fragments::Fragment;
-use pdu::Header;
+use reader::Received;
 use timers::Timer;
 use words::{MESSAGE_SIZE, PDU_SIZE, RETRY_LIMIT};
 
@@ -50,35 +52,26 @@ pub type Verdict = Result<Row, Refusal>;
 pub type StartVerdict = Result<u32, Refusal>;
 
 // The last call number.
-const LAST_CALL_NUMBER: u32 = 4294967295;
+const LAST_CALL_NUMBER: u32 = u32::MAX;
 
 // The last cancel number.
-const LAST_CANCEL_NUMBER: u32 = 4294967295;
+const LAST_CANCEL_NUMBER: u32 = u32::MAX;
 
 // Whether a row arms a timer.
 fn arms(c: Client, row: Row) -> bool
     ensures { result ≡ arms_row c row }
 {
-    let call = c.call;
-    let cancel = c.cancel;
     match row {
         Row::Transmit(last) => last,
-        Row::Ping(_) => true,
-        Row::SendAck => false,
-        Row::Cancel(_) => timers::is_off(cancel),
-        Row::Response(p) => !words::both(p.complete, call.idempotent),
-        Row::Fault(_) => false,
-        Row::Reject(_) => false,
-        Row::Working => true,
-        Row::Resend(_) => false,
-        Row::GiveUp(_) => false,
-        Row::Fack(_) => false,
-        Row::CancelAck => false,
+        Row::Cancel(_) => c.cancel.is_none(),
+        Row::Response(p) => !(p.complete && c.call.idempotent),
+        Row::Ping(_) | Row::Working => true,
+        Row::SendAck | Row::Fault(_) | Row::Reject(_) | Row::Resend(_) => false,
+        Row::GiveUp(_) | Row::Fack(_) | Row::CancelAck => false,
     }
 }
 
 // A row of an event that nothing else refuses: 20 where it arms a timer and no ticket is left.
-#[tactic(auto, unfolding(words::specs::Choice::choose, words::specs::Choice::both))]
 fn with_ticket(c: Client, row: Row) -> Verdict
     ensures { result ≡ choose (both (arms_row c row) (used_up c.tickets)) (Refuse TicketsUsedUp) (Go row) }
 {
@@ -93,28 +86,24 @@ fn with_ticket(c: Client, row: Row) -> Verdict
 fn next_number(queued: bool, number: u32) -> u32
     ensures { result ≡ next_number queued number }
 {
-    if queued {
-        return 0;
-    }
-    std::num::wrapping_add_u32(number, 1)
+    if queued { 0 } else { number.wrapping_add(1) }
 }
 
 // A start with a message of this length: 1, 2, 15, 19.
 pub fn start(c: Client, length: u32) -> StartVerdict
     ensures { result ≡ start_verdict c length }
 {
-    let state = c.state;
-    if MESSAGE_SIZE < length {
+    if length > MESSAGE_SIZE {
         return Err(Refusal::WrongLength);
     }
     if !records::is_sound(c) {
         return Err(Refusal::BrokenRecord);
     }
-    if !records::may_start(state) {
+    if !records::may_start(c.state) {
         return Err(Refusal::NoRow);
     }
-    let queued = records::is_queued(state);
-    if words::both(!queued, c.number == LAST_CALL_NUMBER) {
+    let queued = records::is_queued(c.state);
+    if !queued && c.number == LAST_CALL_NUMBER {
         return Err(Refusal::NumbersUsedUp);
     }
     Ok(next_number(queued, c.number))
@@ -124,10 +113,8 @@ pub fn start(c: Client, length: u32) -> StartVerdict
 pub fn transmit(c: Client, message: usize, out: usize) -> Verdict
     ensures { result ≡ transmit_verdict c message out }
 {
-    let state = c.state;
-    let o = c.outgoing;
-    let sending = records::is_sending(state);
-    if !outgoing::is_transmit_lent(sending, message, o.length, out) {
+    let sending = records::is_sending(c.state);
+    if !outgoing::is_transmit_lent(sending, message, c.outgoing.length, out) {
         return Err(Refusal::WrongLength);
     }
     if !records::is_sound(c) {
@@ -136,7 +123,7 @@ pub fn transmit(c: Client, message: usize, out: usize) -> Verdict
     if !sending {
         return Err(Refusal::NoRow);
     }
-    with_ticket(c, Row::Transmit(outgoing::sends_last(o)))
+    with_ticket(c, Row::Transmit(outgoing::sends_last(c.outgoing)))
 }
 
 // WAIT: ping, or at its limit local cause 1.
@@ -144,9 +131,10 @@ fn wait_row(waits: u8) -> Row
     ensures { result ≡ wait_row waits }
 {
     if waits < RETRY_LIMIT {
-        return Row::Ping(waits + 1);
+        Row::Ping(waits + 1)
+    } else {
+        Row::GiveUp(1)
     }
-    Row::GiveUp(1)
 }
 
 // The row of a timer.
@@ -164,118 +152,106 @@ fn timer_row(kind: TimerKind, c: Client) -> Row
 pub fn timer(c: Client, kind: TimerKind, ticket: u64, out: usize) -> Verdict
     ensures { result ≡ timer_verdict c kind ticket out }
 {
-    let state = c.state;
-    let wait = c.wait;
-    let ack = c.ack;
-    let cancel = c.cancel;
     if out != PDU_SIZE {
         return Err(Refusal::WrongLength);
     }
     if !records::is_sound(c) {
         return Err(Refusal::BrokenRecord);
     }
-    if !records::is_named(kind, state) {
+    if !records::is_named(kind, c.state) {
         return Err(Refusal::NoRow);
     }
-    if !timers::is_armed_with(records::timer_of(kind, wait, ack, cancel), ticket) {
+    if !timers::is_armed_with(records::timer_of(kind, c), ticket) {
         return Err(Refusal::LateTimer);
     }
     with_ticket(c, timer_row(kind, c))
 }
 
 // Whether a local cancel has a row.
-fn may_cancel(state: State, cancels: u32) -> bool
-    ensures { result ≡ may_cancel state cancels }
+fn may_cancel(c: Client) -> bool
+    ensures { result ≡ may_cancel c.state c.cancels }
 {
-    let active = records::is_active(state);
-    words::both(active, cancels != LAST_CANCEL_NUMBER)
+    records::is_active(c.state) && c.cancels != LAST_CANCEL_NUMBER
 }
 
 // A local cancel: 1, 2, 15, 20.
 pub fn cancel(c: Client, out: usize) -> Verdict
     ensures { result ≡ cancel_verdict c out }
 {
-    let state = c.state;
     if out != PDU_SIZE {
         return Err(Refusal::WrongLength);
     }
     if !records::is_sound(c) {
         return Err(Refusal::BrokenRecord);
     }
-    if !may_cancel(state, c.cancels) {
+    if !may_cancel(c) {
         return Err(Refusal::NoRow);
     }
-    with_ticket(c, Row::Cancel(std::num::wrapping_add_u32(c.cancels, 1)))
+    with_ticket(c, Row::Cancel(c.cancels.wrapping_add(1)))
 }
 
 // 13: a number that is not the client's; in QUEUED it has none.
-fn is_old(state: State, mine: u32, theirs: u32) -> bool
-    ensures { result ≡ is_old state mine theirs }
+fn is_old(c: Client, number: u32) -> bool
+    ensures { result ≡ is_old c.state c.number number }
 {
-    let queued = records::is_queued(state);
-    words::either(queued, mine != theirs)
+    records::is_queued(c.state) || c.number != number
 }
 
 // A response: 12, 13, 15, 16, 17, 20.
-fn response(c: Client, h: Header, little: bool, body: &[u8]) -> Verdict
-    requires { h.kind ≡ 2 }
-    ensures { result ≡ pdu_verdict c h little body.now }
+fn response(c: Client, read: Received, body: &[u8]) -> Verdict
+    requires { read.header.kind ≡ 2 }
+    ensures { result ≡ pdu_verdict c read.header read.little body.now }
 {
-    let state = c.state;
-    let m = c.incoming;
+    let h = read.header;
     if fragments::is_wrong(h.flags1, h.fragment) {
         return Err(Refusal::WrongFragment);
     }
-    if is_old(state, c.number, h.number) {
+    if is_old(c, h.number) {
         return Err(Refusal::OldCall);
     }
-    if !records::is_active(state) {
+    if !records::is_active(c.state) {
         return Err(Refusal::NoRow);
     }
-    if fragments::is_held(m, h.fragment) {
+    if fragments::is_held(c.incoming, h.fragment) {
         return Err(Refusal::Repeated);
     }
     let last = fragments::is_last(h.flags1);
-    if fragments::contradicts_held(m, h.fragment, last) {
+    if fragments::contradicts_held(c.incoming, h.fragment, last) {
         return Err(Refusal::Contradiction);
     }
     let length = fragments::body_length(body.len());
-    let p = fragments::put_of(m, h.flags1, h.serial, h.fragment, length);
+    let p = fragments::put_of(c.incoming, h.flags1, h.serial, h.fragment, length);
     with_ticket(c, Row::Response(p))
 }
 
 // A fault, or a reject: 13, 14, 15.
-fn failure(c: Client, h: Header, little: bool, body: &[u8]) -> Verdict
-    requires { (h.kind ≡ 3) ⊎ (h.kind ≡ 6) }
-    ensures { result ≡ pdu_verdict c h little body.now }
+fn failure(c: Client, read: Received, body: &[u8]) -> Verdict
+    requires { (read.header.kind ≡ 3) ⊎ (read.header.kind ≡ 6) }
+    ensures { result ≡ pdu_verdict c read.header read.little body.now }
 {
-    let state = c.state;
-    if is_old(state, c.number, h.number) {
+    if is_old(c, read.header.number) {
         return Err(Refusal::OldCall);
     }
-    if bodies::is_status_malformed(body) {
-        return Err(Refusal::MalformedBody);
-    }
-    if !records::is_active(state) {
+    let status = bodies::read_status(body, read.little)?;
+    if !records::is_active(c.state) {
         return Err(Refusal::NoRow);
     }
-    let status = bodies::status(body, little);
-    if h.kind == 3 {
-        return Ok(Row::Fault(status));
+    if read.header.kind == 3 {
+        Ok(Row::Fault(status))
+    } else {
+        Ok(Row::Reject(status))
     }
-    Ok(Row::Reject(status))
 }
 
 // Working: 13, 15, 20.
-fn working(c: Client, h: Header, little: bool, body: &[u8]) -> Verdict
-    requires { h.kind ≡ 4 }
-    ensures { result ≡ pdu_verdict c h little body.now }
+fn working(c: Client, read: Received, body: &[u8]) -> Verdict
+    requires { read.header.kind ≡ 4 }
+    ensures { result ≡ pdu_verdict c read.header read.little body.now }
 {
-    let state = c.state;
-    if is_old(state, c.number, h.number) {
+    if is_old(c, read.header.number) {
         return Err(Refusal::OldCall);
     }
-    if !records::is_dispatched(state) {
+    if !records::is_dispatched(c.state) {
         return Err(Refusal::NoRow);
     }
     with_ticket(c, Row::Working)
@@ -286,44 +262,43 @@ fn nocall_row(resends: u8) -> Row
     ensures { result ≡ nocall_row resends }
 {
     if resends < RETRY_LIMIT {
-        return Row::Resend(resends + 1);
+        Row::Resend(resends + 1)
+    } else {
+        Row::GiveUp(2)
     }
-    Row::GiveUp(2)
 }
 
 // Nocall: 13, 15.
-fn nocall(c: Client, h: Header, little: bool, body: &[u8]) -> Verdict
-    requires { h.kind ≡ 5 }
-    ensures { result ≡ pdu_verdict c h little body.now }
+fn nocall(c: Client, read: Received, body: &[u8]) -> Verdict
+    requires { read.header.kind ≡ 5 }
+    ensures { result ≡ pdu_verdict c read.header read.little body.now }
 {
-    let state = c.state;
-    if is_old(state, c.number, h.number) {
+    if is_old(c, read.header.number) {
         return Err(Refusal::OldCall);
     }
-    if !records::is_dispatched(state) {
+    if !records::is_dispatched(c.state) {
         return Err(Refusal::NoRow);
     }
     Ok(nocall_row(c.resends))
 }
 
 // A fack: 13, 14, 15, 17.
-fn fack(c: Client, h: Header, little: bool, body: &[u8]) -> Verdict
-    requires { h.kind ≡ 9 }
-    ensures { result ≡ pdu_verdict c h little body.now }
+fn fack(c: Client, read: Received, body: &[u8]) -> Verdict
+    requires { read.header.kind ≡ 9 }
+    ensures { result ≡ pdu_verdict c read.header read.little body.now }
 {
-    let state = c.state;
-    let o = c.outgoing;
-    if is_old(state, c.number, h.number) {
+    if is_old(c, read.header.number) {
         return Err(Refusal::OldCall);
     }
-    if bodies::is_fack_malformed(body, little) {
+    // Nothing else of its body is asked for, so it is not read.
+    if bodies::is_fack_malformed(body, read.little) {
         return Err(Refusal::MalformedBody);
     }
-    if !records::is_active(state) {
+    if !records::is_active(c.state) {
         return Err(Refusal::NoRow);
     }
-    let count = facks::acknowledged_by(h.fragment);
-    if o.count < count {
+    let count = facks::acknowledged_by(read.header.fragment);
+    if c.outgoing.count < count {
         return Err(Refusal::Contradiction);
     }
     Ok(Row::Fack(count))
@@ -333,68 +308,47 @@ fn fack(c: Client, h: Header, little: bool, body: &[u8]) -> Verdict
 fn is_current(cancel: Timer, mine: u32, theirs: u32) -> bool
     ensures { result ≡ is_current cancel mine theirs }
 {
-    let off = timers::is_off(cancel);
-    words::both(!off, mine == theirs)
+    cancel.is_some() && mine == theirs
 }
 
 // A cancel_ack: 13, 14, 15.
-fn cancel_ack(c: Client, h: Header, little: bool, body: &[u8]) -> Verdict
-    requires { h.kind ≡ 10 }
-    ensures { result ≡ pdu_verdict c h little body.now }
+fn cancel_ack(c: Client, read: Received, body: &[u8]) -> Verdict
+    requires { read.header.kind ≡ 10 }
+    ensures { result ≡ pdu_verdict c read.header read.little body.now }
 {
-    let state = c.state;
-    let cancel = c.cancel;
-    if is_old(state, c.number, h.number) {
+    if is_old(c, read.header.number) {
         return Err(Refusal::OldCall);
     }
-    if bodies::is_cancel_ack_malformed(body, little) {
-        return Err(Refusal::MalformedBody);
-    }
-    if !is_current(cancel, c.cancels, bodies::cancel_number(body, little)) {
+    let told = bodies::read_cancel_ack(body, read.little)?;
+    if !is_current(c.cancel, c.cancels, told.number) {
         return Err(Refusal::NoRow);
     }
     Ok(Row::CancelAck)
 }
 
-// 12 to 20, of what the server answers a call with: types 2 to 6.
-fn of_call(c: Client, h: Header, little: bool, body: &[u8]) -> Verdict
-    requires { (2 ≤ h.kind) × (h.kind ≤ 6) }
-    ensures { result ≡ pdu_verdict c h little body.now }
-{
-    let kind = h.kind;
-    match kind {
-        2 => response(c, h, little, body),
-        4 => working(c, h, little, body),
-        5 => nocall(c, h, little, body),
-        _ => failure(c, h, little, body),
-    }
-}
-
 // 10 to 20, of a header and a body that were read, by the type: the client takes 2 to 6, 9 and 10.
-fn pdu(c: Client, h: Header, little: bool, body: &[u8]) -> Verdict
-    ensures { result ≡ pdu_verdict c h little body.now }
+fn pdu(c: Client, read: Received, body: &[u8]) -> Verdict
+    ensures { result ≡ pdu_verdict c read.header read.little body.now }
 {
-    let kind = h.kind;
-    match kind {
-        2..=6 => of_call(c, h, little, body),
-        9 => fack(c, h, little, body),
-        10 => cancel_ack(c, h, little, body),
-        0..=1 => Err(Refusal::WrongSide),
-        7..=8 => Err(Refusal::WrongSide),
-        11..=255 => Err(Refusal::WrongSide),
+    match read.header.kind {
+        2 => response(c, read, body),
+        3 | 6 => failure(c, read, body),
+        4 => working(c, read, body),
+        5 => nocall(c, read, body),
+        9 => fack(c, read, body),
+        10 => cancel_ack(c, read, body),
+        _ => Err(Refusal::WrongSide),
     }
 }
 
 // 9 to 20, of a datagram that was read: one of another activity is 9.
-fn own_activity(c: Client, h: Header, little: bool, body: &[u8]) -> Verdict
-    ensures { result ≡ activity_verdict c h little body.now }
+fn own_activity(c: Client, read: Received, body: &[u8]) -> Verdict
+    ensures { result ≡ activity_verdict c read.header read.little body.now }
 {
-    let mine = c.activity;
-    let theirs = h.activity;
-    if !words::same_uuid(mine, theirs) {
+    if !words::same_uuid(c.activity, read.header.activity) {
         return Err(Refusal::OtherActivity);
     }
-    pdu(c, h, little, body)
+    pdu(c, read, body)
 }
 
 // An arriving datagram, by the lengths of what is lent: 1, 2, those of the reader, 9, those of the PDU.
@@ -407,6 +361,5 @@ pub fn arrival(c: Client, slots: usize, out: usize, d: &[u8]) -> Verdict
     if !records::is_sound(c) {
         return Err(Refusal::BrokenRecord);
     }
-    let read = reader::read(d)?;
-    own_activity(c, read.header, read.little, reader::body(d))
+    own_activity(c, reader::read(d)?, reader::body(d))
 }

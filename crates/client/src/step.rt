@@ -1,4 +1,6 @@
 // What a row of the client's table makes of its record: the plan of the step, before anything is written.
+#![tactic(auto, unfolding(crate::specs::step::Plan::going, crate::specs::step::Plan::failed, crate::specs::step::Steps::started, crate::specs::step::Steps::transmitted, crate::specs::step::Steps::pinged, crate::specs::step::Steps::cancelled, crate::specs::step::Steps::put_record, crate::specs::step::Steps::put_notice, crate::specs::step::Steps::fack_for, crate::specs::step::Steps::response_plan, crate::specs::step::Steps::working_plan, crate::specs::step::Steps::resent, crate::specs::step::Steps::acknowledged, crate::specs::step::Steps::step_of, crate::specs::records::Record::waiting, crate::specs::records::Record::sending_again, crate::specs::records::Record::ack_pending, crate::specs::records::Record::unarmed, crate::specs::records::Record::cancel_armed, crate::specs::records::Record::cancel_disarmed, crate::specs::records::Record::fresh, crate::specs::records::Record::with_outgoing, crate::specs::records::Record::with_incoming, crate::specs::records::Record::with_waits, crate::specs::records::Record::with_resends, crate::specs::records::Record::with_cancels, words::specs::Choice::choose))]
+
 ghost use Rattle.std.specs.Prelude.{◌≡◌};
 ghost use Rattle.client.specs.step.Plan.{going as going_plan, failed as failed_plan};
 ghost use Rattle.client.specs.step.Steps.{started as started_record, transmitted as transmitted_record, pinged as pinged_record, cancelled as cancelled_record, put_record, received as received_record, put_notice, fack_for, response_plan, working_plan, resent as resent_record, acknowledged as acknowledged_record, step_of};
@@ -7,7 +9,7 @@ use crate::judge::Row;
 use crate::records;
 use crate::records::{Client, State};
 use calls::{Call, Notice};
-use fragments::{Fragment, Stored};
+use fragments::Fragment;
 use incoming::Incoming;
 
 // What is to be sent: nothing, the request's fragment of that number, a ping, an ack, a fack for the
@@ -48,56 +50,71 @@ fn failed(c: Client, notice: Notice) -> Plan
 pub fn start(c: Client, number: u32, call: Call, length: u32) -> Client
     ensures { result ≡ started_record c number call length }
 {
-    records::with_call(c, State::SendFrags, number, call, outgoing::start(length))
+    Client {
+        state: State::SendFrags,
+        number,
+        call,
+        outgoing: outgoing::start(length),
+        ..records::fresh(c.activity, c.tickets)
+    }
 }
 
 // The record after the next fragment is sent; after the last, to DISPATCHED with WAIT armed.
 fn transmitted(last: bool, c: Client) -> Client
     ensures { result ≡ transmitted_record last c }
 {
-    let o = c.outgoing;
-    let next = records::with_outgoing(c, outgoing::after_send(o));
+    let next = Client {
+        outgoing: outgoing::after_send(c.outgoing),
+        ..c
+    };
     if last {
-        return records::to_waiting(next, State::Dispatched);
+        records::to_waiting(next, State::Dispatched)
+    } else {
+        next
     }
-    next
 }
 
 // The record after a ping: the serial goes up, WAIT is armed afresh, and its count is as told.
 fn pinged(c: Client, waits: u8) -> Client
     ensures { result ≡ pinged_record c waits }
 {
-    let o = c.outgoing;
-    let state = c.state;
-    let next = records::with_outgoing(c, outgoing::after_ping(o));
-    records::with_waits(records::to_waiting(next, state), waits)
+    Client {
+        outgoing: outgoing::after_ping(c.outgoing),
+        waits,
+        ..records::to_waiting(c, c.state)
+    }
 }
 
 // The record after a local cancel: CANCEL is armed if it is not, and the cancel number is as told.
 fn cancelled(c: Client, number: u32) -> Client
     ensures { result ≡ cancelled_record c number }
 {
-    records::with_cancels(records::arm_cancel(c), number)
+    Client {
+        cancels: number,
+        ..records::arm_cancel(c)
+    }
 }
 
 // State and timers after a response.
 fn put_record(complete: bool, idempotent: bool, c: Client) -> Client
     ensures { result ≡ put_record complete idempotent c }
 {
-    if complete {
-        if idempotent {
-            return records::to_unarmed(c, State::Complete);
-        }
-        return records::to_ack_pending(c);
+    match (complete, idempotent) {
+        (true, true) => records::to_unarmed(c, State::Complete),
+        (true, false) => records::to_ack_pending(c),
+        (false, _) => records::to_waiting(c, State::ReceiveFrags),
     }
-    records::to_waiting(c, State::ReceiveFrags)
 }
 
 // The record with what is held after a put, and the WAIT count 0.
 fn received(c: Client, m: Incoming) -> Client
     ensures { result ≡ received_record c m }
 {
-    records::with_waits(records::with_incoming(c, m), 0)
+    Client {
+        incoming: m,
+        waits: 0,
+        ..c
+    }
 }
 
 // What is told of a response.
@@ -105,9 +122,10 @@ fn put_notice(complete: bool, count: u16) -> Notice
     ensures { result ≡ put_notice complete count }
 {
     if complete {
-        return Notice::Last;
+        Notice::Last
+    } else {
+        Notice::Count(count)
     }
-    Notice::Count(count)
 }
 
 // The fack for what was put, where one is wanted.
@@ -115,20 +133,19 @@ fn fack_for(wanted: bool, serial: u16, count: u16) -> Send
     ensures { result ≡ fack_for wanted serial count }
 {
     if wanted {
-        return Send::Fack(serial, count);
+        Send::Fack(serial, count)
+    } else {
+        Send::Nothing
     }
-    Send::Nothing
 }
 
 // A response is put.
 fn response(c: Client, p: Fragment) -> Plan
     ensures { result ≡ response_plan c p }
 {
-    let call = c.call;
-    let m = c.incoming;
-    let next = put_record(p.complete, call.idempotent, c);
+    let next = put_record(p.complete, c.call.idempotent, c);
     calls::Plan {
-        machine: received(next, fragments::put_into(m, p)),
+        machine: received(next, fragments::put_into(c.incoming, p)),
         send: fack_for(p.facked, p.serial, p.count),
         notice: put_notice(p.complete, p.count),
         store: Some(p.number),
@@ -139,34 +156,45 @@ fn response(c: Client, p: Fragment) -> Plan
 fn resent(c: Client, resends: u8) -> Client
     ensures { result ≡ resent_record c resends }
 {
-    let o = c.outgoing;
-    let next = records::with_outgoing(c, outgoing::rewind(o));
-    records::with_resends(records::to_sending(next), resends)
+    Client {
+        outgoing: outgoing::rewind(c.outgoing),
+        resends,
+        ..records::to_sending(c)
+    }
 }
 
 // The record after a fack of that many fragments.
 fn acknowledged(c: Client, count: u16) -> Client
     ensures { result ≡ acknowledged_record c count }
 {
-    let o = c.outgoing;
-    records::with_outgoing(c, outgoing::acknowledge(o, count))
+    Client {
+        outgoing: outgoing::acknowledge(c.outgoing, count),
+        ..c
+    }
 }
 
 // Working: WAIT count 0, armed afresh.
 fn working(c: Client) -> Plan
     ensures { result ≡ working_plan c }
 {
-    let next = records::to_waiting(records::with_waits(c, 0), State::Dispatched);
-    going(next, Send::Nothing, Notice::Nothing)
+    let heard = Client { waits: 0, ..c };
+    going(
+        records::to_waiting(heard, State::Dispatched),
+        Send::Nothing,
+        Notice::Nothing,
+    )
 }
 
 // The plan of a row.
 pub fn step(row: Row, c: Client) -> Plan
     ensures { result ≡ step_of row c }
 {
-    let o = c.outgoing;
     match row {
-        Row::Transmit(last) => going(transmitted(last, c), Send::Request(o.sent), Notice::Nothing),
+        Row::Transmit(last) => going(
+            transmitted(last, c),
+            Send::Request(c.outgoing.sent),
+            Notice::Nothing,
+        ),
         Row::Ping(waits) => going(pinged(c, waits), Send::Ping, Notice::Nothing),
         Row::SendAck => going(
             records::to_unarmed(c, State::Complete),
