@@ -28,7 +28,9 @@ fn header(kind: Kind, flags1: u8, fragment: u16, c: Client) -> Header
 {
     let marked = flags::with(flags1, flags::IDEMPOTENT, c.call.idempotent);
     let serial = c.outgoing.serial;
-    calls::header(kind, marked, serial, c.activity, 0, c.number, c.call, fragment)
+    calls::header(
+        kind, marked, serial, c.activity, 0, c.number, c.call, fragment,
+    )
 }
 
 // Sends the request's fragment f, whose bytes are lent.
@@ -58,7 +60,11 @@ fn send_fack(serial: u16, count: u16, c: Client, out: &mut [u8]) -> Sent
 fn send_cancel(number: u32, c: Client, out: &mut [u8]) -> Sent
     ensures { Posted (cancel_sent number c out.old) result out.new }
 {
-    calls::post(header(Kind::Cancel, 0, 0, c), &bodies::write_cancel(number), out)
+    calls::post(
+        header(Kind::Cancel, 0, 0, c),
+        &bodies::write_cancel(number),
+        out,
+    )
 }
 
 // Sends what a plan says, from the record after the step.
@@ -113,7 +119,12 @@ pub fn transmit(c: Client, message: &[u8], out: &mut [u8]) -> Outcome
     ensures { Stepped (transmitting c message.now out.old) result out.new }
 {
     let verdict = judge::transmit(c, message.len(), out.len());
-    act(verdict, c, outgoing::fragment(message, c.outgoing.sent), out)
+    act(
+        verdict,
+        c,
+        outgoing::fragment(message, c.outgoing.sent),
+        out,
+    )
 }
 
 // A timer of that kind and ticket.

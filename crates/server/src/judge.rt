@@ -1,12 +1,14 @@
 // The server's judgement of each event: the first refusal of document 01's table that it meets, or its row with all
 // that the step needs. Nothing is written here.
-ghost use Rattle.std.specs.Prelude.{◌≤◌, ◌≡◌};
+#![tactic(auto, unfolding(answers::specs::Table::first_of, crate::specs::judge::Rows::order_by, crate::specs::judge::Rows::order_of, crate::specs::judge::Rows::order_for, crate::specs::judge::Rows::replay_row, crate::specs::judge::Rows::ping_equal, crate::specs::judge::Rows::ping_cell, crate::specs::judge::Rows::running_cancel, crate::specs::judge::Rows::cancel_equal, crate::specs::judge::Rows::request_put, crate::specs::judge::Rows::arms, crate::specs::judge::Rows::resend_held, crate::specs::judge::Refusals::reply_refusals, crate::specs::judge::Refusals::reply_verdict, crate::specs::judge::Refusals::transmit_refusals, crate::specs::judge::Refusals::transmit_verdict, crate::specs::judge::Refusals::fault_refusals, crate::specs::judge::Refusals::fault_verdict, crate::specs::judge::Refusals::timer_refusals, crate::specs::judge::Refusals::timer_verdict, crate::specs::judge::Rows::transmit_row, crate::specs::judge::Rows::fault_row, crate::specs::judge::Rows::resend_row, crate::specs::judge::Rows::timer_cell, crate::specs::judge::Rows::is_row, crate::specs::judge::Rows::arms_timer, crate::specs::judge::Refusals::is_maybe_or_broadcast, crate::specs::judge::Refusals::agree, crate::specs::judge::Refusals::same_call, crate::specs::judge::Parts::row_left, crate::specs::judge::Parts::cancel_verdict, crate::specs::judge::Rows::says, crate::specs::judge::Rows::cancel_cell, bodies::specs::Cancel::cancel_result, bodies::specs::Cancel::cancel_reading, answers::specs::Answer::if_done, answers::specs::Number::refusal_number, crate::specs::judge::Parts::ping_verdict, words::specs::Choice::choose, words::specs::Choice::both, words::specs::Choice::either))]
+
+ghost use Rattle.std.specs.Prelude.{◌≡◌, eqb};
 ghost use Rattle.words.specs.Choice.{choose, either};
 ghost use Rattle.timers.specs.Tickets.{used_up};
 ghost use Rattle.server.specs.records.States.{is_replying, is_held};
 ghost use Rattle.server.specs.judge.Rows.{order_for, replay_row, ping_equal, running_cancel, cancel_equal, request_put as request_fragment, resend_held};
-ghost use Rattle.server.specs.judge.Refusals.{reply_verdict, transmit_verdict, fault_verdict, timer_verdict, is_maybe_or_broadcast, agree, same_call, pdu_verdict, activity_verdict, arrival_verdict};
-ghost use Rattle.server.specs.judge.Parts.{ticketed, RequestIn, contradicts_call, entry_answer, with_header};
+ghost use Rattle.server.specs.judge.Refusals.{reply_verdict, transmit_verdict, fault_verdict, timer_verdict, is_maybe_or_broadcast, same_call, pdu_verdict, activity_verdict, arrival_verdict};
+ghost use Rattle.server.specs.judge.Parts.{ticketed, request_left, request_verdict, ping_verdict, ack_verdict, cancel_verdict, fack_verdict, contradicts_call, entry_answer, with_header};
 ghost use Rattle.reader.specs.Reading.{reading};
 
 use crate::records;
@@ -16,10 +18,11 @@ use calls::Call;
 use fragments::Fragment;
 use incoming::Incoming;
 use pdu::Header;
+use reader::Received;
 use words::{MESSAGE_SIZE, PDU_SIZE, RETRY_LIMIT};
 
-// The number of an arriving PDU against the server's.
-#[derive(Clone, Copy)]
+// The number of an arriving PDU against the server's. It is not std's Ordering: to a fresh server each number is Newer.
+#[derive(Clone, Copy, PartialEq, Eq, Debug)]
 pub enum Order {
     Below,
     Equal,
@@ -66,14 +69,13 @@ pub type Verdict = Result<Row, Refusal>;
 pub fn reply(s: Server, length: u32) -> Verdict
     ensures { result ≡ reply_verdict s length }
 {
-    let state = s.state;
     if MESSAGE_SIZE < length {
         return Err(Refusal::WrongLength);
     }
     if !records::is_sound(s) {
         return Err(Refusal::BrokenRecord);
     }
-    if !records::is_running(state) {
+    if !records::is_running(s.state) {
         return Err(Refusal::NoRow);
     }
     Ok(Row::Reply(length))
@@ -83,11 +85,8 @@ pub fn reply(s: Server, length: u32) -> Verdict
 pub fn transmit(s: Server, message: usize, out: usize) -> Verdict
     ensures { result ≡ transmit_verdict s message out }
 {
-    let state = s.state;
-    let o = s.outgoing;
-    let call = s.call;
-    let replying = records::is_replying(state);
-    if !outgoing::is_transmit_lent(replying, message, o.length, out) {
+    let replying = records::is_replying(s.state);
+    if !outgoing::is_transmit_lent(replying, message, s.outgoing.length, out) {
         return Err(Refusal::WrongLength);
     }
     if !records::is_sound(s) {
@@ -96,10 +95,10 @@ pub fn transmit(s: Server, message: usize, out: usize) -> Verdict
     if !replying {
         return Err(Refusal::NoRow);
     }
-    if !outgoing::sends_last(o) {
+    if !outgoing::sends_last(s.outgoing) {
         return Ok(Row::TransmitMore);
     }
-    if records::runs_again(call.idempotent, o) {
+    if records::runs_again(s.call.idempotent, s.outgoing) {
         return Ok(Row::TransmitRepeatable);
     }
     if timers::used_up(s.tickets) {
@@ -112,18 +111,16 @@ pub fn transmit(s: Server, message: usize, out: usize) -> Verdict
 pub fn fault(s: Server, status: u32, out: usize) -> Verdict
     ensures { result ≡ fault_verdict s status out }
 {
-    let state = s.state;
-    let call = s.call;
     if out != PDU_SIZE {
         return Err(Refusal::WrongLength);
     }
     if !records::is_sound(s) {
         return Err(Refusal::BrokenRecord);
     }
-    if !records::is_running(state) {
+    if !records::is_running(s.state) {
         return Err(Refusal::NoRow);
     }
-    if call.idempotent {
+    if s.call.idempotent {
         return Ok(Row::FaultRepeatable(status));
     }
     if timers::used_up(s.tickets) {
@@ -136,31 +133,27 @@ pub fn fault(s: Server, status: u32, out: usize) -> Verdict
 fn resend(reply: Reply, resends: u8, tickets: u64) -> Verdict
     ensures { result ≡ ticketed (resend_held reply resends) (used_up tickets) }
 {
-    let Reply::Fault(status) = reply else {
-        return Ok(Row::ResendData(resends));
-    };
-    if timers::used_up(tickets) {
-        return Err(Refusal::TicketsUsedUp);
+    match reply {
+        Reply::Data => Ok(Row::ResendData(resends)),
+        Reply::Fault(_) if timers::used_up(tickets) => Err(Refusal::TicketsUsedUp),
+        Reply::Fault(status) => Ok(Row::ResendFault(status, resends)),
     }
-    Ok(Row::ResendFault(status, resends))
 }
 
 // The RESEND timer with that ticket: 1, 2, 15, 18, 20.
 pub fn timer(s: Server, ticket: u64, out: usize) -> Verdict
     ensures { result ≡ timer_verdict s ticket out }
 {
-    let state = s.state;
-    let timer = s.resend;
     if out != PDU_SIZE {
         return Err(Refusal::WrongLength);
     }
     if !records::is_sound(s) {
         return Err(Refusal::BrokenRecord);
     }
-    let State::Held(reply) = state else {
+    let State::Held(reply) = s.state else {
         return Err(Refusal::NoRow);
     };
-    if !timers::is_armed_with(timer, ticket) {
+    if !timers::is_armed_with(s.resend, ticket) {
         return Err(Refusal::LateTimer);
     }
     if s.resends < RETRY_LIMIT {
@@ -173,15 +166,13 @@ pub fn timer(s: Server, ticket: u64, out: usize) -> Verdict
 fn order_for(s: Server, h: Header) -> Order
     ensures { result ≡ order_for s h }
 {
-    let state = s.state;
-    let fresh = records::is_fresh(state);
-    if words::either(fresh, s.number < h.number) {
-        return Order::Newer;
+    if records::is_fresh(s.state) || s.number < h.number {
+        Order::Newer
+    } else if s.number == h.number {
+        Order::Equal
+    } else {
+        Order::Below
     }
-    if s.number == h.number {
-        return Order::Equal;
-    }
-    Order::Below
 }
 
 // The row of a replay.
@@ -198,53 +189,26 @@ fn replay_row(reply: Reply) -> Row
 fn is_maybe_or_broadcast(flags1: u8) -> bool
     ensures { result ≡ is_maybe_or_broadcast flags1 }
 {
-    let maybe = flags::is_maybe(flags1);
-    let broadcast = flags::is_broadcast(flags1);
-    words::either(maybe, broadcast)
-}
-
-// Whether two tests are the same.
-fn agrees(a: bool, b: bool) -> bool
-    ensures { result ≡ agree a b }
-{
-    if a {
-        return b;
-    }
-    !b
+    flags::is_maybe(flags1) || flags::is_broadcast(flags1)
 }
 
 // Whether a request is of the call: the idempotent bit, object, interface, version and operation.
 fn is_same_call(call: Call, h: Header) -> bool
     ensures { result ≡ same_call call h }
 {
-    let my_object = call.object;
-    let their_object = h.object;
-    let my_interface = call.interface;
-    let their_interface = h.interface;
-    let bit = flags::is_idempotent(h.flags1);
-    if !agrees(call.idempotent, bit) {
-        return false;
-    }
-    if !words::same_uuid(my_object, their_object) {
-        return false;
-    }
-    if !words::same_uuid(my_interface, their_interface) {
-        return false;
-    }
-    words::both(call.version == h.version, call.operation == h.operation)
+    call.idempotent == flags::is_idempotent(h.flags1)
+        && words::same_uuid(call.object, h.object)
+        && words::same_uuid(call.interface, h.interface)
+        && call.version == h.version
+        && call.operation == h.operation
 }
 
 // Whether a request of an equal number contradicts what is held, or is not of the call.
 fn contradicts_call(s: Server, h: Header) -> bool
     ensures { result ≡ contradicts_call s h }
 {
-    let m = s.incoming;
-    let call = s.call;
     let last = fragments::is_last(h.flags1);
-    if fragments::contradicts_held(m, h.fragment, last) {
-        return true;
-    }
-    !is_same_call(call, h)
+    fragments::contradicts_held(s.incoming, h.fragment, last) || !is_same_call(s.call, h)
 }
 
 // A request's fragment, put into these slots.
@@ -256,48 +220,42 @@ fn request_put(m: Incoming, h: Header, body: &[u8]) -> Fragment
 }
 
 // A request of a newer number: 15 in RUNNING, else it begins a call, whose slots are empty.
-fn request_newer(s: Server, h: Header, little: bool, body: &[u8]) -> Verdict
-    requires { RequestIn s h Order.Newer s.state }
-    ensures { result ≡ pdu_verdict s h little body.now }
+#[tactic(auto, using(crate::proofs::judge::KindLaws::newer_lines), unfolding(words::specs::Choice::choose))]
+fn request_newer(s: Server, h: Header, body: &[u8]) -> Verdict
+    ensures { result ≡ request_left s h body.now Order.Newer s.state }
 {
-    let state = s.state;
-    if records::is_running(state) {
+    if records::is_running(s.state) {
         return Err(Refusal::NoRow);
     }
     Ok(Row::Begin(request_put(incoming::empty(), h, body)))
 }
 
 // A request of an equal number in IDLE: 13, 17. A repeatable call begins again where the bit is set.
-fn request_idle(idle: Idle, s: Server, h: Header, little: bool, body: &[u8]) -> Verdict
-    requires { RequestIn s h Order.Equal (State.Idle idle) }
-    ensures { result ≡ pdu_verdict s h little body.now }
+#[tactic(auto, using(crate::proofs::judge::KindLaws::fresh_lines, crate::proofs::judge::KindLaws::spent_lines, crate::proofs::judge::KindLaws::repeatable_lines), unfolding(words::specs::Choice::choose))]
+fn request_idle(idle: Idle, s: Server, h: Header, body: &[u8]) -> Verdict
+    ensures { result ≡ request_left s h body.now Order.Equal (State.Idle idle) }
 {
-    let call = s.call;
-    let Idle::Repeatable = idle else {
-        return Err(Refusal::OldCall);
-    };
-    if !flags::is_idempotent(h.flags1) {
+    if idle != Idle::Repeatable || !flags::is_idempotent(h.flags1) {
         return Err(Refusal::OldCall);
     }
-    if !is_same_call(call, h) {
+    if !is_same_call(s.call, h) {
         return Err(Refusal::Contradiction);
     }
     Ok(Row::Begin(request_put(incoming::empty(), h, body)))
 }
 
 // A request of an equal number in COLLECT: 16, 17.
-fn request_collect(s: Server, h: Header, little: bool, body: &[u8]) -> Verdict
-    requires { RequestIn s h Order.Equal State.Collect }
-    ensures { result ≡ pdu_verdict s h little body.now }
+#[tactic(auto, using(crate::proofs::judge::KindLaws::collect_lines), unfolding(words::specs::Choice::choose))]
+fn request_collect(s: Server, h: Header, body: &[u8]) -> Verdict
+    ensures { result ≡ request_left s h body.now Order.Equal State.Collect }
 {
-    let m = s.incoming;
-    if fragments::is_held(m, h.fragment) {
+    if fragments::is_held(s.incoming, h.fragment) {
         return Err(Refusal::Repeated);
     }
     if contradicts_call(s, h) {
         return Err(Refusal::Contradiction);
     }
-    Ok(Row::Put(request_put(m, h, body)))
+    Ok(Row::Put(request_put(s.incoming, h, body)))
 }
 
 // A request of an equal number whose call is whole: 17, else that row.
@@ -311,14 +269,13 @@ fn request_whole(s: Server, h: Header, row: Row) -> Verdict
 }
 
 // A request of an equal number, by the state.
-fn request_equal(s: Server, h: Header, little: bool, body: &[u8]) -> Verdict
-    requires { RequestIn s h Order.Equal s.state }
-    ensures { result ≡ pdu_verdict s h little body.now }
+#[tactic(auto, using(crate::proofs::judge::KindLaws::running_lines, crate::proofs::judge::KindLaws::replying_lines, crate::proofs::judge::KindLaws::held_lines), unfolding(words::specs::Choice::choose))]
+fn request_equal(s: Server, h: Header, body: &[u8]) -> Verdict
+    ensures { result ≡ request_left s h body.now Order.Equal s.state }
 {
-    let state = s.state;
-    match state {
-        State::Idle(idle) => request_idle(idle, s, h, little, body),
-        State::Collect => request_collect(s, h, little, body),
+    match s.state {
+        State::Idle(idle) => request_idle(idle, s, h, body),
+        State::Collect => request_collect(s, h, body),
         State::Running => request_whole(s, h, Row::Working),
         State::Replying => Err(Refusal::Repeated),
         State::Held(reply) => request_whole(s, h, replay_row(reply)),
@@ -326,9 +283,9 @@ fn request_equal(s: Server, h: Header, little: bool, body: &[u8]) -> Verdict
 }
 
 // A request: 11, 12, and by its number 13, 15, 16, 17.
-fn request(s: Server, h: Header, little: bool, body: &[u8]) -> Verdict
-    requires { h.kind ≡ 0 }
-    ensures { result ≡ pdu_verdict s h little body.now }
+#[tactic(auto, using(crate::proofs::judge::KindLaws::below_lines), unfolding(crate::specs::judge::Parts::request_verdict, words::specs::Choice::choose))]
+fn request(s: Server, h: Header, body: &[u8]) -> Verdict
+    ensures { result ≡ request_verdict s h body.now }
 {
     if is_maybe_or_broadcast(h.flags1) {
         return Err(Refusal::MaybeOrBroadcast);
@@ -338,8 +295,8 @@ fn request(s: Server, h: Header, little: bool, body: &[u8]) -> Verdict
     }
     match order_for(s, h) {
         Order::Below => Err(Refusal::OldCall),
-        Order::Equal => request_equal(s, h, little, body),
-        Order::Newer => request_newer(s, h, little, body),
+        Order::Equal => request_equal(s, h, body),
+        Order::Newer => request_newer(s, h, body),
     }
 }
 
@@ -348,8 +305,7 @@ fn ping_equal(state: State) -> Verdict
     ensures { result ≡ ping_equal state }
 {
     match state {
-        State::Idle(_) => Ok(Row::Nocall),
-        State::Collect => Ok(Row::Nocall),
+        State::Idle(_) | State::Collect => Ok(Row::Nocall),
         State::Running => Ok(Row::Working),
         State::Replying => Err(Refusal::Repeated),
         State::Held(reply) => Ok(replay_row(reply)),
@@ -357,14 +313,12 @@ fn ping_equal(state: State) -> Verdict
 }
 
 // A ping: 13, 16.
-fn ping(s: Server, h: Header, little: bool, body: &[u8]) -> Verdict
-    requires { h.kind ≡ 1 }
-    ensures { result ≡ pdu_verdict s h little body.now }
+fn ping(s: Server, h: Header) -> Verdict
+    ensures { result ≡ ping_verdict s h }
 {
-    let state = s.state;
     match order_for(s, h) {
         Order::Below => Err(Refusal::OldCall),
-        Order::Equal => ping_equal(state),
+        Order::Equal => ping_equal(s.state),
         Order::Newer => Ok(Row::Nocall),
     }
 }
@@ -373,33 +327,19 @@ fn ping(s: Server, h: Header, little: bool, body: &[u8]) -> Verdict
 fn is_replied(state: State) -> bool
     ensures { result ≡ either (is_replying state) (is_held state) }
 {
-    if records::is_replying(state) {
-        return true;
-    }
-    records::is_held(state)
+    records::is_replying(state) || records::is_held(state)
 }
 
 // An ack: 13, 15. It is of use where a reply was given, and the call is not idempotent.
-fn ack(s: Server, h: Header, little: bool, body: &[u8]) -> Verdict
-    requires { h.kind ≡ 7 }
-    ensures { result ≡ pdu_verdict s h little body.now }
+#[tactic(auto, using(crate::proofs::judge::KindLaws::replied_lines), unfolding(crate::specs::judge::Parts::ack_verdict, crate::specs::judge::Rows::acknowledgement_cell, crate::specs::judge::Rows::ack_cell, words::specs::Choice::choose))]
+fn ack(s: Server, h: Header) -> Verdict
+    ensures { result ≡ ack_verdict s h }
 {
-    let state = s.state;
-    let call = s.call;
-    let order = order_for(s, h);
-    if let Order::Below = order {
-        return Err(Refusal::OldCall);
+    match order_for(s, h) {
+        Order::Below => Err(Refusal::OldCall),
+        Order::Equal if is_replied(s.state) && !s.call.idempotent => Ok(Row::Spend),
+        Order::Equal | Order::Newer => Err(Refusal::NoRow),
     }
-    let Order::Equal = order else {
-        return Err(Refusal::NoRow);
-    };
-    if !is_replied(state) {
-        return Err(Refusal::NoRow);
-    }
-    if call.idempotent {
-        return Err(Refusal::NoRow);
-    }
-    Ok(Row::Spend)
 }
 
 // The row of a cancel in RUNNING: a number above the last seen is heard.
@@ -407,9 +347,10 @@ fn running_cancel(seen: u32, number: u32) -> Row
     ensures { result ≡ running_cancel seen number }
 {
     if seen < number {
-        return Row::HearCancel(number);
+        Row::HearCancel(number)
+    } else {
+        Row::AcceptCancel(number)
     }
-    Row::AcceptCancel(number)
 }
 
 // A cancel of an equal number, by the state: 15 in IDLE.
@@ -418,96 +359,81 @@ fn cancel_equal(state: State, seen: u32, number: u32) -> Verdict
 {
     match state {
         State::Idle(_) => Err(Refusal::NoRow),
-        State::Collect => Ok(Row::DeclineCancel(number)),
         State::Running => Ok(running_cancel(seen, number)),
-        State::Replying => Ok(Row::DeclineCancel(number)),
-        State::Held(_) => Ok(Row::DeclineCancel(number)),
+        State::Collect | State::Replying | State::Held(_) => Ok(Row::DeclineCancel(number)),
     }
 }
 
 // A cancel: 13, 14, 15.
-fn cancel(s: Server, h: Header, little: bool, body: &[u8]) -> Verdict
-    requires { h.kind ≡ 8 }
-    ensures { result ≡ pdu_verdict s h little body.now }
+fn cancel(s: Server, read: Received, body: &[u8]) -> Verdict
+    ensures { result ≡ cancel_verdict s read.header read.little body.now }
 {
-    let state = s.state;
-    let order = order_for(s, h);
-    if let Order::Below = order {
+    let order = order_for(s, read.header);
+    if order == Order::Below {
         return Err(Refusal::OldCall);
     }
-    if bodies::is_cancel_malformed(body, little) {
-        return Err(Refusal::MalformedBody);
-    }
-    let Order::Equal = order else {
+    let number = bodies::read_cancel(body, read.little)?;
+    if order == Order::Newer {
         return Err(Refusal::NoRow);
-    };
-    cancel_equal(state, s.seen, bodies::cancel_number(body, little))
+    }
+    cancel_equal(s.state, s.seen, number)
 }
 
 // A fack: 13, 14, 15, 17.
-fn fack(s: Server, h: Header, little: bool, body: &[u8]) -> Verdict
-    requires { h.kind ≡ 9 }
-    ensures { result ≡ pdu_verdict s h little body.now }
+#[tactic(auto, using(crate::proofs::judge::KindLaws::replied_lines), unfolding(crate::specs::judge::Parts::fack_verdict, crate::specs::judge::Parts::row_left, crate::specs::judge::Rows::acknowledgement_cell, crate::specs::judge::Rows::says, answers::specs::Table::first_of, answers::specs::Number::refusal_number, facks::specs::Mask::acknowledges_more, words::specs::Choice::choose, words::specs::Choice::either))]
+fn fack(s: Server, read: Received, body: &[u8]) -> Verdict
+    ensures { result ≡ fack_verdict s read.header read.little body.now }
 {
-    let state = s.state;
-    let o = s.outgoing;
-    let order = order_for(s, h);
-    if let Order::Below = order {
+    let order = order_for(s, read.header);
+    if order == Order::Below {
         return Err(Refusal::OldCall);
     }
-    if bodies::is_fack_malformed(body, little) {
+    if bodies::is_fack_malformed(body, read.little) {
         return Err(Refusal::MalformedBody);
     }
-    let Order::Equal = order else {
-        return Err(Refusal::NoRow);
-    };
-    if !is_replied(state) {
+    if order == Order::Newer || !is_replied(s.state) {
         return Err(Refusal::NoRow);
     }
-    let count = facks::acknowledged_by(h.fragment);
-    if o.count < count {
+    let count = facks::acknowledged_by(read.header.fragment);
+    if s.outgoing.count < count {
         return Err(Refusal::Contradiction);
     }
     Ok(Row::Acknowledge(count))
 }
 
 // 11 to 17, of what the client calls with: types 0 and 1.
-fn request_or_ping(s: Server, h: Header, little: bool, body: &[u8]) -> Verdict
-    requires { h.kind ≤ 1 }
-    ensures { result ≡ pdu_verdict s h little body.now }
+fn request_or_ping(s: Server, h: Header, body: &[u8]) -> Verdict
+    ensures { result ≡ choose (eqb h.kind 0) (request_verdict s h body.now) (ping_verdict s h) }
 {
-    let kind = h.kind;
-    match kind {
-        0 => request(s, h, little, body),
-        _ => ping(s, h, little, body),
+    match h.kind {
+        0 => request(s, h, body),
+        _ => ping(s, h),
     }
 }
 
 // 10 to 17, of a header and a body that were read, by the type: the server takes 0, 1, 7, 8 and 9.
-fn pdu(s: Server, h: Header, little: bool, body: &[u8]) -> Verdict
-    ensures { result ≡ pdu_verdict s h little body.now }
+fn pdu(s: Server, read: Received, body: &[u8]) -> Verdict
+    ensures { result ≡ pdu_verdict s read.header read.little body.now }
 {
-    let kind = h.kind;
-    match kind {
-        0..=1 => request_or_ping(s, h, little, body),
-        7 => ack(s, h, little, body),
-        8 => cancel(s, h, little, body),
-        9 => fack(s, h, little, body),
+    match read.header.kind {
+        0..=1 => request_or_ping(s, read.header, body),
+        7 => ack(s, read.header),
+        8 => cancel(s, read, body),
+        9 => fack(s, read, body),
         2..=6 => Err(Refusal::WrongSide),
         10..=255 => Err(Refusal::WrongSide),
     }
 }
 
 // 9 to 17, of a datagram that was read: one of another activity is 9.
-fn own_activity(s: Server, h: Header, little: bool, body: &[u8]) -> Verdict
-    ensures { result ≡ activity_verdict s h little body.now }
+#[tactic(auto, using(crate::proofs::judge::KindLaws::activity_lines), unfolding(words::specs::Choice::choose))]
+fn own_activity(s: Server, read: Received, body: &[u8]) -> Verdict
+    ensures { result ≡ activity_verdict s read.header read.little body.now }
 {
-    let mine = s.activity;
-    let theirs = h.activity;
-    if !words::same_uuid(mine, theirs) {
+    if !words::same_uuid(s.activity, read.header.activity) {
         return Err(Refusal::OtherActivity);
     }
-    pdu(s, h, little, body)
+    pdu(s, read, body)
 }
 
 // 1 and 2 of a datagram, by the lengths of what is lent; Done where neither holds.
@@ -530,6 +456,6 @@ pub fn arrival(s: Server, slots: usize, out: usize, d: &[u8]) -> Result<(Row, He
 {
     entry(s, slots, out)?;
     let read = reader::read(d)?;
-    let row = own_activity(s, read.header, read.little, reader::body(d))?;
+    let row = own_activity(s, read, reader::body(d))?;
     Ok((row, read.header))
 }

@@ -1,4 +1,6 @@
 // What a row of the server's table makes of its record: the plan of the step, before anything is written.
+#![tactic(auto, unfolding(crate::specs::records::Record::with_outgoing, crate::specs::records::Record::with_resends, crate::specs::step::Plan::going, crate::specs::step::Steps::answered, crate::specs::step::Steps::transmitted, crate::specs::step::Steps::repeatable, crate::specs::step::Steps::rewinding, crate::specs::step::Steps::call_of, crate::specs::step::Steps::begun, crate::specs::step::Steps::put_state, crate::specs::step::Steps::put_notice, crate::specs::step::Steps::fack_for, crate::specs::step::Steps::put_plan, crate::specs::step::Steps::acknowledged, crate::specs::step::Steps::heard_plan, crate::specs::step::Steps::step_of, words::specs::Choice::choose))]
+
 ghost use Rattle.std.specs.Prelude.{◌≡◌};
 ghost use Rattle.server.specs.records.Record.{holding, unarmed, with_resends};
 ghost use Rattle.server.specs.step.Plan.{going as going_plan};
@@ -8,7 +10,7 @@ use crate::judge::Row;
 use crate::records;
 use crate::records::{Idle, Reply, Server, State};
 use calls::{Call, Notice};
-use fragments::{Fragment, Stored};
+use fragments::Fragment;
 use pdu::Header;
 
 // What is to be sent: nothing, the response's fragment of that number, a fault with its status, working, nocall, a
@@ -44,17 +46,21 @@ fn going(s: Server, send: Send) -> Plan
 fn answered(s: Server, length: u32) -> Server
     ensures { result ≡ answered_record s length }
 {
-    let o = s.outgoing;
-    let next = records::with_outgoing(s, outgoing::reply(o, length));
-    records::to_unarmed(next, State::Replying)
+    let replied = Server {
+        outgoing: outgoing::reply(s.outgoing, length),
+        ..s
+    };
+    records::to_unarmed(replied, State::Replying)
 }
 
 // The record after the next fragment is sent.
 fn transmitted(s: Server) -> Server
     ensures { result ≡ transmitted_record s }
 {
-    let o = s.outgoing;
-    records::with_outgoing(s, outgoing::after_send(o))
+    Server {
+        outgoing: outgoing::after_send(s.outgoing),
+        ..s
+    }
 }
 
 // The record of a call that can be run again: to IDLE repeatable.
@@ -92,30 +98,37 @@ fn fault_held(s: Server, status: u32) -> Plan
 fn rewinding(s: Server) -> Server
     ensures { result ≡ rewinding_record s }
 {
-    let o = s.outgoing;
-    let next = records::with_outgoing(s, outgoing::rewind(o));
-    records::to_unarmed(next, State::Replying)
+    let rewound = Server {
+        outgoing: outgoing::rewind(s.outgoing),
+        ..s
+    };
+    records::to_unarmed(rewound, State::Replying)
 }
 
 // The same by RESEND, its count as told.
 fn resent(s: Server, resends: u8) -> Server
     ensures { result ≡ rewinding_record (with_resends s resends) }
 {
-    rewinding(records::with_resends(s, resends))
+    rewinding(Server { resends, ..s })
 }
 
 // The call that a request carries.
 fn call_of(h: Header) -> Call
     ensures { result ≡ call_of h }
 {
-    let object = h.object;
-    let interface = h.interface;
+    let Header {
+        object,
+        interface,
+        version,
+        operation,
+        ..
+    } = h;
     Call {
         idempotent: flags::is_idempotent(h.flags1),
         object,
         interface,
-        version: h.version,
-        operation: h.operation,
+        version,
+        operation,
     }
 }
 
@@ -131,9 +144,10 @@ fn put_state(complete: bool) -> State
     ensures { result ≡ put_state complete }
 {
     if complete {
-        return State::Running;
+        State::Running
+    } else {
+        State::Collect
     }
-    State::Collect
 }
 
 // What is told of a put.
@@ -141,9 +155,10 @@ fn put_notice(complete: bool) -> Notice
     ensures { result ≡ put_notice complete }
 {
     if complete {
-        return Notice::Dispatch;
+        Notice::Dispatch
+    } else {
+        Notice::Nothing
     }
-    Notice::Nothing
 }
 
 // The fack for what was put, where one is wanted.
@@ -151,19 +166,19 @@ fn fack_for(wanted: bool, serial: u16, count: u16) -> Send
     ensures { result ≡ fack_for wanted serial count }
 {
     if wanted {
-        return Send::Fack(serial, count);
+        Send::Fack(serial, count)
+    } else {
+        Send::Nothing
     }
-    Send::Nothing
 }
 
 // A request is put.
 fn put(s: Server, p: Fragment) -> Plan
     ensures { result ≡ put_plan s p }
 {
-    let m = s.incoming;
     let next = records::to_unarmed(s, put_state(p.complete));
     calls::Plan {
-        machine: records::with_incoming(next, fragments::put_into(m, p)),
+        machine: records::with_incoming(next, fragments::put_into(s.incoming, p)),
         send: fack_for(p.facked, p.serial, p.count),
         notice: put_notice(p.complete),
         store: Some(p.number),
@@ -174,8 +189,10 @@ fn put(s: Server, p: Fragment) -> Plan
 fn acknowledged(s: Server, count: u16) -> Server
     ensures { result ≡ acknowledged_record s count }
 {
-    let o = s.outgoing;
-    records::with_outgoing(s, outgoing::acknowledge(o, count))
+    Server {
+        outgoing: outgoing::acknowledge(s.outgoing, count),
+        ..s
+    }
 }
 
 // A cancel is heard: its number is remembered, and the stub is told.
@@ -194,16 +211,18 @@ fn heard(s: Server, number: u32) -> Plan
 pub fn step(row: Row, s: Server, h: Header) -> Plan
     ensures { result ≡ step_of row s h }
 {
-    let o = s.outgoing;
     match row {
         Row::Reply(length) => going(answered(s, length), Send::Nothing),
-        Row::TransmitMore => going(transmitted(s), Send::Response(o.sent)),
-        Row::TransmitRepeatable => going(repeatable(transmitted(s)), Send::Response(o.sent)),
-        Row::TransmitHeld => going(reply_held(transmitted(s)), Send::Response(o.sent)),
+        Row::TransmitMore => going(transmitted(s), Send::Response(s.outgoing.sent)),
+        Row::TransmitRepeatable => going(
+            repeatable(transmitted(s)),
+            Send::Response(s.outgoing.sent),
+        ),
+        Row::TransmitHeld => going(reply_held(transmitted(s)), Send::Response(s.outgoing.sent)),
         Row::FaultRepeatable(status) => going(repeatable(s), Send::Fault(status)),
         Row::FaultHeld(status) => fault_held(s, status),
         Row::ResendData(resends) => going(resent(s, resends), Send::Nothing),
-        Row::ResendFault(status, resends) => fault_held(records::with_resends(s, resends), status),
+        Row::ResendFault(status, resends) => fault_held(Server { resends, ..s }, status),
         Row::Spend => going(spent(s), Send::Nothing),
         Row::Begin(p) => put(begun(s, h), p),
         Row::Put(p) => put(s, p),

@@ -2,12 +2,12 @@
 use Prim.Native.Nat.{ℕ, ◌<◌}
 use mathlib.Core.Bool.{false}
 use mathlib.Core.Logic.{◌⊎◌, inl, inr}
-use mathlib.Core.Path.{◌≡◌, refl, sym}
+use mathlib.Core.Path.{◌≡◌, refl, sym, ◌∙◌}
 use native.Mathlib.Omega.{arith}
 use borrow.Author.Tests.{ne_eqb}
 use Rattle.words.specs.Choice.{choose, either}
 use Rattle.server.specs.judge.Rows.{is_for_server}
-use Rattle.server.proofs.judge.KindLaws.{foreign_lines}
+use Rattle.server.proofs.judge.KindLaws.{called_lines, ack_lines, cancel_lines, fack_lines, foreign_lines}
 use Rattle.server.proofs.judge.pdu.Goals as goal
 
 -- No number but these is the server's.
@@ -30,8 +30,17 @@ outside kind (inr high) =
       ne_eqb kind 9 (λ e. omega arith),
     ) (unfold choose in refl)
 
-pub request_or_ping-requires : goal.request_or_ping-requires
-request_or_ping-requires c = omega arith
+pub returns-in-0-to-1 : goal.returns-in-0-to-1
+returns-in-0-to-1 c = c.request_or_ping.ensures ∙ sym (called_lines _ _ _ _ (omega arith))
+
+pub returns-in-7 : goal.returns-in-7
+returns-in-7 c = c.ack.ensures ∙ sym (ack_lines _ _ _ _ c.in-7.is)
+
+pub returns-in-8 : goal.returns-in-8
+returns-in-8 c = c.cancel.ensures ∙ sym (cancel_lines _ _ _ _ c.in-8.is)
+
+pub returns-in-9 : goal.returns-in-9
+returns-in-9 c = c.fack.ensures ∙ sym (fack_lines _ _ _ _ c.in-9.is)
 
 pub returns-in-2-to-6 : goal.returns-in-2-to-6
 returns-in-2-to-6 c = sym (foreign_lines _ _ _ _ (outside _ (inl (omega arith, omega arith))))

@@ -1,7 +1,0 @@
--- `server::records::fresh` meets its contract.
-use Rattle.server.specs.records.Record.{fresh}
-use Rattle.server.proofs.records.fresh.Goals as goal
-
-pub returns : goal.returns
-unfolding fresh
-returns c = rw (c.empty.ensures, c.nothing.ensures, c.no_call.ensures)

@@ -1,8 +1,0 @@
--- `server::records::with_incoming` meets its contract.
-use Rattle.server.specs.records.Record.{with_incoming}
-use Rattle.words.proofs.Tests.{tests}
-use Rattle.server.proofs.records.with_incoming.Goals as goal
-
-pub returns : goal.returns
-unfolding with_incoming
-returns c = search tests

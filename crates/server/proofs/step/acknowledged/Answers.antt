@@ -1,7 +1,0 @@
--- `server::step::acknowledged` meets its contract.
-use Rattle.server.specs.step.Steps.{acknowledged}
-use Rattle.server.proofs.step.acknowledged.Goals as goal
-
-pub returns : goal.returns
-unfolding acknowledged
-returns c = rw (c.with_outgoing.ensures, c.acknowledge.ensures)
