@@ -7,7 +7,7 @@ use lib.Dec.{eqb, leb}
 use Rattle.words.specs.Choice.{both}
 use Rattle.record_bytes.specs.declared.Decoded.{Decoded}
 use Rattle.record_bytes.specs.Layout.{fields_in, decoded_in}
-use Rattle.record_bytes.proofs.NumberLaws.{clear-number}
+use Rattle.record_bytes.proofs.NumberLaws.{clear_number}
 use Rattle.client_bytes.specs.Layout.{readable, client_of, client_in}
 use Rattle.client_bytes.proofs.decode.Goals as goal
 
@@ -19,7 +19,7 @@ by_decoded : (s : List ℕ) (d : Decoded) → d ≡ decoded_in s → client_of (
 unfolding client_in readable decoded_in fields_in
 by_decoded s d e =
     ap (λ (x : Decoded). client_of (readable_by x) x.fields) e
-    ∙ ap (λ (r : Bool). client_of r (fields_in s)) (rw (clear-number 4 s 28))
+    ∙ ap (λ (r : Bool). client_of r (fields_in s)) (rw (clear_number 4 s 28))
 
 pub returns : goal.returns
 returns c =

@@ -1,16 +1,26 @@
 -- A slot by its four bytes as one number.
 use Prim.Native.Nat.{ℕ, ◌+◌, ◌*◌, ◌/◌, ◌%◌, ◌<◌}
-use mathlib.Core.Bool.{Bool, true, false}
+use mathlib.Core.Bool.{Bool, true, false, ◌&&◌}
 use mathlib.Core.List.{List}
 use mathlib.Core.Path.{◌≡◌, refl, sym, ap, ◌∙◌}
 use native.Mathlib.Omega.{arith}
 use lib.Dec.{eqb, leb, ltb}
-use lib.ListN.{get_or}
+use lib.ListN.{get_or, drop}
+use lib.Seq.{get_or-drop}
 use borrow.Author.Tests.{leb-true, leb-false, eqb-true, eqb-false, lt-ltb, le-ltb}
 use Rattle.words.specs.Choice.{choose, both}
 use Rattle.words.specs.Number.{number}
 use Rattle.record_bytes.specs.Held.{slot_of, slot_in, slot_readable}
 use Rattle.record_bytes.proofs.NumberLaws.{number_four}
+
+-- Bytes behind the first k are bytes.
+pub octets_behind : (k : ℕ) (s : List ℕ) → ((i : ℕ) → get_or s i 0 < 256) → (i : ℕ) → get_or (drop k s) i 0 < 256
+octets_behind k s octets i = rw (get_or-drop k s i 0) (octets (k + i))
+
+pub and_both : (a b : Bool) → (a && b) ≡ both a b
+unfolding both choose
+and_both true b = refl
+and_both false b = refl
 
 -- The parts of a number by its bytes.
 word_parts : (a b c d n : ℕ) → a < 256 → b < 256 → c < 256 → n ≡ a + 256 * b + 65536 * c + 16777216 * d

@@ -12,7 +12,7 @@ use Rattle.words.specs.Number.{number}
 use Rattle.record_bytes.specs.declared.Decoded.{Decoded}
 use Rattle.record_bytes.specs.Parts.{clear}
 use Rattle.record_bytes.specs.Layout.{fields_in, decoded_in}
-use Rattle.record_bytes.proofs.NumberLaws.{number_four, number_halves, clear-number, clear_joined}
+use Rattle.record_bytes.proofs.NumberLaws.{number_four, number_halves, clear_number, clear_joined}
 use Rattle.server_bytes.specs.Layout.{readable, server_of, server_in}
 use Rattle.server_bytes.proofs.decode.Goals as goal
 
@@ -39,7 +39,7 @@ module _ (s : List ℕ) (octets : (i : ℕ) → get_or s i 0 < 256) where
 
   -- whose high half is 0 where the word is small.
   high_clear : ltb (number 8 true s 48) 4294967296 ≡ clear 4 (drop 52 s)
-  high_clear = by_test (eqb (number 4 true s 52) 0) refl ∙ sym (clear-number 4 s 52)
+  high_clear = by_test (eqb (number 4 true s 52) 0) refl ∙ sym (clear_number 4 s 52)
     where
       by_test : (test : Bool) → eqb (number 4 true s 52) 0 ≡ test → ltb (number 8 true s 48) 4294967296 ≡ test
       by_test true e =
@@ -51,7 +51,7 @@ module _ (s : List ℕ) (octets : (i : ℕ) → get_or s i 0 < 256) where
   -- So what is decoded tells whether bytes are readable,
   decoded-readable : readable_by (decoded_in s) ≡ readable s
   unfolding readable decoded_in fields_in
-  decoded-readable = rw (high_clear, ← clear-number 8 s 56, ← clear_joined 4 8 s 52)
+  decoded-readable = rw (high_clear, ← clear_number 8 s 56, ← clear_joined 4 8 s 52)
 
   -- and the record.
   by_decoded : (d : Decoded) → d ≡ decoded_in s
