@@ -52,7 +52,7 @@ module _ (f : Fields) (out : List ℕ) (activity : length f.activity ≡ 16) (ob
 
   pub encoded_none : length out < 272 → out ≡ placed 0 (field_bytes f) out
   unfolding field_bytes
-  encoded_none short = 
+  encoded_none short =
       laid_none
       (record_front f.state f.count f.extra f.call f.outgoing f.incoming.last)
       (record_numbers f.number f.call.version f.outgoing.length f.boot)
@@ -74,7 +74,7 @@ module _ (f : Fields) (out : List ℕ) (activity : length f.activity ≡ 16) (ob
       (placed 0 (record_front f.state f.count f.extra f.call f.outgoing f.incoming.last) out)))))))))
       ≡ placed 0 (field_bytes f) out
   unfolding field_bytes
-  encoded room = 
+  encoded room =
       laid
       (record_front f.state f.count f.extra f.call f.outgoing f.incoming.last)
       (record_numbers f.number f.call.version f.outgoing.length f.boot)

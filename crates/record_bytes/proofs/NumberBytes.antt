@@ -4,7 +4,7 @@ use mathlib.Core.Bool.{true}
 use mathlib.Core.List.{List, [], ◌∷◌}
 use mathlib.Core.Path.{◌≡◌, refl, sym, ap, ◌∙◌}
 use native.Mathlib.Omega.{arith}
-use lib.ListN.{get_or, drop}
+use lib.ListN.{drop}
 use lib.Seq.{get_or-drop}
 use Rattle.std.specs.Int.{w16, w32, w64, to_le_bytes, from_le_bytes}
 use Rattle.words.specs.Number.{le, digits, part, number}
@@ -47,7 +47,7 @@ pub read_uuid : (s : List ℕ) (at : ℕ) → part 16 s at ≡ uuid_in s at
 read_uuid s at = sym (uuid-bytes s at)
 
 -- A number behind the first k bytes.
-part_behind : (n k : ℕ) (s : List ℕ) (at : ℕ) → part n s (k + at) ≡ part n (drop k s) at
+pub part_behind : (n k : ℕ) (s : List ℕ) (at : ℕ) → part n s (k + at) ≡ part n (drop k s) at
 part_behind zero k s at = refl
 part_behind (suc n) k s at =
     let next : k + at + 1 ≡ k + (at + 1) = omega arith in

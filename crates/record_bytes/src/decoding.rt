@@ -2,18 +2,19 @@
 // every place is known to be there, and nothing is tested byte by byte.
 #![tactic(auto, using(crate::proofs::NumberBytes::read_two, crate::proofs::NumberBytes::read_four, crate::proofs::NumberBytes::read_eight, crate::proofs::NumberBytes::read_uuid, crate::proofs::NumberLaws::clear_number), unfolding(crate::specs::Parts::timer_where, crate::specs::Parts::last_of, crate::specs::Held::length_where, crate::specs::Held::slot_of, crate::specs::Layout::last_readable, crate::specs::Layout::marks_readable, crate::specs::Layout::spares_readable, crate::specs::Layout::readable, crate::specs::Layout::call_in, crate::specs::Layout::outgoing_in, crate::specs::Layout::incoming_in, crate::specs::Layout::fields_in, crate::specs::Layout::decoded_in, words::specs::Choice::choose, words::specs::Choice::both, words::specs::Choice::either))]
 
-ghost use Rattle.std.specs.Prelude.{true, ◌≡◌, ◌+◌, ◌*◌, ◌/◌, ◌%◌, ◌≤◌, ◌<◌, drop, replicate};
-ghost use Rattle.words.specs.Number.{part, number};
+ghost use Rattle.std.specs.Prelude.{◌≡◌, ◌+◌, ◌≤◌, ◌<◌, drop, replicate};
+ghost use Rattle.words.specs.Number.{part};
 ghost use Rattle.words.specs.Place.{placed};
 ghost use Rattle.words.specs.Sizes.{window_size};
 ghost use Rattle.record_bytes.specs.Parts.{timer_in, last_of, clear};
-ghost use Rattle.record_bytes.specs.Held.{slot_of, slots_in, slots_readable};
+ghost use Rattle.record_bytes.specs.Held.{slot_in, slots_in, slot_readable, slots_readable};
 ghost use Rattle.record_bytes.specs.Layout.{record_size, last_readable, marks_readable, spares_readable, readable, call_in, outgoing_in, incoming_in, fields_in, decoded_in};
 
 use crate::{Decoded, Fields, SIZE};
 use calls::Call;
 use incoming::{Incoming, Last, Slot};
 use outgoing::Outgoing;
+use std::array;
 use timers::Timer;
 use words::WINDOW_SIZE;
 
@@ -27,46 +28,37 @@ fn part<const N: usize>(s: &[u8; SIZE], at: usize) -> [u8; N]
     bytes
 }
 
-// The four bytes of slot f as one number: so they are read at once.
-fn slot_word(s: &[u8; SIZE], f: usize) -> u32
+// Slot f: four bytes, length u16, held u8 and a spare byte.
+fn slot(s: &[u8; SIZE], f: usize) -> Slot
     requires { f < window_size }
-    ensures { result ≡ number 4 true (drop 144 s.now) (4 * f) }
+    ensures { result ≡ slot_in (drop 144 s.now) f }
 {
-    u32::from_le_bytes(part(s, 144 + 4 * f))
-}
-
-// The slot whose four bytes are this number: length u16, held u8 and a spare byte.
-fn slot(word: u32) -> Slot
-    ensures { result ≡ slot_of (word / 65536 % 256) (word % 65536) }
-{
-    let held = word / 65536 % 256 == 1;
-    let length = crate::length_where(held, (word % 65536) as u16);
+    let [low, high, mark, _] = part::<4>(s, 144 + 4 * f);
+    let held = mark == 1;
+    let length = crate::length_where(held, u16::from_le_bytes([low, high]));
     Slot { held, length }
 }
 
-// All slots, four bytes each.
+// All slots.
 fn slots(s: &[u8; SIZE]) -> [Slot; WINDOW_SIZE as usize]
     ensures { result ≡ slots_in (drop 144 s.now) }
 {
-    let mut all = [Slot {
-        held: false,
-        length: 0,
-    }; WINDOW_SIZE as usize];
-    for f in 0..all.len() {
-        all[f] = slot(slot_word(s, f));
-    }
-    all
+    array::from_fn(|f| slot(s, f))
 }
 
-// Whether each slot's held byte is 0 or 1 and its spare byte 0: its number is below 2 * 65,536.
+// Whether slot f's held byte is 0 or 1 and its spare byte 0: all four as one number are below 2 * 65,536.
+fn is_slot_readable(s: &[u8; SIZE], f: usize) -> bool
+    requires { f < window_size }
+    ensures { result ≡ slot_readable (drop 144 s.now) f }
+{
+    u32::from_le_bytes(part(s, 144 + 4 * f)) < 131072
+}
+
+// Whether each slot is readable.
 fn are_slots_readable(s: &[u8; SIZE]) -> bool
     ensures { result ≡ slots_readable (drop 144 s.now) }
 {
-    let mut all = true;
-    for f in 0..WINDOW_SIZE as usize {
-        all &= slot_word(s, f) < 131072;
-    }
-    all
+    (0..WINDOW_SIZE as usize).all(|f| is_slot_readable(s, f))
 }
 
 // Whether the known last is unknown, or fits a byte.
