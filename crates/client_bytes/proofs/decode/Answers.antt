@@ -3,8 +3,9 @@ use mathlib.Core.Bool.{Bool}
 use mathlib.Core.List.{List}
 use mathlib.Core.Path.{◌≡◌, ap, ◌∙◌}
 use Prim.Native.Nat.{ℕ}
+use native.Mathlib.Omega.{arith}
 use lib.Dec.{eqb, leb}
-use Rattle.words.specs.Choice.{both}
+use Rattle.words.specs.Choice.{choose, both}
 use Rattle.record_bytes.specs.declared.Decoded.{Decoded}
 use Rattle.record_bytes.specs.Layout.{fields_in, decoded_in}
 use Rattle.record_bytes.proofs.NumberLaws.{clear_number}
@@ -22,6 +23,7 @@ by_decoded s d e =
     ∙ ap (λ (r : Bool). client_of r (fields_in s)) (rw (clear_number 4 s 28))
 
 pub returns : goal.returns
+unfolding both choose
 returns c =
-    rw (c.client_of.ensures, c.both-readable.ensures, c.both.ensures)
-    (by_decoded _ _ c.decode-d.ensures)
+    let test : c.if-d-eq0.readable ≡ readable_by c.decode-d.result = grind arith in
+    rw (c.client_of.ensures, test) (by_decoded _ _ c.decode-d.ensures)
