@@ -1,12 +1,12 @@
 // The client's record in 272 bytes, and back.
-#![tactic(auto, unfolding(crate::specs::Layout::state_of, crate::specs::Layout::client_of, crate::specs::Layout::fields_of, crate::specs::Layout::bytes_of_client, words::specs::Choice::choose))]
+#![tactic(auto, unfolding(crate::specs::Layout::state_of, crate::specs::Layout::readable_by, crate::specs::Layout::client_of, crate::specs::Layout::fields_of, crate::specs::Layout::bytes_of_client, words::specs::Choice::choose, words::specs::Choice::both))]
 
 ghost use Rattle.std.specs.Prelude.{◌≡◌};
 ghost use Rattle.words.specs.Place.{placed};
-ghost use Rattle.client_bytes.specs.Layout.{state_of, state_number, client_of, client_in, fields_of, bytes_of_client};
+ghost use Rattle.client_bytes.specs.Layout.{state_of, state_number, readable_by, client_of, client_in, fields_of, bytes_of_client};
 
 use client::{Client, State};
-use record_bytes::Fields;
+use record_bytes::{Decoded, Fields};
 
 // The state that a number stands for; one above 6 stands for none, and counts as FAULT.
 fn state_of(number: u8) -> State
@@ -60,14 +60,19 @@ fn client_of(readable: bool, f: Fields) -> Client
     }
 }
 
+// Whether bytes are readable, by what is decoded of them: a state that is listed, no boot, and what both sides ask.
+fn is_readable(d: &Decoded) -> bool
+    ensures { result ≡ readable_by d.now }
+{
+    d.fields.state <= 6 && d.fields.boot == 0 && d.readable
+}
+
 // The record in 272 bytes; one that breaks its rules where they are not readable.
 pub fn decode(s: &[u8]) -> Client
     ensures { result ≡ client_in s.now }
 {
     let d = record_bytes::decode(s);
-    // Readable: a state that is listed, no boot, and what both sides ask.
-    let readable = d.fields.state <= 6 && d.fields.boot == 0 && d.readable;
-    client_of(readable, d.fields)
+    client_of(is_readable(&d), d.fields)
 }
 
 // What the bytes of a record hold.
