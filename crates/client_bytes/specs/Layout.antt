@@ -1,6 +1,7 @@
 -- The client's record in 272 bytes, and back.
 use Rattle.std.specs.Prelude.{ℕ, Bool, List, get_or, drop, eqb, leb}
 use Rattle.words.specs.Choice.{choose, both}
+use Rattle.record_bytes.specs.declared.Decoded.{Decoded}
 use Rattle.record_bytes.specs.declared.Fields.{Fields}
 use Rattle.record_bytes.specs.Parts.{timer_where, is_armed, timer_ticket, clear, count_where}
 use Rattle.record_bytes.specs.Layout.{readable as shared_readable, fields_in, field_bytes}
@@ -32,6 +33,10 @@ state_number Fault = 6
 -- Readable: a state that is listed, no boot, and what both sides ask.
 unfoldable pub readable : List ℕ → Bool
 readable s = both (leb (get_or s 0 0) 6) (both (clear 4 (drop 28 s)) (shared_readable s))
+
+-- The same by what is decoded of bytes: there is no boot where its number is 0.
+unfoldable pub readable_by : Decoded → Bool
+readable_by d = both (leb d.fields.state 6) (both (eqb d.fields.boot 0) d.readable)
 
 -- The record of what stands in bytes.
 unfoldable pub client_of : Bool → Fields → Client

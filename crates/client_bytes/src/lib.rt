@@ -1,38 +1,29 @@
 // The client's record in 272 bytes, and back.
-#![tactic(auto)]
+#![tactic(auto, unfolding(crate::specs::Layout::state_of, crate::specs::Layout::readable_by, crate::specs::Layout::client_of, crate::specs::Layout::fields_of, crate::specs::Layout::bytes_of_client, words::specs::Choice::choose, words::specs::Choice::both))]
 
 ghost use Rattle.std.specs.Prelude.{◌≡◌};
 ghost use Rattle.words.specs.Place.{placed};
-ghost use Rattle.client_bytes.specs.Layout.{state_of, state_number, client_of, client_in, fields_of, bytes_of_client};
+ghost use Rattle.client_bytes.specs.Layout.{state_of, state_number, readable_by, client_of, client_in, fields_of, bytes_of_client};
 
 use client::{Client, State};
-use record_bytes::Fields;
+use record_bytes::{Decoded, Fields};
 
 // The state that a number stands for; one above 6 stands for none, and counts as FAULT.
 fn state_of(number: u8) -> State
     ensures { result ≡ state_of number }
 {
-    if number == 0 {
-        return State::Queued;
+    match number {
+        0 => State::Queued,
+        1 => State::SendFrags,
+        2 => State::Dispatched,
+        3 => State::ReceiveFrags,
+        4 => State::AckPending,
+        5 => State::Complete,
+        _ => State::Fault,
     }
-    if number == 1 {
-        return State::SendFrags;
-    }
-    if number == 2 {
-        return State::Dispatched;
-    }
-    if number == 3 {
-        return State::ReceiveFrags;
-    }
-    if number == 4 {
-        return State::AckPending;
-    }
-    if number == 5 {
-        return State::Complete;
-    }
-    State::Fault
 }
 
+// The number of a state.
 fn state_number(state: State) -> u8
     ensures { result ≡ state_number state }
 {
@@ -52,28 +43,28 @@ fn client_of(readable: bool, f: Fields) -> Client
     ensures { result ≡ client_of readable f }
 {
     let activity = f.activity;
-    let call = f.call;
-    let outgoing = f.outgoing;
-    let incoming = f.incoming;
-    let wait = f.timer;
-    let cancel = f.cancel;
-    let state = state_of(f.state);
-    let ack = record_bytes::timer_where(f.armed, f.word);
     Client {
-        state,
+        state: state_of(f.state),
         activity,
         number: f.number,
-        call,
-        outgoing,
-        incoming,
+        call: f.call,
+        outgoing: f.outgoing,
+        incoming: f.incoming,
         waits: record_bytes::count_where(readable, f.count),
         resends: f.extra,
         cancels: f.cancels,
         tickets: f.tickets,
-        wait,
-        ack,
-        cancel,
+        wait: f.timer,
+        ack: record_bytes::timer_where(f.armed, f.word),
+        cancel: f.cancel,
     }
+}
+
+// Whether bytes are readable, by what is decoded of them: a state that is listed, no boot, and what both sides ask.
+fn is_readable(d: &Decoded) -> bool
+    ensures { result ≡ readable_by d.now }
+{
+    d.fields.state <= 6 && d.fields.boot == 0 && d.readable
 }
 
 // The record in 272 bytes; one that breaks its rules where they are not readable.
@@ -81,39 +72,29 @@ pub fn decode(s: &[u8]) -> Client
     ensures { result ≡ client_in s.now }
 {
     let d = record_bytes::decode(s);
-    let f = d.fields;
-    // Readable: a state that is listed, no boot, and what both sides ask.
-    let readable = words::both(f.state <= 6, words::both(f.boot == 0, d.readable));
-    client_of(readable, f)
+    client_of(is_readable(&d), d.fields)
 }
 
 // What the bytes of a record hold.
 fn fields_of(c: Client) -> Fields
     ensures { result ≡ fields_of c }
 {
-    let state = c.state;
     let activity = c.activity;
-    let call = c.call;
-    let outgoing = c.outgoing;
-    let incoming = c.incoming;
-    let timer = c.wait;
-    let ack = c.ack;
-    let cancel = c.cancel;
     Fields {
-        state: state_number(state),
+        state: state_number(c.state),
         count: c.waits,
         extra: c.resends,
         activity,
         number: c.number,
         boot: 0,
-        call,
-        outgoing,
-        incoming,
+        call: c.call,
+        outgoing: c.outgoing,
+        incoming: c.incoming,
         tickets: c.tickets,
-        timer,
-        armed: record_bytes::is_armed(ack),
-        word: record_bytes::timer_ticket(ack),
-        cancel,
+        timer: c.wait,
+        armed: record_bytes::is_armed(c.ack),
+        word: record_bytes::timer_ticket(c.ack),
+        cancel: c.cancel,
         cancels: c.cancels,
     }
 }

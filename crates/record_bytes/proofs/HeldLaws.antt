@@ -1,27 +1,24 @@
--- One more slot, and one more that is readable, of those that bytes give, and the bytes of one more slot.
-use Prim.Native.Nat.{ℕ, ◌+◌, ◌*◌, ◌<◌, ◌≤◌}
-use mathlib.Core.Bool.{Bool}
+-- The slots that bytes give, whether each is readable, and the bytes of one more slot.
+use Prim.Native.Nat.{ℕ, zero, suc, ◌+◌, ◌*◌, ◌<◌, ◌≤◌}
+use mathlib.Core.Bool.{Bool, true, false, ◌&&◌}
 use mathlib.Core.List.{List, [], ◌∷◌, ◌++◌}
 use mathlib.Core.Path.{◌≡◌, refl, sym, ap, ◌∙◌}
 use native.Mathlib.Numerals.{add-one}
 use native.Mathlib.Nat.{le_of_lt}
 use native.Mathlib.Omega.{arith}
-use lib.ListN.{length, get_or, set, take}
+use lib.ListN.{length, get_or, set, take, length-set}
+use Rattle.std.specs.List.{list_all, range_with_len}
+use lib.Dec.{eqb}
+use borrow.Author.Tests.{eqb-true, eqb-false}
+use Rattle.std.proofs.lemmas.List.{ext_get_or, get_or-set_same, get_or-set_other}
 use lib.Seq.{take-suc, take_all, length-take-le}
-use Rattle.words.specs.Choice.{both}
+use Rattle.words.specs.Choice.{choose, both}
+use Rattle.words.specs.Sizes.{window_size}
 use Rattle.words.specs.Place.{put_at, placed}
 use Rattle.words.proofs.Place.{put-behind, placed_fits, length-put_at, placed-front}
 use Rattle.incoming.specs.declared.Slot.{Slot}
-use Rattle.record_bytes.specs.Held.{slot_bytes, slots_bytes, slot_in, slots_below, slot_readable, readable_below}
-
-pub slots_more : (s : List ℕ) (f : ℕ) (all : List Slot) (x : Slot) → all ≡ slots_below s f → x ≡ slot_in s f → set all f x ≡ slots_below s (f + 1)
-unfolding slots_below
-slots_more s f all x p q = rw (add-one f, p, q)
-
-pub readable_more : (s : List ℕ) (f : ℕ) (one all after : Bool) → all ≡ readable_below s f → one ≡ slot_readable s f → after ≡ both all one
-    → after ≡ readable_below s (f + 1)
-unfolding readable_below
-readable_more s f one all after p q e = rw (add-one f, e, p, q)
+use Rattle.incoming.specs.Slots.{missing}
+use Rattle.record_bytes.specs.Held.{slot_bytes, slots_bytes, slot_in, slots_below, slots_in, slot_readable, readable_below, slots_readable}
 
 pub length-slots : (xs : List Slot) → length (slots_bytes xs) ≡ 4 * length xs
 length-slots [] = refl
@@ -59,3 +56,60 @@ placed_all s z e =
     let fits : length s ≤ length z = omega arith in
     let size : length (placed 0 s z) ≡ length s = ap length (placed_fits 0 s z room) ∙ length-put_at 0 s z room ∙ sym e in
     sym (take_all (length s) (placed 0 s z) (omega arith)) ∙ placed-front s z (length s) refl fits
+
+-- The slots that bytes give are those of each fragment.
+length-below : (s : List ℕ) (n : ℕ) → length (slots_below s n) ≡ window_size
+unfolding slots_below
+length-below s zero = refl
+length-below s (suc n) = length-set (slots_below s n) n (slot_in s n) ∙ length-below s n
+
+slot_below : (s : List ℕ) (n f : ℕ) → f < n → n ≤ window_size → get_or (slots_below s n) f missing ≡ slot_in s f
+unfolding slots_below
+slot_below s zero f below most = absurd (omega arith)
+slot_below s (suc n) f below most = by_place (eqb f n) refl (slot_below s n f)
+  where
+    by_place : (test : Bool) → eqb f n ≡ test
+        → (f < n → n ≤ window_size → get_or (slots_below s n) f missing ≡ slot_in s f)
+        → get_or (set (slots_below s n) n (slot_in s n)) f missing ≡ slot_in s f
+    by_place true e before =
+        let here : f ≡ n = eqb-true f n e in
+        rw here (get_or-set_same (slots_below s n) n (slot_in s n) missing (omega (arith, length-below s n)))
+    by_place false e before =
+        let other : f ≡ n → ⊥ = eqb-false f n e in
+        get_or-set_other (slots_below s n) n f (slot_in s n) missing other ∙ before (omega (arith, other)) (omega arith)
+
+pub slots_each : (s : List ℕ) (xs : List Slot) → length xs ≡ window_size
+    → ((f : ℕ) → f < window_size → get_or xs f missing ≡ slot_in s f) → xs ≡ slots_in s
+unfolding slots_in
+slots_each s xs size each =
+    ext_get_or missing xs (slots_below s window_size) (size ∙ sym (length-below s window_size))
+    (λ (f : ℕ) (h : f < length xs).
+    let below : f < window_size = omega (arith, h, size) in
+    each f below ∙ sym (slot_below s window_size f below (omega arith)))
+
+-- Slots are readable where each is.
+both_none : (a : Bool) → both a true ≡ a
+unfolding both choose
+both_none true = refl
+both_none false = refl
+
+both_more : (a b c : Bool) → both a (b && c) ≡ both (both a b) c
+unfolding both choose
+both_more true true c = refl
+both_more true false c = refl
+both_more false b c = refl
+
+readable_from : (s : List ℕ) (n f : ℕ)
+    → both (readable_below s f) (list_all (slot_readable s) (range_with_len f n)) ≡ readable_below s (f + n)
+unfolding readable_below
+readable_from s zero f =
+    let here : f ≡ f + 0 = omega arith in
+    both_none (readable_below s f) ∙ ap (readable_below s) here
+readable_from s (suc n) f =
+    let next : suc f + n ≡ f + suc n = omega arith in
+    both_more (readable_below s f) (slot_readable s f) _
+    ∙ rw (add-one f) (readable_from s n (suc f) ∙ ap (readable_below s) next)
+
+pub readable_each : (s : List ℕ) → list_all (slot_readable s) (range_with_len 0 window_size) ≡ slots_readable s
+unfolding slots_readable readable_below both choose
+readable_each s = readable_from s window_size 0

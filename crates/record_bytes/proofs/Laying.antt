@@ -1,14 +1,20 @@
 -- Ten parts, one behind the other: put one by one they are one put.
 use Prim.Native.Nat.{ℕ, ◌+◌, ◌≤◌, ◌<◌}
 use mathlib.Core.List.{List, ◌++◌, append_assoc}
-use mathlib.Core.Path.{◌≡◌}
+use mathlib.Core.Path.{◌≡◌, refl}
 use native.Mathlib.Omega.{arith}
 use lib.ListN.{length, length-append}
+use Rattle.words.specs.Number.{digits}
 use Rattle.words.specs.Place.{placed}
+use Rattle.words.specs.Sizes.{window_size}
 use Rattle.words.proofs.Place.{put-behind, placed_none}
 use Rattle.record_bytes.specs.Fits.{Octets}
-use Rattle.record_bytes.specs.Layout.{laid_bytes}
+use Rattle.record_bytes.specs.declared.Fields.{Fields}
+use Rattle.record_bytes.specs.Parts.{timer_ticket}
+use Rattle.record_bytes.specs.Held.{slots_bytes}
+use Rattle.record_bytes.specs.Layout.{record_front, record_numbers, record_back, laid_bytes, field_bytes}
 use Rattle.record_bytes.proofs.ByteLaws.{octets_four}
+use Rattle.record_bytes.proofs.HeldLaws.{length-slots}
 
 next : (k : ℕ) (p b d : List ℕ) → length p ≡ k → k + length b ≤ length d → placed k b (placed 0 p d) ≡ placed 0 (p ++ b) d
 next k p b d e h = put-behind 0 k p b d (omega arith) h
@@ -38,6 +44,45 @@ module _ (a b t u v n x y z h out : List ℕ)
         next 144 ((((((((a ++ b) ++ t) ++ u) ++ v) ++ n) ++ x) ++ y) ++ z) h out (simp length-append (omega arith)) (omega arith),
       ) (simp append_assoc)
 
+-- The parts of a record.
+module _ (f : Fields) (out : List ℕ) (activity : length f.activity ≡ 16) (object : length f.call.object ≡ 16)
+    (interface : length f.call.interface ≡ 16) (slots : length f.incoming.slots ≡ window_size) where
+  held : length (slots_bytes f.incoming.slots) ≡ 128
+  held = omega (arith, length-slots f.incoming.slots)
+
+  pub encoded_none : length out < 272 → out ≡ placed 0 (field_bytes f) out
+  unfolding field_bytes
+  encoded_none short =
+      laid_none
+      (record_front f.state f.count f.extra f.call f.outgoing f.incoming.last)
+      (record_numbers f.number f.call.version f.outgoing.length f.boot)
+      (digits 8 f.tickets) (digits 8 (timer_ticket f.timer)) (digits 8 f.word)
+      (record_back f.timer f.armed f.cancel f.cancels)
+      f.activity f.call.object f.call.interface (slots_bytes f.incoming.slots) out
+      refl refl refl refl refl refl activity object interface held short
+
+  pub encoded : 272 ≤ length out
+      → placed 144 (slots_bytes f.incoming.slots)
+      (placed 128 f.call.interface
+      (placed 112 f.call.object
+      (placed 96 f.activity
+      (placed 56 (record_back f.timer f.armed f.cancel f.cancels)
+      (placed 48 (digits 8 f.word)
+      (placed 40 (digits 8 (timer_ticket f.timer))
+      (placed 32 (digits 8 f.tickets)
+      (placed 16 (record_numbers f.number f.call.version f.outgoing.length f.boot)
+      (placed 0 (record_front f.state f.count f.extra f.call f.outgoing f.incoming.last) out)))))))))
+      ≡ placed 0 (field_bytes f) out
+  unfolding field_bytes
+  encoded room =
+      laid
+      (record_front f.state f.count f.extra f.call f.outgoing f.incoming.last)
+      (record_numbers f.number f.call.version f.outgoing.length f.boot)
+      (digits 8 f.tickets) (digits 8 (timer_ticket f.timer)) (digits 8 f.word)
+      (record_back f.timer f.armed f.cancel f.cancels)
+      f.activity f.call.object f.call.interface (slots_bytes f.incoming.slots) out
+      refl refl refl refl refl refl activity object interface held room
+
 -- Ten parts that are bytes are bytes.
 pub octets_laid : (a b t u v n x y z h : List ℕ)
     → Octets a → Octets b → Octets t → Octets u → Octets v → Octets n → Octets x → Octets y → Octets z → Octets h
@@ -45,9 +90,3 @@ pub octets_laid : (a b t u v n x y z h : List ℕ)
 octets_laid a b t u v n x y z h pa pb pt pu pv pn px py pz ph =
     octets_four a b t (u ++ (v ++ (n ++ (x ++ (y ++ (z ++ h)))))) pa pb pt
     (octets_four u v n (x ++ (y ++ (z ++ h))) pu pv pn (octets_four x y z h px py pz ph))
-
--- Equal parts give equal bytes.
-pub parts_same : {a a' b b' t t' u u' v v' n n' h h' : List ℕ} (x y z : List ℕ)
-    → a ≡ a' → b ≡ b' → t ≡ t' → u ≡ u' → v ≡ v' → n ≡ n' → h ≡ h'
-    → laid_bytes a b t u v n x y z h ≡ laid_bytes a' b' t' u' v' n' x y z h'
-parts_same x y z p q r s e f g = λ i. laid_bytes (p i) (q i) (r i) (s i) (e i) (f i) x y z (g i)

@@ -1,6 +1,7 @@
 -- What holds of a record's parts as bytes, and what keeps their widths.
 pub mod ByteLaws
 pub mod Keeping
+pub mod NumberBytes
 pub mod NumberLaws
 pub mod HeldLaws
 pub mod Laying

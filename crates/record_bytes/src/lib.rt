@@ -1,19 +1,18 @@
 // A record of either side in 272 bytes of one layout, and back. Both sides have the same fields at the
 // same places; client_bytes and server_bytes say which of them a side's record has.
-#![tactic(auto)]
+#![tactic(auto, unfolding(crate::specs::Parts::timer_where, crate::specs::Parts::count_where, crate::specs::Held::length_where, words::specs::Choice::choose, words::specs::Choice::mark_of))]
 
 mod decoding;
 
 ghost use Rattle.std.specs.Prelude.{◌≡◌};
-ghost use Rattle.words.specs.Number.{digits};
 ghost use Rattle.words.specs.Place.{placed};
-ghost use Rattle.record_bytes.specs.Parts.{timer_where, is_armed, timer_ticket, last_field, uuid_in, count_where};
+ghost use Rattle.record_bytes.specs.Parts.{timer_where, is_armed, timer_ticket, uuid_in, count_where};
 ghost use Rattle.record_bytes.specs.Held.{length_where, slot_bytes, slots_bytes};
-ghost use Rattle.record_bytes.specs.Layout.{record_front, record_numbers, mark_bytes, record_back, laid_bytes, field_bytes};
+ghost use Rattle.record_bytes.specs.Layout.{record_front, record_numbers, mark_bytes, record_back, field_bytes};
 
 use calls::Call;
 pub use decoding::decode;
-use incoming::{Incoming, Last, Slot};
+use incoming::{Incoming, Slot};
 use outgoing::Outgoing;
 use timers::Timer;
 use words::WINDOW_SIZE;
@@ -65,98 +64,29 @@ pub struct Decoded {
 pub fn timer_where(armed: bool, ticket: u64) -> Timer
     ensures { result ≡ timer_where armed ticket }
 {
-    if armed {
-        return Some(ticket);
-    }
-    None
+    armed.then_some(ticket)
 }
 
 // Whether a timer is armed.
 pub fn is_armed(timer: Timer) -> bool
     ensures { result ≡ is_armed timer }
 {
-    match timer {
-        None => false,
-        Some(_) => true,
-    }
+    timer.is_some()
 }
 
 // The ticket of a timer, 0 where none is armed.
 pub fn timer_ticket(timer: Timer) -> u64
     ensures { result ≡ timer_ticket timer }
 {
-    match timer {
-        None => 0,
-        Some(ticket) => ticket,
-    }
-}
-
-// The number of the known last, 65535 where none is known.
-fn last_field(last: Last) -> u16
-    ensures { result ≡ last_field last }
-{
-    match last {
-        None => 65535,
-        Some(number) => number,
-    }
+    timer.unwrap_or(0)
 }
 
 // The UUID that stands in s at `at`.
 pub fn uuid(s: &[u8], at: usize) -> [u8; 16]
     ensures { result ≡ uuid_in s.now at }
 {
-    let mut bytes = [0u8; 16];
+    let mut bytes = [0; 16];
     words::put(&mut bytes, 0, words::first(words::behind(s, at), 16));
-    bytes
-}
-
-// The eight bytes of a u64, the least significant first.
-fn split64(v: u64) -> [u8; 8]
-    ensures { result ≡ digits 8 v }
-{
-    [
-        (v % 256) as u8,
-        (v / 256 % 256) as u8,
-        (v / 256 / 256 % 256) as u8,
-        (v / 256 / 256 / 256 % 256) as u8,
-        (v / 256 / 256 / 256 / 256 % 256) as u8,
-        (v / 256 / 256 / 256 / 256 / 256 % 256) as u8,
-        (v / 256 / 256 / 256 / 256 / 256 / 256 % 256) as u8,
-        (v / 256 / 256 / 256 / 256 / 256 / 256 / 256 % 256) as u8,
-    ]
-}
-
-// The length of a slot: 0 where the fragment is missing.
-fn length_where(held: bool, length: u16) -> u16
-    ensures { result ≡ length_where held length }
-{
-    if held {
-        return length;
-    }
-    0
-}
-
-// The four bytes of a slot; a missing fragment has length 0.
-fn slot_bytes(held: bool, length: u16) -> [u8; 4]
-    ensures { result ≡ slot_bytes held length }
-{
-    let n = length_where(held, length);
-    [(n % 256) as u8, (n / 256 % 256) as u8, words::mark(held), 0]
-}
-
-// The 128 bytes of the slots.
-fn slots_bytes(slots: [Slot; WINDOW_SIZE as usize]) -> [u8; 128]
-    ensures { result ≡ slots_bytes slots }
-{
-    let mut bytes = [0u8; 128];
-    let mut f: u16 = 0;
-    while f < WINDOW_SIZE {
-        let at = f as usize;
-        let slot = slots[at];
-        let four = slot_bytes(slot.held, slot.length);
-        words::put(&mut bytes, 4 * at, &four);
-        f += 1;
-    }
     bytes
 }
 
@@ -164,167 +94,100 @@ fn slots_bytes(slots: [Slot; WINDOW_SIZE as usize]) -> [u8; 128]
 pub fn count_where(readable: bool, count: u8) -> u8
     ensures { result ≡ count_where readable count }
 {
-    if readable {
-        return count;
+    if readable { count } else { 255 }
+}
+
+// The length of a slot: 0 where the fragment is missing.
+fn length_where(held: bool, length: u16) -> u16
+    ensures { result ≡ length_where held length }
+{
+    if held { length } else { 0 }
+}
+
+// The four bytes of a slot; a missing fragment has length 0.
+fn slot_bytes(slot: Slot) -> [u8; 4]
+    ensures { result ≡ slot_bytes slot.held slot.length }
+{
+    let [low, high] = length_where(slot.held, slot.length).to_le_bytes();
+    [low, high, u8::from(slot.held), 0]
+}
+
+// The 128 bytes of the slots.
+fn slots_bytes(slots: &[Slot; WINDOW_SIZE as usize]) -> [u8; 128]
+    ensures { result ≡ slots_bytes slots.now }
+{
+    let mut bytes = [0; 128];
+    for f in 0..slots.len() {
+        words::put(&mut bytes, 4 * f, &slot_bytes(slots[f]));
     }
-    255
-}
-
-// Bytes 0 to 15.
-fn front(state: u8, count: u8, extra: u8, call: Call, outgoing: Outgoing, last: Last) -> [u8; 16]
-    ensures { result ≡ record_front state count extra call outgoing last }
-{
-    let idempotent = words::mark(call.idempotent);
-    let fragments = words::split16(outgoing.count);
-    let sent = words::split16(outgoing.sent);
-    let acknowledged = words::split16(outgoing.acknowledged);
-    let known = words::split16(last_field(last));
-    let serial = words::split16(outgoing.serial);
-    let operation = words::split16(call.operation);
-    [
-        state,
-        idempotent,
-        count,
-        extra,
-        fragments[0],
-        fragments[1],
-        sent[0],
-        sent[1],
-        acknowledged[0],
-        acknowledged[1],
-        known[0],
-        known[1],
-        serial[0],
-        serial[1],
-        operation[0],
-        operation[1],
-    ]
-}
-
-// Bytes 16 to 31.
-fn numbers(number: u32, version: u32, length: u32, boot: u32) -> [u8; 16]
-    ensures { result ≡ record_numbers number version length boot }
-{
-    let first = words::split32(number);
-    let second = words::split32(version);
-    let third = words::split32(length);
-    let fourth = words::split32(boot);
-    [
-        first[0], first[1], first[2], first[3], second[0], second[1], second[2], second[3],
-        third[0], third[1], third[2], third[3], fourth[0], fourth[1], fourth[2], fourth[3],
-    ]
-}
-
-// Bytes 64 to 67: whether each timer is armed, and a spare byte.
-fn marks(timer: Timer, armed: bool, cancel: Timer) -> [u8; 4]
-    ensures { result ≡ mark_bytes timer armed cancel }
-{
-    let first = words::mark(is_armed(timer));
-    let second = words::mark(armed);
-    let third = words::mark(is_armed(cancel));
-    [first, second, third, 0]
-}
-
-// Bytes 56 to 95: the ticket of CANCEL, the marks, the cancel number, spare bytes.
-fn back(timer: Timer, armed: bool, cancel: Timer, cancels: u32) -> [u8; 40]
-    ensures { result ≡ record_back timer armed cancel cancels }
-{
-    let ticket = split64(timer_ticket(cancel));
-    let marks = marks(timer, armed, cancel);
-    let number = words::split32(cancels);
-    let mut bytes = [0u8; 40];
-    words::put(&mut bytes, 0, &ticket);
-    words::put(&mut bytes, 8, &marks);
-    words::put(&mut bytes, 12, &number);
     bytes
 }
 
-// Lays the first five parts down, each where it fits.
-fn lay_front(
-    front: [u8; 16],
-    numbers: [u8; 16],
-    tickets: [u8; 8],
-    first: [u8; 8],
-    second: [u8; 8],
-    out: &mut [u8],
-)
-    ensures { out.new
-        ≡ placed 48 second (placed 40 first (placed 32 tickets (placed 16 numbers (placed 0 front out.old)))) }
+// Bytes 0 to 15.
+fn front(f: &Fields) -> [u8; 16]
+    ensures { result ≡ record_front f.now.state f.now.count f.now.extra f.now.call f.now.outgoing f.now.incoming.last }
 {
-    words::put(out, 0, &front);
-    words::put(out, 16, &numbers);
-    words::put(out, 32, &tickets);
-    words::put(out, 40, &first);
-    words::put(out, 48, &second);
+    let mut bytes = [0; 16];
+    bytes[..4].copy_from_slice(&[f.state, u8::from(f.call.idempotent), f.count, f.extra]);
+    bytes[4..6].copy_from_slice(&f.outgoing.count.to_le_bytes());
+    bytes[6..8].copy_from_slice(&f.outgoing.sent.to_le_bytes());
+    bytes[8..10].copy_from_slice(&f.outgoing.acknowledged.to_le_bytes());
+    bytes[10..12].copy_from_slice(&f.incoming.last.unwrap_or(65535).to_le_bytes());
+    bytes[12..14].copy_from_slice(&f.outgoing.serial.to_le_bytes());
+    bytes[14..].copy_from_slice(&f.call.operation.to_le_bytes());
+    bytes
 }
 
-// Lays the other five parts down, each where it fits.
-fn lay_back(
-    back: [u8; 40],
-    activity: [u8; 16],
-    object: [u8; 16],
-    interface: [u8; 16],
-    held: [u8; 128],
-    out: &mut [u8],
-)
-    ensures { out.new
-        ≡ placed 144 held
-        (placed 128 interface (placed 112 object (placed 96 activity (placed 56 back out.old)))) }
+// Bytes 16 to 31.
+fn numbers(f: &Fields) -> [u8; 16]
+    ensures { result ≡ record_numbers f.now.number f.now.call.version f.now.outgoing.length f.now.boot }
 {
-    words::put(out, 56, &back);
-    words::put(out, 96, &activity);
-    words::put(out, 112, &object);
-    words::put(out, 128, &interface);
-    words::put(out, 144, &held);
+    let mut bytes = [0; 16];
+    bytes[..4].copy_from_slice(&f.number.to_le_bytes());
+    bytes[4..8].copy_from_slice(&f.call.version.to_le_bytes());
+    bytes[8..12].copy_from_slice(&f.outgoing.length.to_le_bytes());
+    bytes[12..].copy_from_slice(&f.boot.to_le_bytes());
+    bytes
 }
 
-// Lays ten parts down, one behind the other; where they do not fit, the buffer stays as it was.
-fn lay(
-    front: [u8; 16],
-    numbers: [u8; 16],
-    tickets: [u8; 8],
-    first: [u8; 8],
-    second: [u8; 8],
-    back: [u8; 40],
-    activity: [u8; 16],
-    object: [u8; 16],
-    interface: [u8; 16],
-    held: [u8; 128],
-    out: &mut [u8],
-)
-    ensures { out.new
-        ≡ placed 0 (laid_bytes front numbers tickets first second back activity object interface held)
-        out.old }
+// Bytes 64 to 67: whether each timer is armed, and a spare byte.
+fn marks(f: &Fields) -> [u8; 4]
+    ensures { result ≡ mark_bytes f.now.timer f.now.armed f.now.cancel }
 {
-    if out.len() < SIZE {
-        return;
-    }
-    lay_front(front, numbers, tickets, first, second, out);
-    lay_back(back, activity, object, interface, held, out);
+    [
+        u8::from(f.timer.is_some()),
+        u8::from(f.armed),
+        u8::from(f.cancel.is_some()),
+        0,
+    ]
+}
+
+// Bytes 56 to 95: the ticket of CANCEL, the marks, the cancel number, spare bytes.
+fn back(f: &Fields) -> [u8; 40]
+    ensures { result ≡ record_back f.now.timer f.now.armed f.now.cancel f.now.cancels }
+{
+    let mut bytes = [0; 40];
+    bytes[..8].copy_from_slice(&timer_ticket(f.cancel).to_le_bytes());
+    bytes[8..12].copy_from_slice(&marks(f));
+    bytes[12..16].copy_from_slice(&f.cancels.to_le_bytes());
+    bytes
 }
 
 // Lays the 272 bytes of a record down; where they do not fit, the buffer stays as it was.
 pub fn encode(f: Fields, out: &mut [u8])
     ensures { out.new ≡ placed 0 (field_bytes f) out.old }
 {
-    let call = f.call;
-    let outgoing = f.outgoing;
-    let incoming = f.incoming;
-    let last = incoming.last;
-    let slots = incoming.slots;
-    let timer = f.timer;
-    let cancel = f.cancel;
-    let activity = f.activity;
-    let object = call.object;
-    let interface = call.interface;
-    let front = front(f.state, f.count, f.extra, call, outgoing, last);
-    let numbers = numbers(f.number, call.version, outgoing.length, f.boot);
-    let tickets = split64(f.tickets);
-    let first = split64(timer_ticket(timer));
-    let second = split64(f.word);
-    let back = back(timer, f.armed, cancel, f.cancels);
-    let held = slots_bytes(slots);
-    lay(
-        front, numbers, tickets, first, second, back, activity, object, interface, held, out,
-    );
+    if out.len() < SIZE {
+        return;
+    }
+    words::put(out, 0, &front(&f));
+    words::put(out, 16, &numbers(&f));
+    words::put(out, 32, &f.tickets.to_le_bytes());
+    words::put(out, 40, &timer_ticket(f.timer).to_le_bytes());
+    words::put(out, 48, &f.word.to_le_bytes());
+    words::put(out, 56, &back(&f));
+    words::put(out, 96, &f.activity);
+    words::put(out, 112, &f.call.object);
+    words::put(out, 128, &f.call.interface);
+    words::put(out, 144, &slots_bytes(&f.incoming.slots));
 }

@@ -1,8 +1,9 @@
 -- The server's record in 272 bytes, and back.
-use Rattle.std.specs.Prelude.{ℕ, Bool, true, false, List, get_or, drop, eqb, leb}
+use Rattle.std.specs.Prelude.{ℕ, Bool, true, false, List, get_or, drop, eqb, leb, ltb}
 use Rattle.words.specs.Choice.{choose, both}
 use Rattle.words.specs.Number.{number}
 use Rattle.timers.specs.Timer.{Off}
+use Rattle.record_bytes.specs.declared.Decoded.{Decoded}
 use Rattle.record_bytes.specs.declared.Fields.{Fields}
 use Rattle.record_bytes.specs.Parts.{clear, count_where}
 use Rattle.record_bytes.specs.Layout.{readable as shared_readable, fields_in, field_bytes}
@@ -62,6 +63,15 @@ readable s =
     both (leb (get_or s 0 0) 7)
     (both (both (eqb (get_or s 3 0) 0) (both (both (eqb (get_or s 65 0) 0) (eqb (get_or s 66 0) 0)) (clear 12 (drop 52 s))))
     (shared_readable s))
+
+-- The same by what is decoded of bytes.
+unfoldable pub readable_by : Decoded → Bool
+readable_by d =
+    both (leb d.fields.state 7)
+    (both
+    (both (eqb d.fields.extra 0)
+    (both (both (eqb d.second 0) (eqb d.third 0)) (both (ltb d.fields.word 4294967296) (eqb d.ticket 0))))
+    d.readable)
 
 -- The record of what stands in bytes, and of the status at 48.
 unfoldable pub server_of : Bool → ℕ → Fields → Server

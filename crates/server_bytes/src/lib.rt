@@ -1,80 +1,43 @@
 // The server's record in 272 bytes, and back.
-#![tactic(auto)]
+#![tactic(auto, unfolding(crate::specs::Layout::state_of, crate::specs::Layout::readable_by, crate::specs::Layout::server_of, crate::specs::Layout::fields_of, crate::specs::Layout::bytes_of_server, words::specs::Choice::choose, words::specs::Choice::both))]
 
 ghost use Rattle.std.specs.Prelude.{◌≡◌};
 ghost use Rattle.words.specs.Place.{placed};
-ghost use Rattle.server_bytes.specs.Layout.{state_of, idle_number, held_number, state_number, held_status, status_of, server_of, server_in, fields_of, bytes_of_server};
+ghost use Rattle.server_bytes.specs.Layout.{state_of, state_number, status_of, readable_by, server_of, server_in, fields_of, bytes_of_server};
 
-use record_bytes::Fields;
+use record_bytes::{Decoded, Fields};
 use server::{Idle, Reply, Server, State};
-use timers::Timer;
 
 // The state that a number stands for, with the status of a fault; one above 7 stands for none, and
 // counts as IDLE fresh.
 fn state_of(number: u8, status: u32) -> State
     ensures { result ≡ state_of number status }
 {
-    if number == 1 {
-        return State::Idle(Idle::Spent);
-    }
-    if number == 2 {
-        return State::Idle(Idle::Repeatable);
-    }
-    if number == 3 {
-        return State::Collect;
-    }
-    if number == 4 {
-        return State::Running;
-    }
-    if number == 5 {
-        return State::Replying;
-    }
-    if number == 6 {
-        return State::Held(Reply::Data);
-    }
-    if number == 7 {
-        return State::Held(Reply::Fault(status));
-    }
-    State::Idle(Idle::Fresh)
-}
-
-fn idle_number(idle: Idle) -> u8
-    ensures { result ≡ idle_number idle }
-{
-    match idle {
-        Idle::Fresh => 0,
-        Idle::Spent => 1,
-        Idle::Repeatable => 2,
+    match number {
+        1 => State::Idle(Idle::Spent),
+        2 => State::Idle(Idle::Repeatable),
+        3 => State::Collect,
+        4 => State::Running,
+        5 => State::Replying,
+        6 => State::Held(Reply::Data),
+        7 => State::Held(Reply::Fault(status)),
+        _ => State::Idle(Idle::Fresh),
     }
 }
 
-fn held_number(reply: Reply) -> u8
-    ensures { result ≡ held_number reply }
-{
-    match reply {
-        Reply::Data => 6,
-        Reply::Fault(_) => 7,
-    }
-}
-
+// The number of a state.
 fn state_number(state: State) -> u8
     ensures { result ≡ state_number state }
 {
     match state {
-        State::Idle(idle) => idle_number(idle),
+        State::Idle(Idle::Fresh) => 0,
+        State::Idle(Idle::Spent) => 1,
+        State::Idle(Idle::Repeatable) => 2,
         State::Collect => 3,
         State::Running => 4,
         State::Replying => 5,
-        State::Held(reply) => held_number(reply),
-    }
-}
-
-fn held_status(reply: Reply) -> u32
-    ensures { result ≡ held_status reply }
-{
-    match reply {
-        Reply::Data => 0,
-        Reply::Fault(status) => status,
+        State::Held(Reply::Data) => 6,
+        State::Held(Reply::Fault(_)) => 7,
     }
 }
 
@@ -83,11 +46,8 @@ fn status_of(state: State) -> u32
     ensures { result ≡ status_of state }
 {
     match state {
-        State::Idle(idle) => 0,
-        State::Collect => 0,
-        State::Running => 0,
-        State::Replying => 0,
-        State::Held(reply) => held_status(reply),
+        State::Held(Reply::Fault(status)) => status,
+        _ => 0,
     }
 }
 
@@ -96,24 +56,33 @@ fn server_of(readable: bool, status: u32, f: Fields) -> Server
     ensures { result ≡ server_of readable status f }
 {
     let activity = f.activity;
-    let call = f.call;
-    let outgoing = f.outgoing;
-    let incoming = f.incoming;
-    let resend = f.timer;
-    let state = state_of(f.state, status);
     Server {
-        state,
+        state: state_of(f.state, status),
         activity,
         boot: f.boot,
         number: f.number,
-        call,
-        outgoing,
-        incoming,
+        call: f.call,
+        outgoing: f.outgoing,
+        incoming: f.incoming,
         resends: record_bytes::count_where(readable, f.count),
         seen: f.cancels,
         tickets: f.tickets,
-        resend,
+        resend: f.timer,
     }
+}
+
+// Whether bytes are readable, by what is decoded of them: a state that is listed, nothing that only a
+// client has, and what both sides ask.
+fn is_readable(d: &Decoded) -> bool
+    ensures { result ≡ readable_by d.now }
+{
+    d.fields.state <= 7
+        && d.fields.extra == 0
+        && d.second == 0
+        && d.third == 0
+        && d.fields.word < 4294967296
+        && d.ticket == 0
+        && d.readable
 }
 
 // The record in 272 bytes; one that breaks its rules where they are not readable.
@@ -121,39 +90,29 @@ pub fn decode(s: &[u8]) -> Server
     ensures { result ≡ server_in s.now }
 {
     let d = record_bytes::decode(s);
-    let f = d.fields;
-    // Readable: a state that is listed, nothing that only a client has, and what both sides ask.
-    let unarmed = words::both(d.second == 0, d.third == 0);
-    let high = words::both(f.word < 4294967296, d.ticket == 0);
-    let spares = words::both(f.extra == 0, words::both(unarmed, high));
-    let readable = words::both(f.state <= 7, words::both(spares, d.readable));
-    server_of(readable, (f.word % 4294967296) as u32, f)
+    let status = (d.fields.word % 4294967296) as u32;
+    server_of(is_readable(&d), status, d.fields)
 }
 
 // What the bytes of a record hold.
 fn fields_of(s: Server) -> Fields
     ensures { result ≡ fields_of s }
 {
-    let state = s.state;
     let activity = s.activity;
-    let call = s.call;
-    let outgoing = s.outgoing;
-    let incoming = s.incoming;
-    let timer = s.resend;
     Fields {
-        state: state_number(state),
+        state: state_number(s.state),
         count: s.resends,
         extra: 0,
         activity,
         number: s.number,
         boot: s.boot,
-        call,
-        outgoing,
-        incoming,
+        call: s.call,
+        outgoing: s.outgoing,
+        incoming: s.incoming,
         tickets: s.tickets,
-        timer,
+        timer: s.resend,
         armed: false,
-        word: status_of(state) as u64,
+        word: u64::from(status_of(s.state)),
         cancel: None,
         cancels: s.seen,
     }

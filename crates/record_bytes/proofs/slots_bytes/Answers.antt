@@ -12,17 +12,16 @@ use Rattle.record_bytes.proofs.HeldLaws.{length-slots, bytes_more, placed-nothin
 use Rattle.record_bytes.proofs.slots_bytes.Goals as goal
 
 pub loop-f-init : goal.loop-f-init
-loop-f-init c = (omega arith, search rules, refl, placed-nothing (replicate 128 0))
+loop-f-init c = (refl, placed-nothing (replicate 128 0))
 
 pub loop-f-preserved : goal.loop-f-preserved
 loop-f-preserved c =
     let l = c.loop-f in
-    let slots = c.args.slots in
-    (omega arith, l.invariant.1, search rules, bytes_more slots l.f _ l.bytes _ _ (replicate 128 0) (omega arith) (omega arith) l.invariant.3 c.slot_bytes-four.ensures c.put.ensures)
+    (search rules, bytes_more c.args.slots.now l.f _ l.bytes _ _ (replicate 128 0) (omega arith) (omega arith) l.invariant.1 c.slot_bytes.ensures c.put.ensures)
 
 pub returns : goal.returns
 returns c =
     let l = c.loop-f in
-    let slots = c.args.slots in
+    let slots = c.args.slots.now in
     let all : take l.f slots ≡ slots = take_all l.f slots (omega arith) in
-    l.invariant.3 ∙ ap (λ (xs : List Slot). placed 0 (slots_bytes xs) (replicate 128 0)) all ∙ placed_all (slots_bytes slots) (replicate 128 0) (omega (arith, length-slots slots))
+    l.invariant.1 ∙ ap (λ (xs : List Slot). placed 0 (slots_bytes xs) (replicate 128 0)) all ∙ placed_all (slots_bytes slots) (replicate 128 0) (omega (arith, length-slots slots))

@@ -4,27 +4,16 @@ use mathlib.Core.Bool.{Bool, true, false}
 use mathlib.Core.List.{List}
 use mathlib.Core.Path.{◌≡◌, refl, sym, ap, ◌∙◌}
 use native.Mathlib.Omega.{arith}
-use lib.Dec.{eqb, leb, ltb}
+use lib.Dec.{eqb, ltb}
 use lib.ListN.{get_or, drop}
 use borrow.Author.Tests.{eqb-true, eqb-false, lt-ltb, le-ltb}
-use Rattle.words.specs.Choice.{both}
 use Rattle.words.specs.Number.{number}
 use Rattle.record_bytes.specs.declared.Decoded.{Decoded}
 use Rattle.record_bytes.specs.Parts.{clear}
 use Rattle.record_bytes.specs.Layout.{fields_in, decoded_in}
-use Rattle.record_bytes.proofs.NumberLaws.{number_four, number_halves, clear-number, clear_joined}
-use Rattle.server_bytes.specs.Layout.{readable, server_of, server_in}
+use Rattle.record_bytes.proofs.NumberLaws.{number_four, number_halves, clear_number, clear_joined}
+use Rattle.server_bytes.specs.Layout.{readable, readable_by, server_of, server_in}
 use Rattle.server_bytes.proofs.decode.Goals as goal
-
--- Whether bytes are readable, by what is decoded of them.
-abbrev readable_by : Decoded → Bool
-readable_by d =
-    both (leb d.fields.state 7)
-    (both
-    (both (eqb d.fields.extra 0)
-    (both (both (eqb d.second 0) (eqb d.third 0))
-    (both (ltb d.fields.word 4294967296) (eqb d.ticket 0))))
-    d.readable)
 
 module _ (s : List ℕ) (octets : (i : ℕ) → get_or s i 0 < 256) where
   halves : number 8 true s 48 ≡ number 4 true s 48 + 4294967296 * number 4 true s 52
@@ -39,7 +28,7 @@ module _ (s : List ℕ) (octets : (i : ℕ) → get_or s i 0 < 256) where
 
   -- whose high half is 0 where the word is small.
   high_clear : ltb (number 8 true s 48) 4294967296 ≡ clear 4 (drop 52 s)
-  high_clear = by_test (eqb (number 4 true s 52) 0) refl ∙ sym (clear-number 4 s 52)
+  high_clear = by_test (eqb (number 4 true s 52) 0) refl ∙ sym (clear_number 4 s 52)
     where
       by_test : (test : Bool) → eqb (number 4 true s 52) 0 ≡ test → ltb (number 8 true s 48) 4294967296 ≡ test
       by_test true e =
@@ -50,8 +39,8 @@ module _ (s : List ℕ) (octets : (i : ℕ) → get_or s i 0 < 256) where
 
   -- So what is decoded tells whether bytes are readable,
   decoded-readable : readable_by (decoded_in s) ≡ readable s
-  unfolding readable decoded_in fields_in
-  decoded-readable = rw (high_clear, ← clear-number 8 s 56, ← clear_joined 4 8 s 52)
+  unfolding readable readable_by decoded_in fields_in
+  decoded-readable = rw (high_clear, ← clear_number 8 s 56, ← clear_joined 4 8 s 52)
 
   -- and the record.
   by_decoded : (d : Decoded) → d ≡ decoded_in s
@@ -66,12 +55,4 @@ returns c =
     let s = c.args.s.now in
     let octets : (i : ℕ) → get_or s i 0 < 256 =
     λ (i : ℕ). omega (arith, c.type_inv.s i) in
-    rw (
-      c.server_of.ensures,
-      c.both-readable.ensures,
-      c.both-2.ensures,
-      c.both-spares.ensures,
-      c.both.ensures,
-      c.both-high.ensures,
-      c.both-unarmed.ensures,
-    ) (by_decoded s octets _ c.decode-d.ensures)
+    rw (c.server_of.ensures, c.is_readable.ensures) (by_decoded s octets _ c.decode-d.ensures)

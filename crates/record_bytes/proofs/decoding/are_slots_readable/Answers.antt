@@ -1,32 +1,17 @@
--- `record_bytes::decoding::are_slots_readable` meets its contract. Before each turn it is known whether the slots below
--- f are readable.
-use Prim.Native.Nat.{ℕ, ◌<◌}
-use lib.Dec.{ltb}
-use lib.ListN.{get_or}
-use mathlib.Core.Path.{◌≡◌, refl, ap, ◌∙◌}
-use native.Mathlib.Omega.{arith}
-use Rattle.words.specs.Sizes.{window_size}
-use Rattle.record_bytes.specs.Held.{readable_below, slots_readable}
-use Rattle.record_bytes.proofs.HeldLaws.{readable_more}
-use Rattle.record_bytes.proofs.decoding.WordLaws.{word_readable}
+-- `record_bytes::decoding::are_slots_readable` meets its contract.
+use mathlib.Core.Path.{refl, ◌∙◌}
+use borrow.Author.Rules.{rules}
+use borrow.Author.Tests.{tests}
+use lib.ListN.{drop}
+use Rattle.std.proofs.lemmas.Iterator.{YieldsList-from_range}
+use Rattle.std.proofs.lemmas.Iterator.Search.{all_from_yields_List}
+use Rattle.record_bytes.specs.Held.{slot_readable}
+use Rattle.record_bytes.proofs.HeldLaws.{readable_each}
 use Rattle.record_bytes.proofs.decoding.are_slots_readable.Goals as goal
 
-pub loop-f-init : goal.loop-f-init
-unfolding readable_below
-loop-f-init c = (omega arith, refl)
-
-pub loop-f-preserved : goal.loop-f-preserved
-loop-f-preserved c =
-    let l = c.loop-f in
-    let s = c.args.s.now in
-    let octets : (i : ℕ) → get_or s i 0 < 256 =
-    λ (i : ℕ). omega (arith, c.type_inv.s i) in
-    let here = ap (λ (n : ℕ). ltb n 131072) c.number32-word.ensures ∙ word_readable s octets l.f in
-    (omega arith, readable_more s l.f _ l.all _ l.invariant.1 here c.both-all.ensures)
-
 pub returns : goal.returns
-unfolding slots_readable
 returns c =
-    let l = c.loop-f in
-    let end : l.f ≡ window_size = omega arith in
-    l.invariant.1 ∙ ap (λ (k : ℕ). readable_below c.args.s.now k) end
+    let s = drop 144 c.args.s.now in
+    all_from_yields_List (slot_readable s) _ _ _ c.all.ensures.ran
+    (YieldsList-from_range 0 32 32 refl refl) (λ x b q k. search (rules, tests))
+    ∙ readable_each s

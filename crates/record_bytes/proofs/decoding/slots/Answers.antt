@@ -1,33 +1,13 @@
--- `record_bytes::decoding::slots` meets its contract. Before each turn the slots below f are as they stand in s.
-use Prim.Native.Nat.{ℕ, ◌/◌, ◌%◌, ◌<◌}
-use lib.ListN.{get_or, length-set}
-use mathlib.Core.Path.{◌≡◌, refl, ap, ◌∙◌}
-use native.Mathlib.Omega.{arith}
+-- `record_bytes::decoding::slots` meets its contract.
+use Prim.Native.Nat.{ℕ, ◌<◌}
+use borrow.Author.Rules.{rules}
+use lib.ListN.{drop}
 use Rattle.words.specs.Sizes.{window_size}
-use Rattle.record_bytes.specs.Held.{slot_of, slots_below, slots_in}
-use Rattle.record_bytes.proofs.HeldLaws.{slots_more}
-use Rattle.record_bytes.proofs.decoding.WordLaws.{word_slot}
+use Rattle.incoming.specs.Slots.{missing}
+use Rattle.record_bytes.proofs.HeldLaws.{slots_each}
 use Rattle.record_bytes.proofs.decoding.slots.Goals as goal
 
-pub loop-f-init : goal.loop-f-init
-unfolding slots_below
-loop-f-init c = (omega arith, refl, refl)
-
-pub loop-f-preserved : goal.loop-f-preserved
-loop-f-preserved c =
-    let l = c.loop-f in
-    let s = c.args.s.now in
-    let octets : (i : ℕ) → get_or s i 0 < 256 =
-    λ (i : ℕ). omega (arith, c.type_inv.s i) in
-    let here =
-    c.slot.ensures
-    ∙ ap (λ (n : ℕ). slot_of (n / 65536 % 256) (n % 65536)) c.number32.ensures
-    ∙ word_slot s octets l.f in
-    (omega arith, simp length-set l.invariant.1, slots_more s l.f l.all _ l.invariant.2 here)
-
 pub returns : goal.returns
-unfolding slots_in
 returns c =
-    let l = c.loop-f in
-    let end : l.f ≡ window_size = omega arith in
-    l.invariant.2 ∙ ap (λ (n : ℕ). slots_below c.args.s.now n) end
+    slots_each (drop 144 c.args.s.now) c.from_fn.result c.from_fn.ensures.items.long
+    (λ (f : ℕ) (h : f < window_size). search (rules, (c.from_fn.ensures.items.at f missing h).2))
