@@ -1,6 +1,6 @@
 // The server's judgement of each event: the first refusal of document 01's table that it meets, or its row with all
 // that the step needs. Nothing is written here.
-#![tactic(auto, unfolding(answers::specs::Table::first_of, crate::specs::judge::Rows::order_by, crate::specs::judge::Rows::order_of, crate::specs::judge::Rows::order_for, crate::specs::judge::Rows::replay_row, crate::specs::judge::Rows::ping_equal, crate::specs::judge::Rows::ping_cell, crate::specs::judge::Rows::running_cancel, crate::specs::judge::Rows::cancel_equal, crate::specs::judge::Rows::request_put, crate::specs::judge::Rows::arms, crate::specs::judge::Rows::resend_held, crate::specs::judge::Refusals::reply_refusals, crate::specs::judge::Refusals::reply_verdict, crate::specs::judge::Refusals::transmit_refusals, crate::specs::judge::Refusals::transmit_verdict, crate::specs::judge::Refusals::fault_refusals, crate::specs::judge::Refusals::fault_verdict, crate::specs::judge::Refusals::timer_refusals, crate::specs::judge::Refusals::timer_verdict, crate::specs::judge::Rows::transmit_row, crate::specs::judge::Rows::fault_row, crate::specs::judge::Rows::resend_row, crate::specs::judge::Rows::timer_cell, crate::specs::judge::Rows::is_row, crate::specs::judge::Rows::arms_timer, crate::specs::judge::Refusals::is_maybe_or_broadcast, crate::specs::judge::Refusals::agree, crate::specs::judge::Refusals::same_call, crate::specs::judge::Parts::row_left, crate::specs::judge::Parts::cancel_verdict, crate::specs::judge::Rows::says, crate::specs::judge::Rows::cancel_cell, bodies::specs::Cancel::cancel_result, bodies::specs::Cancel::cancel_reading, answers::specs::Answer::if_done, answers::specs::Number::refusal_number, crate::specs::judge::Parts::ping_verdict, words::specs::Choice::choose, words::specs::Choice::both, words::specs::Choice::either))]
+#![tactic(auto, unfolding(answers::specs::Table::first_of, answers::specs::Answer::if_done, answers::specs::Number::refusal_number, bodies::specs::Cancel::cancel_result, bodies::specs::Cancel::cancel_reading, crate::specs::judge::Rows::order_by, crate::specs::judge::Rows::order_of, crate::specs::judge::Rows::order_for, crate::specs::judge::Rows::replay_row, crate::specs::judge::Rows::ping_equal, crate::specs::judge::Rows::ping_cell, crate::specs::judge::Rows::running_cancel, crate::specs::judge::Rows::cancel_equal, crate::specs::judge::Rows::request_put, crate::specs::judge::Rows::arms, crate::specs::judge::Rows::resend_held, crate::specs::judge::Rows::transmit_row, crate::specs::judge::Rows::fault_row, crate::specs::judge::Rows::resend_row, crate::specs::judge::Rows::timer_cell, crate::specs::judge::Rows::is_row, crate::specs::judge::Rows::arms_timer, crate::specs::judge::Rows::says, crate::specs::judge::Rows::cancel_cell, crate::specs::judge::Refusals::reply_refusals, crate::specs::judge::Refusals::reply_verdict, crate::specs::judge::Refusals::transmit_refusals, crate::specs::judge::Refusals::transmit_verdict, crate::specs::judge::Refusals::fault_refusals, crate::specs::judge::Refusals::fault_verdict, crate::specs::judge::Refusals::timer_refusals, crate::specs::judge::Refusals::timer_verdict, crate::specs::judge::Refusals::is_maybe_or_broadcast, crate::specs::judge::Refusals::agree, crate::specs::judge::Refusals::same_call, crate::specs::judge::Parts::row_left, crate::specs::judge::Parts::cancel_verdict, crate::specs::judge::Parts::ping_verdict, words::specs::Choice::choose, words::specs::Choice::both, words::specs::Choice::either))]
 
 ghost use Rattle.std.specs.Prelude.{◌≡◌, eqb};
 ghost use Rattle.words.specs.Choice.{choose, either};
@@ -412,6 +412,7 @@ fn request_or_ping(s: Server, h: Header, body: &[u8]) -> Verdict
 }
 
 // 10 to 17, of a header and a body that were read, by the type: the server takes 0, 1, 7, 8 and 9.
+// A type stays a number: a header can hold any byte, which `writer::write` refuses with 5 above 10.
 fn pdu(s: Server, read: Received, body: &[u8]) -> Verdict
     ensures { result ≡ pdu_verdict s read.header read.little body.now }
 {
@@ -420,8 +421,7 @@ fn pdu(s: Server, read: Received, body: &[u8]) -> Verdict
         7 => ack(s, read.header),
         8 => cancel(s, read, body),
         9 => fack(s, read, body),
-        2..=6 => Err(Refusal::WrongSide),
-        10..=255 => Err(Refusal::WrongSide),
+        _ => Err(Refusal::WrongSide),
     }
 }
 

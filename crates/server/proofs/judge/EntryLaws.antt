@@ -7,7 +7,7 @@ use Rattle.answers.proofs.DoneLaws.{refused_if_done, accepted_if_done}
 use Rattle.pdu.specs.declared.Header.{Header}
 use Rattle.pdu.specs.Header.{body_of}
 use Rattle.reader.specs.declared.Received.{Received}
-use Rattle.reader.specs.Reading.{Reading, reading, received, read_result}
+use Rattle.reader.specs.Reading.{reading, received, read_result}
 use Rattle.server.specs.declared.records.Server.{Server}
 use Rattle.server.specs.declared.judge.Row.{Row}
 use Rattle.server.specs.judge.Verdict.{Verdict, Refuse, Go}

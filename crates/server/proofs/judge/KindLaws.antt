@@ -7,15 +7,12 @@ use mathlib.Core.List.{List, [], ◌∷◌, ◌++◌}
 use mathlib.Core.Path.{◌≡◌, refl, sym, ap, ◌∙◌}
 use Rattle.words.specs.Choice.{choose, both, either}
 use Rattle.words.specs.Same.{same}
-use Rattle.answers.specs.declared.Refusal.TheVariants.{WrongLength, BrokenRecord, OtherActivity, WrongSide, MaybeOrBroadcast, WrongFragment, OldCall, MalformedBody, NoRow, Repeated, Contradiction}
+use Rattle.answers.specs.declared.Refusal.TheVariants.{WrongLength, BrokenRecord, OtherActivity, WrongSide, OldCall, MalformedBody, NoRow, Repeated, Contradiction}
 use Rattle.answers.specs.Table.{Line, ◌when◌, first_of, answer_of, behind_answer}
 use Rattle.answers.proofs.TableLaws.{joined, by_answer}
-use Rattle.bodies.specs.Fack.{fack_malformed}
-use Rattle.bodies.specs.Cancel.{cancel_malformed, cancel_number_in}
-use Rattle.facks.specs.Mask.{acknowledged_by, acknowledges_more}
 use Rattle.flags.specs.Flags.{idempotent, has_flag}
-use Rattle.fragments.specs.Fragment.{lent_right, is_last, wrong_fragment}
-use Rattle.fragments.specs.Judgement.{held, contradicts}
+use Rattle.fragments.specs.Fragment.{lent_right, is_last}
+use Rattle.fragments.specs.Judgement.{held}
 use Rattle.fragments.proofs.PutLaws.{cleared-missing, cleared-agrees}
 use Rattle.incoming.specs.Slots.{cleared}
 use Rattle.pdu.specs.declared.Header.{Header}
@@ -29,12 +26,12 @@ use Rattle.server.specs.declared.records.State.TheVariants.{Idle as IdleState, C
 use Rattle.server.specs.declared.records.Server.{Server}
 use Rattle.server.specs.declared.judge.Order.{Order}
 use Rattle.server.specs.declared.judge.Order.TheVariants.{Below, Equal, Newer}
-use Rattle.server.specs.declared.judge.Row.TheVariants.{Begin, Put, Working, Acknowledge}
+use Rattle.server.specs.declared.judge.Row.TheVariants.{Begin, Put, Working}
 use Rattle.server.specs.judge.Verdict.{Verdict, Refuse, Go}
 use Rattle.server.specs.records.States.{is_running, is_replying, is_held}
 use Rattle.server.specs.records.Rules.{sound}
 use Rattle.server.specs.judge.Rows.{is_for_server, says, order_for, replay_row, request_newer, request_again, request_idle, request_equal, request_cell, ping_equal, ping_cell, where_replied, acknowledgement_cell, ack_cell, cancel_equal, cancel_cell, request_put, arrival_cell}
-use Rattle.server.specs.judge.Refusals.{is_request, is_maybe_or_broadcast, is_malformed, puts, slots_for, is_held_already, same_call, is_other_call, is_contradiction, pdu_refusals, pdu_verdict, activity_verdict, arrival_refusals, arrival_verdict}
+use Rattle.server.specs.judge.Refusals.{is_request, is_malformed, puts, slots_for, is_held_already, same_call, is_other_call, is_contradiction, pdu_refusals, pdu_verdict, activity_verdict, arrival_refusals, arrival_verdict}
 use Rattle.server.specs.judge.Parts.{row_left, request_left, request_verdict, ping_verdict, ack_verdict, cancel_verdict, fack_verdict, contradicts_call, entry_answer, read_verdict}
 
 -- A number below the server's.

@@ -1,7 +1,6 @@
 -- `server::judge::pdu` meets its contract: each arm knows the range of its numbers.
 use Prim.Native.Nat.{ℕ, ◌<◌}
 use mathlib.Core.Bool.{false}
-use mathlib.Core.Logic.{◌⊎◌, inl, inr}
 use mathlib.Core.Path.{◌≡◌, refl, sym, ◌∙◌}
 use native.Mathlib.Omega.{arith}
 use borrow.Author.Tests.{ne_eqb}
@@ -11,23 +10,15 @@ use Rattle.server.proofs.judge.KindLaws.{called_lines, ack_lines, cancel_lines, 
 use Rattle.server.proofs.judge.pdu.Goals as goal
 
 -- No number but these is the server's.
-outside : (kind : ℕ) → ((1 < kind) × (kind < 7)) ⊎ (9 < kind) → is_for_server kind ≡ false
+outside : (kind : ℕ) → 1 < kind → (kind ≡ 7 → ⊥) → (kind ≡ 8 → ⊥) → (kind ≡ 9 → ⊥) → is_for_server kind ≡ false
 unfolding is_for_server either
-outside kind (inl middle) =
+outside kind above no-ack no-cancel no-fack =
     rw (
       ne_eqb kind 0 (λ e. omega arith),
       ne_eqb kind 1 (λ e. omega arith),
-      ne_eqb kind 7 (λ e. omega arith),
-      ne_eqb kind 8 (λ e. omega arith),
-      ne_eqb kind 9 (λ e. omega arith),
-    ) (unfold choose in refl)
-outside kind (inr high) =
-    rw (
-      ne_eqb kind 0 (λ e. omega arith),
-      ne_eqb kind 1 (λ e. omega arith),
-      ne_eqb kind 7 (λ e. omega arith),
-      ne_eqb kind 8 (λ e. omega arith),
-      ne_eqb kind 9 (λ e. omega arith),
+      ne_eqb kind 7 no-ack,
+      ne_eqb kind 8 no-cancel,
+      ne_eqb kind 9 no-fack,
     ) (unfold choose in refl)
 
 pub returns-in-0-to-1 : goal.returns-in-0-to-1
@@ -42,8 +33,6 @@ returns-in-8 c = c.cancel.ensures ∙ sym (cancel_lines _ _ _ _ c.in-8.is)
 pub returns-in-9 : goal.returns-in-9
 returns-in-9 c = c.fack.ensures ∙ sym (fack_lines _ _ _ _ c.in-9.is)
 
-pub returns-in-2-to-6 : goal.returns-in-2-to-6
-returns-in-2-to-6 c = sym (foreign_lines _ _ _ _ (outside _ (inl (omega arith, omega arith))))
-
-pub returns-in-10-to-255 : goal.returns-in-10-to-255
-returns-in-10-to-255 c = sym (foreign_lines _ _ _ _ (outside _ (inr (omega arith))))
+pub returns-in_default : goal.returns-in_default
+returns-in_default c =
+    sym (foreign_lines _ _ _ _ (outside _ (omega arith) (λ e. omega arith) (λ e. omega arith) (λ e. omega arith)))
