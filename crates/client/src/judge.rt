@@ -14,6 +14,7 @@ use crate::records;
 use crate::records::{Client, TimerKind};
 use answers::Refusal;
 use fragments::Fragment;
+use pdu::Kind;
 use reader::Received;
 use timers::Timer;
 use words::{MESSAGE_SIZE, PDU_SIZE, RETRY_LIMIT};
@@ -236,7 +237,7 @@ fn failure(c: Client, read: Received, body: &[u8]) -> Verdict
     if !records::is_active(c.state) {
         return Err(Refusal::NoRow);
     }
-    if read.header.kind == 3 {
+    if read.header.kind == u8::from(Kind::Fault) {
         Ok(Row::Fault(status))
     } else {
         Ok(Row::Reject(status))
@@ -330,13 +331,13 @@ fn cancel_ack(c: Client, read: Received, body: &[u8]) -> Verdict
 fn pdu(c: Client, read: Received, body: &[u8]) -> Verdict
     ensures { result ≡ pdu_verdict c read.header read.little body.now }
 {
-    match read.header.kind {
-        2 => response(c, read, body),
-        3 | 6 => failure(c, read, body),
-        4 => working(c, read, body),
-        5 => nocall(c, read, body),
-        9 => fack(c, read, body),
-        10 => cancel_ack(c, read, body),
+    match Kind::try_from(read.header.kind) {
+        Ok(Kind::Response) => response(c, read, body),
+        Ok(Kind::Fault | Kind::Reject) => failure(c, read, body),
+        Ok(Kind::Working) => working(c, read, body),
+        Ok(Kind::Nocall) => nocall(c, read, body),
+        Ok(Kind::Fack) => fack(c, read, body),
+        Ok(Kind::CancelAck) => cancel_ack(c, read, body),
         _ => Err(Refusal::WrongSide),
     }
 }
