@@ -10,16 +10,11 @@ overflow_cast-body c =
     let a = c.args in
     omega (arith, writable_here a.h a.body.now a.out.now a.out.now _ c.judge.ensures c.in-Done.is)
 
-pub put_header-requires : goal.put_header-requires
-put_header-requires c =
-    let a = c.args in
-    omega (arith, writable_here a.h a.body.now a.out.now a.out.now _ c.judge.ensures c.in-Done.is)
-
 pub returns-in-Done : goal.returns-in-Done
 returns-in-Done c =
     let a = c.args in
     write_accepted a.h a.body.now a.out.now _ _ c.judge.ensures c.in-Done.is (record { object = search rules; interface = search rules; activity = search rules })
-    (rw (c.put.ensures, c.put_header.ensures))
+    (rw (c.put.ensures, c.write_header.ensures))
 
 pub returns-in-Refused : goal.returns-in-Refused
 returns-in-Refused c =
