@@ -25,8 +25,8 @@ pub fn is_lent_right(slots: usize, out: usize) -> bool
 pub fn is_last(flags1: u8) -> bool
     ensures { result ≡ is_last flags1 }
 {
-    let last = flags::is_last(flags1);
-    let part = flags::is_fragment(flags1);
+    let last = flags::has(flags1, flags::LAST_FRAGMENT);
+    let part = flags::has(flags1, flags::FRAGMENT);
     words::either(last, !part)
 }
 
@@ -34,8 +34,8 @@ pub fn is_last(flags1: u8) -> bool
 fn wants_fack(flags1: u8) -> bool
     ensures { result ≡ wants_fack flags1 }
 {
-    let unwanted = flags::has_no_fack(flags1);
-    let part = flags::is_fragment(flags1);
+    let unwanted = flags::has(flags1, flags::NO_FACK);
+    let part = flags::has(flags1, flags::FRAGMENT);
     words::both(!unwanted, part)
 }
 
@@ -43,7 +43,7 @@ fn wants_fack(flags1: u8) -> bool
 pub fn is_wrong(flags1: u8, number: u16) -> bool
     ensures { result ≡ wrong_fragment flags1 number }
 {
-    let part = flags::is_fragment(flags1);
+    let part = flags::has(flags1, flags::FRAGMENT);
     let alone = words::both(!part, number != 0);
     words::either(LAST_NUMBER < number, alone)
 }

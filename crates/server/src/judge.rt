@@ -201,8 +201,8 @@ fn replay_row(reply: Reply) -> Row
 fn is_maybe_or_broadcast(flags1: u8) -> bool
     ensures { result ≡ is_maybe_or_broadcast flags1 }
 {
-    let maybe = flags::is_maybe(flags1);
-    let broadcast = flags::is_broadcast(flags1);
+    let maybe = flags::has(flags1, flags::MAYBE);
+    let broadcast = flags::has(flags1, flags::BROADCAST);
     words::either(maybe, broadcast)
 }
 
@@ -224,7 +224,7 @@ fn is_same_call(call: Call, h: Header) -> bool
     let their_object = h.object;
     let my_interface = call.interface;
     let their_interface = h.interface;
-    let bit = flags::is_idempotent(h.flags1);
+    let bit = flags::has(h.flags1, flags::IDEMPOTENT);
     if !agrees(call.idempotent, bit) {
         return false;
     }
@@ -279,7 +279,7 @@ fn request_idle(idle: Idle, s: Server, h: Header, little: bool, body: &[u8]) -> 
     let Idle::Repeatable = idle else {
         return Verdict::Refuse(Refusal::OldCall);
     };
-    if !flags::is_idempotent(h.flags1) {
+    if !flags::has(h.flags1, flags::IDEMPOTENT) {
         return Verdict::Refuse(Refusal::OldCall);
     }
     if !is_same_call(call, h) {

@@ -117,7 +117,7 @@ fn call_of(h: Header) -> Call
     let object = h.object;
     let interface = h.interface;
     Call {
-        idempotent: flags::is_idempotent(h.flags1),
+        idempotent: flags::has(h.flags1, flags::IDEMPOTENT),
         object,
         interface,
         version: h.version,

@@ -4,4 +4,4 @@ use Rattle.fragments.proofs.is_last.Goals as goal
 
 pub returns : goal.returns
 unfolding is_last
-returns c = rw (c.either.ensures, c.is_fragment-part.ensures, c.is_last-last.ensures)
+returns c = rw (c.either.ensures, c.has-part.ensures, c.has-last.ensures)

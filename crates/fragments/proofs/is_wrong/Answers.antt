@@ -4,4 +4,4 @@ use Rattle.fragments.proofs.is_wrong.Goals as goal
 
 pub returns : goal.returns
 unfolding wrong_fragment
-returns c = rw (c.either.ensures, c.both-alone.ensures, c.is_fragment-part.ensures)
+returns c = rw (c.either.ensures, c.both-alone.ensures, c.has-part.ensures)

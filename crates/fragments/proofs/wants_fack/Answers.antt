@@ -4,4 +4,4 @@ use Rattle.fragments.proofs.wants_fack.Goals as goal
 
 pub returns : goal.returns
 unfolding wants_fack
-returns c = rw (c.both.ensures, c.is_fragment-part.ensures, c.has_no_fack-unwanted.ensures)
+returns c = rw (c.both.ensures, c.has-part.ensures, c.has-unwanted.ensures)

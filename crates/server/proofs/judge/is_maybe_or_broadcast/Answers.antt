@@ -5,4 +5,4 @@ use Rattle.server.proofs.judge.is_maybe_or_broadcast.Goals as goal
 pub returns : goal.returns
 unfolding is_maybe_or_broadcast
 returns c =
-    rw (c.either.ensures, c.is_broadcast-broadcast.ensures, c.is_maybe-maybe.ensures)
+    rw (c.either.ensures, c.has-broadcast.ensures, c.has-maybe.ensures)

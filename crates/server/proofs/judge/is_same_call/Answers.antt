@@ -9,7 +9,7 @@ pub returns-then-not-agrees : goal.returns-then-not-agrees
 unfolding same_call both
 returns-then-not-agrees c =
     rw (
-      ← c.is_idempotent-bit.ensures,
+      ← c.has-bit.ensures,
       ← c.agrees.ensures,
     ) (search (tests, not-true, not-false))
 
@@ -17,7 +17,7 @@ pub returns-then-not-same_uuid : goal.returns-then-not-same_uuid
 unfolding same_call both
 returns-then-not-same_uuid c =
     rw (
-      ← c.is_idempotent-bit.ensures,
+      ← c.has-bit.ensures,
       ← c.agrees.ensures,
       ← c.same_uuid.ensures,
     ) (search (tests, not-true, not-false))
@@ -26,7 +26,7 @@ pub returns-then-not-same_uuid-2 : goal.returns-then-not-same_uuid-2
 unfolding same_call both
 returns-then-not-same_uuid-2 c =
     rw (
-      ← c.is_idempotent-bit.ensures,
+      ← c.has-bit.ensures,
       ← c.agrees.ensures,
       ← c.same_uuid.ensures,
       ← c.same_uuid-2.ensures,
@@ -36,7 +36,7 @@ pub returns : goal.returns
 unfolding same_call both
 returns c =
     rw (
-      ← c.is_idempotent-bit.ensures,
+      ← c.has-bit.ensures,
       ← c.agrees.ensures,
       ← c.same_uuid.ensures,
       ← c.same_uuid-2.ensures,

@@ -6,17 +6,17 @@ use Rattle.server.proofs.judge.ArmLaws.{not_repeatable}
 use Rattle.words.proofs.Tests.{tests}
 use Rattle.server.proofs.judge.request_idle.Goals as goal
 
-pub returns-then-not-is_idempotent : goal.returns-then-not-is_idempotent
-returns-then-not-is_idempotent c =
+pub returns-then-not-has : goal.returns-then-not-has
+returns-then-not-has c =
     let stands = in_state c.requires (ap IdleState c.in-Repeatable.is) in
-    rw (repeatable_lines, ← c.is_idempotent.ensures) (search tests)
+    rw (repeatable_lines, ← c.has.ensures) (search tests)
 
 pub returns-then-not-is_same_call : goal.returns-then-not-is_same_call
 returns-then-not-is_same_call c =
     let stands = in_state c.requires (ap IdleState c.in-Repeatable.is) in
     rw (
       repeatable_lines,
-      ← c.is_idempotent.ensures,
+      ← c.has.ensures,
       ← c.is_same_call.ensures,
     ) (search tests)
 
@@ -25,7 +25,7 @@ returns c =
     let stands = in_state c.requires (ap IdleState c.in-Repeatable.is) in
     rw (
       repeatable_lines,
-      ← c.is_idempotent.ensures,
+      ← c.has.ensures,
       ← c.is_same_call.ensures,
       ← c.empty.ensures,
       ← c.request_put.ensures,

@@ -4,4 +4,4 @@ use Rattle.server.proofs.step.call_of.Goals as goal
 
 pub returns : goal.returns
 unfolding call_of
-returns c = rw c.is_idempotent.ensures
+returns c = rw c.has.ensures
