@@ -4,8 +4,7 @@ use mathlib.Core.Path.{◌≡◌, refl, ap}
 use native.Mathlib.Omega.{arith}
 use Rattle.answers.specs.declared.Refusal.{Refusal}
 use Rattle.answers.specs.declared.Refusal.TheVariants.{WrongLength, BrokenRecord, ShortDatagram, WrongVersion, UnknownType, UnknownRepresentation, Authenticated, WrongBodyLength, OtherActivity, WrongSide, MaybeOrBroadcast, WrongFragment, OldCall, MalformedBody, NoRow, Repeated, Contradiction, LateTimer, NumbersUsedUp, TicketsUsedUp}
-use Rattle.answers.specs.declared.Answer.{Answer}
-use Rattle.answers.specs.declared.Answer.TheVariants.{Done, Refused}
+use Rattle.answers.specs.Answer.{Answer, Done, Refused, Ok}
 use Rattle.answers.specs.Number.{refusal_number, number_of}
 
 -- A refusal's number is 1 to 20,
@@ -39,7 +38,7 @@ refused_not_done r e =
 
 -- and an answer's number is 0 exactly where it is Done.
 pub zero_done : (a : Answer) → number_of a ≡ 0 → a ≡ Done
-zero_done Done e = refl
+zero_done (Ok tt) e = refl
 zero_done (Refused r) e = absurd (omega (arith, refusal_numbered r))
 
 pub done_zero : (a : Answer) → a ≡ Done → number_of a ≡ 0
@@ -47,5 +46,5 @@ done_zero a e = ap number_of e
 
 -- An answer is Done or it is not.
 pub done_or_not : (a : Answer) → Dec (a ≡ Done)
-done_or_not Done = yes refl
+done_or_not (Ok tt) = yes refl
 done_or_not (Refused r) = no (refused_not_done r)

@@ -8,8 +8,7 @@ use borrow.Author.Tests.{ltb-true}
 use Rattle.words.specs.Choice.{choose}
 use Rattle.words.proofs.Tests.{both_true}
 use Rattle.answers.specs.declared.Refusal.{Refusal}
-use Rattle.answers.specs.declared.Answer.{Answer}
-use Rattle.answers.specs.declared.Answer.TheVariants.{Done, Refused}
+use Rattle.answers.specs.Answer.{Answer, Done, Refused, Ok}
 use Rattle.answers.specs.Number.{refusal_number}
 use Rattle.answers.specs.Table.{Line, first_of, answer_of, behind_answer, rises_from}
 use Rattle.answers.proofs.NumberLaws.{refused_not_done}
@@ -151,7 +150,7 @@ lowest {A} refuse answer told table behind rises line stands holds = by_case (an
     least = lowest_decides 0 table rises line stands holds 0
 
     by_case : (a : Answer) → answer_of table ≡ a → RefusedAtMost (answer (first_of refuse table behind)) line.refusal
-    by_case Done e = absurd (true≢false (sym holds ∙ passed_line table (answer_done table e) line stands))
+    by_case (Ok tt) e = absurd (true≢false (sym holds ∙ passed_line table (answer_done table e) line stands))
     by_case (Refused r) e = record {
       refusal = r;
       is = ap answer (by_answer refuse table behind ∙ ap (behind_answer refuse behind) e) ∙ told r;

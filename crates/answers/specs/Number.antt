@@ -2,8 +2,7 @@
 use Rattle.std.specs.Prelude.{ℕ}
 use Rattle.answers.specs.declared.Refusal.{Refusal}
 use Rattle.answers.specs.declared.Refusal.TheVariants.{WrongLength, BrokenRecord, ShortDatagram, WrongVersion, UnknownType, UnknownRepresentation, Authenticated, WrongBodyLength, OtherActivity, WrongSide, MaybeOrBroadcast, WrongFragment, OldCall, MalformedBody, NoRow, Repeated, Contradiction, LateTimer, NumbersUsedUp, TicketsUsedUp}
-use Rattle.answers.specs.declared.Answer.{Answer}
-use Rattle.answers.specs.declared.Answer.TheVariants.{Done, Refused}
+use Rattle.answers.specs.Answer.{Answer, Refused, Ok}
 
 abbrev pub refusal_number : Refusal → ℕ
 refusal_number WrongLength = 1
@@ -28,5 +27,5 @@ refusal_number NumbersUsedUp = 19
 refusal_number TicketsUsedUp = 20
 
 abbrev pub number_of : Answer → ℕ
-number_of Done = 0
+number_of (Ok tt) = 0
 number_of (Refused r) = refusal_number r

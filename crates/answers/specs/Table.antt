@@ -2,8 +2,7 @@
 use Rattle.std.specs.Prelude.{ℕ, Bool, true, List, [], ◌∷◌, ltb}
 use Rattle.words.specs.Choice.{choose, both}
 use Rattle.answers.specs.declared.Refusal.{Refusal}
-use Rattle.answers.specs.declared.Answer.{Answer}
-use Rattle.answers.specs.declared.Answer.TheVariants.{Done, Refused}
+use Rattle.answers.specs.Answer.{Answer, Done, Refused, Ok}
 use Rattle.answers.specs.Number.{refusal_number}
 
 -- A line of a table.
@@ -26,7 +25,7 @@ answer_of table = first_of Refused table Done
 
 -- What an answer leaves of what stands behind it: a refusal refuses.
 unfoldable pub behind_answer : {A : Type 0} → (Refusal → A) → A → Answer → A
-behind_answer refuse behind Done = behind
+behind_answer refuse behind (Ok tt) = behind
 behind_answer refuse behind (Refused r) = refuse r
 
 -- The numbers rise strictly from line to line, and all are above n.

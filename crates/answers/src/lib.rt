@@ -48,11 +48,8 @@ pub enum Refusal {
     TicketsUsedUp = 20,
 }
 
-#[derive(Clone, Copy)]
-pub enum Answer {
-    Done,
-    Refused(Refusal),
-}
+// Done, or refused with why.
+pub type Answer = Result<(), Refusal>;
 
 // The number of a refusal, 1 to 20.
 fn refusal_number(refusal: Refusal) -> u8
@@ -66,7 +63,7 @@ pub fn number(answer: Answer) -> u8
     ensures { result ≡ number_of answer }
 {
     match answer {
-        Answer::Done => 0,
-        Answer::Refused(refusal) => refusal_number(refusal),
+        Ok(()) => 0,
+        Err(refusal) => refusal_number(refusal),
     }
 }

@@ -12,12 +12,9 @@ use Rattle.words.specs.Number.{digits, part, number}
 use Rattle.words.proofs.Number.{value-bytes, digits-part, part_all}
 use Rattle.words.proofs.Tests.{choose_false, either_false}
 use Rattle.answers.specs.declared.Refusal.TheVariants.{MalformedBody}
-use Rattle.answers.specs.declared.Answer.TheVariants.{Done}
+use Rattle.answers.specs.Answer.{Done}
 use Rattle.answers.proofs.NumberLaws.{refused_not_done}
-use Rattle.bodies.specs.declared.CancelReading.{CancelReading}
-use Rattle.bodies.specs.declared.CancelAckReading.{CancelAckReading}
-use Rattle.bodies.specs.Cancel.{cancel_malformed, cancel_reading, cancel_bytes}
-use Rattle.bodies.specs.Cancel.{cancel_ack_malformed, cancel_ack_reading, cancel_ack_bytes}
+use Rattle.bodies.specs.Cancel.{CancelReading, CancelAckReading, cancel_malformed, cancel_reading, cancel_bytes, cancel_ack_malformed, cancel_ack_reading, cancel_ack_bytes}
 use Rattle.bodies.proofs.Returns.{chosen_second}
 
 -- Reading the cancel that was written gives back its number,

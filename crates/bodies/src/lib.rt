@@ -1,13 +1,13 @@
 // The bodies of fack, fault, reject, cancel and cancel_ack.
-#![tactic(auto, unfolding(crate::specs::Fack::fack_malformed, crate::specs::Fack::fack_of, crate::specs::Fack::blank_fack, crate::specs::Fack::fack_reading, crate::specs::Fack::fack_bytes, crate::specs::Status::status_malformed, crate::specs::Status::status_reading, crate::specs::Cancel::cancel_malformed, crate::specs::Cancel::cancel_reading, crate::specs::Cancel::cancel_bytes, crate::specs::Cancel::cancel_ack_malformed, crate::specs::Cancel::cancel_ack_reading, crate::specs::Cancel::cancel_ack_bytes, words::specs::Choice::choose, words::specs::Choice::either, words::specs::Choice::mark_of, words::specs::Place::placed, words::specs::Place::put_at))]
+#![tactic(auto, unfolding(crate::specs::Fack::fack_malformed, crate::specs::Fack::fack_of, crate::specs::Fack::fack_reading, crate::specs::Fack::fack_result, crate::specs::Fack::fack_bytes, crate::specs::Status::status_malformed, crate::specs::Status::status_reading, crate::specs::Status::status_result, crate::specs::Cancel::cancel_malformed, crate::specs::Cancel::cancel_reading, crate::specs::Cancel::cancel_result, crate::specs::Cancel::cancel_bytes, crate::specs::Cancel::cancel_ack_malformed, crate::specs::Cancel::cancel_ack_reading, crate::specs::Cancel::cancel_ack_result, crate::specs::Cancel::acknowledging, crate::specs::Cancel::cancel_ack_bytes, answers::specs::Answer::if_done, words::specs::Choice::choose, words::specs::Choice::either, words::specs::Choice::mark_of, words::specs::Place::placed, words::specs::Place::put_at))]
 
 ghost use Rattle.std.specs.Prelude.{◌≡◌};
-ghost use Rattle.bodies.specs.Fack.{fack_malformed, fack_of, blank_fack, fack_reading, fack_bytes, fack_fields};
-ghost use Rattle.bodies.specs.Status.{status_malformed, status_in, status_reading, status_bytes};
-ghost use Rattle.bodies.specs.Cancel.{cancel_malformed, cancel_number_in, cancel_reading, cancel_bytes};
-ghost use Rattle.bodies.specs.Cancel.{cancel_ack_malformed, cancel_ack_reading, cancel_ack_bytes};
+ghost use Rattle.bodies.specs.Fack.{fack_malformed, fack_of, fack_result, fack_bytes, fack_fields};
+ghost use Rattle.bodies.specs.Status.{status_malformed, status_in, status_result, status_bytes};
+ghost use Rattle.bodies.specs.Cancel.{cancel_malformed, cancel_number_in, cancel_result, cancel_bytes};
+ghost use Rattle.bodies.specs.Cancel.{cancel_ack_malformed, cancel_ack_result, cancel_ack_bytes};
 
-use answers::{Answer, Refusal};
+use answers::Refusal;
 use words::{PDU_SIZE, ReadAt};
 
 // A fack's body, with its first mask.
@@ -22,29 +22,9 @@ pub struct Fack {
     pub mask: u32,
 }
 
-#[derive(Clone, Copy)]
-pub struct FackReading {
-    pub answer: Answer,
-    pub fack: Fack,
-}
-
-#[derive(Clone, Copy)]
-pub struct StatusReading {
-    pub answer: Answer,
-    pub status: u32,
-}
-
-// A cancel's number.
-#[derive(Clone, Copy)]
-pub struct CancelReading {
-    pub answer: Answer,
-    pub number: u32,
-}
-
 // The number of the cancel answered, and whether the server accepts cancels.
 #[derive(Clone, Copy)]
-pub struct CancelAckReading {
-    pub answer: Answer,
+pub struct CancelAck {
     pub number: u32,
     pub accepts: bool,
 }
@@ -73,35 +53,14 @@ fn fack_of(body: &[u8], little: bool) -> Fack
     }
 }
 
-// The fields that stand with a refusal.
-fn no_fack() -> Fack
-    ensures { result ≡ blank_fack }
-{
-    Fack {
-        pad: 0,
-        window: 0,
-        tsdu: 0,
-        size: 0,
-        serial: 0,
-        words: 0,
-        mask: 0,
-    }
-}
-
 // Reads a fack's body in the sender's order.
-pub fn read_fack(body: &[u8], little: bool) -> FackReading
-    ensures { result ≡ fack_reading little body.now }
+pub fn read_fack(body: &[u8], little: bool) -> Result<Fack, Refusal>
+    ensures { result ≡ fack_result little body.now }
 {
     if is_fack_malformed(body, little) {
-        return FackReading {
-            answer: Answer::Refused(Refusal::MalformedBody),
-            fack: no_fack(),
-        };
+        return Err(Refusal::MalformedBody);
     }
-    FackReading {
-        answer: Answer::Done,
-        fack: fack_of(body, little),
-    }
+    Ok(fack_of(body, little))
 }
 
 // The body of a fack as we write it: the serial answered and one mask.
@@ -134,19 +93,13 @@ pub fn status(body: &[u8], little: bool) -> u32
 }
 
 // Reads the status of a fault or reject in the sender's order.
-pub fn read_status(body: &[u8], little: bool) -> StatusReading
-    ensures { result ≡ status_reading little body.now }
+pub fn read_status(body: &[u8], little: bool) -> Result<u32, Refusal>
+    ensures { result ≡ status_result little body.now }
 {
     if is_status_malformed(body) {
-        return StatusReading {
-            answer: Answer::Refused(Refusal::MalformedBody),
-            status: 0,
-        };
+        return Err(Refusal::MalformedBody);
     }
-    StatusReading {
-        answer: Answer::Done,
-        status: status(body, little),
-    }
+    Ok(status(body, little))
 }
 
 // A status as it is written.
@@ -171,19 +124,13 @@ pub fn cancel_number(body: &[u8], little: bool) -> u32
 }
 
 // Reads a cancel's body in the sender's order.
-pub fn read_cancel(body: &[u8], little: bool) -> CancelReading
-    ensures { result ≡ cancel_reading little body.now }
+pub fn read_cancel(body: &[u8], little: bool) -> Result<u32, Refusal>
+    ensures { result ≡ cancel_result little body.now }
 {
     if is_cancel_malformed(body, little) {
-        return CancelReading {
-            answer: Answer::Refused(Refusal::MalformedBody),
-            number: 0,
-        };
+        return Err(Refusal::MalformedBody);
     }
-    CancelReading {
-        answer: Answer::Done,
-        number: cancel_number(body, little),
-    }
+    Ok(cancel_number(body, little))
 }
 
 // The body of a cancel with that number.
@@ -202,21 +149,16 @@ pub fn is_cancel_ack_malformed(body: &[u8], little: bool) -> bool
 }
 
 // Reads a cancel_ack's body in the sender's order.
-pub fn read_cancel_ack(body: &[u8], little: bool) -> CancelAckReading
-    ensures { result ≡ cancel_ack_reading little body.now }
+pub fn read_cancel_ack(body: &[u8], little: bool) -> Result<CancelAck, Refusal>
+    ensures { result ≡ cancel_ack_result little body.now }
 {
     if is_cancel_ack_malformed(body, little) {
-        return CancelAckReading {
-            answer: Answer::Refused(Refusal::MalformedBody),
-            number: 0,
-            accepts: false,
-        };
+        return Err(Refusal::MalformedBody);
     }
-    CancelAckReading {
-        answer: Answer::Done,
+    Ok(CancelAck {
         number: cancel_number(body, little),
         accepts: u32::read_at(body, 8, little) == 1,
-    }
+    })
 }
 
 // The body of a cancel_ack for the cancel of that number.

@@ -2,7 +2,7 @@
 #![tactic(auto)]
 
 ghost use Rattle.std.specs.Prelude.{◌≡◌};
-ghost use Rattle.calls.specs.Sent.{blank_call, sent_header, sent_of, posting, Posted, sent_bytes};
+ghost use Rattle.calls.specs.Sent.{blank_call, sent_header, posting, Posted, sent_bytes};
 
 use pdu::Header;
 
@@ -36,11 +36,7 @@ pub enum Notice {
 }
 
 // What was sent: nothing, or a PDU that is so many bytes at the front of the PDU buffer.
-#[derive(Clone, Copy)]
-pub enum Sent {
-    Nothing,
-    Pdu(usize),
-}
+pub type Sent = Option<usize>;
 
 // The call of a record that has none.
 pub fn no_call() -> Call
@@ -89,22 +85,11 @@ pub fn header(
     }
 }
 
-// What is sent of a PDU of this length; the writer gives 0 for one that it refused.
-fn sent_of(length: usize) -> Sent
-    ensures { result ≡ sent_of length }
-{
-    if length == 0 {
-        return Sent::Nothing;
-    }
-    Sent::Pdu(length)
-}
-
 // Writes a PDU to send into the lent buffer.
 pub fn post(h: Header, body: &[u8], out: &mut [u8]) -> Sent
     ensures { Posted (posting h body.now out.old) result out.new }
 {
-    let written = writer::write(h, body, out);
-    sent_of(written.length)
+    writer::write(h, body, out).ok()
 }
 
 // The PDU that was sent: the front of the lent buffer, or an empty part where nothing was.
@@ -112,7 +97,7 @@ pub fn sent_bytes(sent: Sent, buffer: &[u8]) -> &[u8]
     ensures { result.now ≡ sent_bytes sent buffer.now }
 {
     match sent {
-        Sent::Nothing => &buffer[0..0],
-        Sent::Pdu(length) => words::first(buffer, length),
+        None => &buffer[0..0],
+        Some(length) => words::first(buffer, length),
     }
 }

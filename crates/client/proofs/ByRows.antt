@@ -8,10 +8,7 @@ use Rattle.pdu.specs.Header.{body_of}
 use Rattle.client.specs.declared.records.Client.{Client}
 use Rattle.client.specs.declared.records.TimerKind.{TimerKind}
 use Rattle.client.specs.declared.judge.Row.{Row}
-use Rattle.client.specs.declared.judge.Verdict.{Verdict}
-use Rattle.client.specs.declared.judge.Verdict.TheVariants.{Refuse, Go}
-use Rattle.client.specs.declared.judge.StartVerdict.{StartVerdict}
-use Rattle.client.specs.declared.judge.StartVerdict.TheVariants.{Refuse as RefuseStart, Go as GoStart}
+use Rattle.client.specs.judge.Verdict.{Verdict, Refuse, Go, StartVerdict, Refuse as RefuseStart, Go as GoStart}
 use Rattle.client.specs.judge.Refusals.{start_verdict, transmit_verdict, timer_verdict, cancel_verdict, arrival_verdict}
 use Rattle.client.specs.step.Steps.{started, step_of}
 use Rattle.client.specs.Machine.{refused, done, start_by, starting, sending, step_by, transmitting, timing, cancelling, acted, arrival_by, arriving}

@@ -8,8 +8,7 @@ use Rattle.words.specs.Sizes.{pdu_size, slots_size}
 use Rattle.words.proofs.SameLaws.{same_self}
 use Rattle.words.proofs.Tests.{choose_true, choose_false, not_of_true, both_hold}
 use Rattle.answers.specs.declared.Refusal.TheVariants.{WrongSide, OldCall, MalformedBody, NoRow, TicketsUsedUp}
-use Rattle.answers.specs.declared.Answer.{Answer}
-use Rattle.answers.specs.declared.Answer.TheVariants.{Done, Refused}
+use Rattle.answers.specs.Answer.{Answer, Done, Refused}
 use Rattle.answers.specs.Table.{first_of}
 use Rattle.answers.proofs.TableLaws.{passed_over, joined, all_behind}
 use Rattle.bodies.specs.Cancel.{cancel_number_in, cancel_ack_malformed, cancel_ack_reading}
@@ -21,15 +20,13 @@ use Rattle.pdu.specs.declared.Header.{Header}
 use Rattle.pdu.specs.Header.{body_of}
 use Rattle.reader.specs.Reading.{read_refusals, reading}
 use Rattle.reader.proofs.Readable.{read_passed}
-use Rattle.timers.specs.declared.Timer.{Timer}
-use Rattle.timers.specs.declared.Timer.TheVariants.{Off, Armed}
+use Rattle.timers.specs.Timer.{Timer, Off, Armed}
 use Rattle.timers.specs.Tickets.{used_up, off}
 use Rattle.client.specs.declared.records.State.{State}
 use Rattle.client.specs.declared.records.State.TheVariants.{Queued, SendFrags, Dispatched, ReceiveFrags, AckPending, Complete, Fault}
 use Rattle.client.specs.declared.records.Client.{Client}
 use Rattle.client.specs.declared.judge.Row.TheVariants.{CancelAck}
-use Rattle.client.specs.declared.judge.Verdict.{Verdict}
-use Rattle.client.specs.declared.judge.Verdict.TheVariants.{Refuse, Go}
+use Rattle.client.specs.judge.Verdict.{Verdict, Refuse, Go}
 use Rattle.client.specs.declared.Outcome.{Outcome}
 use Rattle.client.specs.records.States.{is_queued}
 use Rattle.client.specs.records.Rules.{sound}

@@ -5,17 +5,15 @@ use Rattle.words.specs.Sizes.{pdu_size}
 use Rattle.words.proofs.Tests.{tests, choose_false, not_of_true, both_hold}
 use Rattle.answers.specs.declared.Refusal.{Refusal}
 use Rattle.answers.specs.declared.Refusal.TheVariants.{WrongLength, BrokenRecord, NoRow, TicketsUsedUp}
-use Rattle.answers.specs.declared.Answer.{Answer}
-use Rattle.answers.specs.declared.Answer.TheVariants.{Done, Refused}
+use Rattle.answers.specs.Answer.{Answer, Done, Refused}
 use Rattle.answers.specs.Table.{first_of}
 use Rattle.answers.proofs.TableLaws.{AllPassed, all_behind}
-use Rattle.timers.specs.declared.Timer.{Timer}
-use Rattle.timers.specs.declared.Timer.TheVariants.{Off, Armed}
+use Rattle.timers.specs.Timer.{Timer, Off, Armed}
 use Rattle.timers.specs.Tickets.{used_up, off}
 use Rattle.client.specs.declared.records.State.{State}
 use Rattle.client.specs.declared.records.State.TheVariants.{Queued, SendFrags, Dispatched, ReceiveFrags, AckPending, Complete, Fault}
 use Rattle.client.specs.declared.records.Client.{Client}
-use Rattle.client.specs.declared.judge.Verdict.TheVariants.{Refuse, Go}
+use Rattle.client.specs.judge.Verdict.{Refuse, Go}
 use Rattle.client.specs.records.States.{is_active}
 use Rattle.client.specs.records.Rules.{sound}
 use Rattle.client.specs.judge.Rows.{cancel_row, arms}

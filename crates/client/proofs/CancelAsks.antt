@@ -1,16 +1,14 @@
 -- What a local cancel tells its reader.
 use Rattle.std.proofs.Common.{◌≡◌, ℕ, ◌+◌, ◌<◌, true, List, [], sym, refl, ap, ◌∙◌, subst, arith}
-use Rattle.answers.specs.declared.Answer.TheVariants.{Done}
-use Rattle.bodies.specs.declared.CancelReading.{CancelReading}
-use Rattle.bodies.specs.Cancel.{cancel_reading, cancel_bytes}
+use Rattle.answers.specs.Answer.{Done}
+use Rattle.bodies.specs.Cancel.{CancelReading, cancel_reading, cancel_bytes}
 use Rattle.bodies.proofs.CancelTrip.{read-written-cancel}
 use Rattle.calls.specs.Events.{Step}
 use Rattle.calls.specs.Sent.{sent_header, Posting, sent_bytes}
 use Rattle.calls.proofs.PostLaws.{whole, whole_bytes}
 use Rattle.flags.specs.Flags.{idempotent, with_flag}
 use Rattle.pdu.specs.Header.{datagram as datagram_of, body_of}
-use Rattle.reader.specs.declared.Reading.{Reading}
-use Rattle.reader.specs.Reading.{reading}
+use Rattle.reader.specs.Reading.{Reading, reading}
 use Rattle.writer.proofs.RoundTrip.{Fits, read-written, body-written}
 use Rattle.client.specs.declared.records.Client.{Client}
 use Rattle.client.specs.declared.Outcome.{Outcome}

@@ -5,23 +5,20 @@ use Rattle.words.specs.Sizes.{pdu_size}
 use Rattle.words.proofs.Tests.{tests, not_of_true}
 use Rattle.answers.specs.declared.Refusal.{Refusal}
 use Rattle.answers.specs.declared.Refusal.TheVariants.{WrongLength, BrokenRecord, NoRow, LateTimer, TicketsUsedUp}
-use Rattle.answers.specs.declared.Answer.{Answer}
-use Rattle.answers.specs.declared.Answer.TheVariants.{Done, Refused}
+use Rattle.answers.specs.Answer.{Answer, Done, Refused}
 use Rattle.answers.specs.Number.{refusal_number, number_of}
 use Rattle.answers.specs.Table.{first_of}
 use Rattle.answers.proofs.TableLaws.{all_behind}
 use Rattle.calls.specs.declared.Notice.TheVariants.{Cause}
-use Rattle.calls.specs.declared.Sent.TheVariants.{Nothing as Unsent}
+use Rattle.calls.specs.Sent.{Nothing as Unsent}
 use Rattle.calls.specs.Events.{Step}
-use Rattle.timers.specs.declared.Timer.{Timer}
-use Rattle.timers.specs.declared.Timer.TheVariants.{Off, Armed}
+use Rattle.timers.specs.Timer.{Timer, Off, Armed}
 use Rattle.timers.specs.Tickets.{used_up, armed_with}
 use Rattle.client.specs.declared.records.State.TheVariants.{Fault}
 use Rattle.client.specs.declared.records.Client.{Client}
 use Rattle.client.specs.declared.records.TimerKind.TheVariants.{Cancel}
 use Rattle.client.specs.declared.judge.Row.TheVariants.{GiveUp}
-use Rattle.client.specs.declared.judge.Verdict.{Verdict}
-use Rattle.client.specs.declared.judge.Verdict.TheVariants.{Refuse, Go}
+use Rattle.client.specs.judge.Verdict.{Verdict, Refuse, Go}
 use Rattle.client.specs.declared.Outcome.{Outcome}
 use Rattle.client.specs.records.Rules.{sound}
 use Rattle.client.specs.records.Record.{unarmed}

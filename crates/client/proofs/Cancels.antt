@@ -3,10 +3,8 @@
 use Rattle.std.proofs.Common.{◌≡◌, ℕ, ◌+◌, Bool, true, false, ◌⊎◌, List, [], length, sym, refl, ap, ◌∙◌, subst, inl, inr}
 use mathlib.Core.Bool.{false≢true}
 use Rattle.words.specs.Choice.{choose, both, either}
-use Rattle.answers.specs.declared.Answer.{Answer}
-use Rattle.answers.specs.declared.Answer.TheVariants.{Done}
-use Rattle.bodies.specs.declared.CancelAckReading.{CancelAckReading}
-use Rattle.bodies.specs.Cancel.{cancel_ack_malformed, cancel_ack_reading}
+use Rattle.answers.specs.Answer.{Answer, Done}
+use Rattle.bodies.specs.Cancel.{CancelAckReading, cancel_ack_malformed, cancel_ack_reading}
 use Rattle.bodies.proofs.CancelTrip.{cancel_ack_formed}
 use Rattle.calls.specs.declared.Call.{Call}
 use Rattle.calls.specs.declared.Notice.TheVariants.{Nothing as Untold}
@@ -15,8 +13,7 @@ use Rattle.fragments.specs.declared.Fragment.{Fragment}
 use Rattle.incoming.specs.declared.Incoming.{Incoming}
 use Rattle.pdu.specs.Header.{body_of}
 use Rattle.reader.specs.Reading.{reading}
-use Rattle.timers.specs.declared.Timer.{Timer}
-use Rattle.timers.specs.declared.Timer.TheVariants.{Off, Armed}
+use Rattle.timers.specs.Timer.{Timer, Off, Armed}
 use Rattle.timers.specs.Tickets.{used_up, armed_afresh, armed_if_off, tickets_if_off, off}
 use Rattle.timers.proofs.TimerLaws.{next_is, off_has_none}
 use Rattle.client.specs.declared.records.State.{State}
@@ -25,8 +22,7 @@ use Rattle.client.specs.declared.records.Client.{Client}
 use Rattle.client.specs.declared.records.TimerKind.{TimerKind}
 use Rattle.client.specs.declared.judge.Row.{Row}
 use Rattle.client.specs.declared.judge.Row.TheVariants.{Transmit, Response, CancelAck}
-use Rattle.client.specs.declared.judge.Verdict.{Verdict}
-use Rattle.client.specs.declared.judge.Verdict.TheVariants.{Refuse, Go}
+use Rattle.client.specs.judge.Verdict.{Verdict, Refuse, Go}
 use Rattle.client.specs.declared.Outcome.{Outcome}
 use Rattle.client.specs.records.States.{may_start, is_active}
 use Rattle.client.specs.records.Rules.{sound}

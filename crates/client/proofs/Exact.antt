@@ -6,7 +6,7 @@ use Rattle.words.specs.Place.{put_at}
 use Rattle.words.specs.Sizes.{body_size}
 use Rattle.words.proofs.Place.{placed_fits}
 use Rattle.words.proofs.Tests.{choose_true}
-use Rattle.answers.specs.declared.Answer.TheVariants.{Done}
+use Rattle.answers.specs.Answer.{Done}
 use Rattle.bodies.specs.Status.{status_malformed}
 use Rattle.calls.specs.declared.Call.{Call}
 use Rattle.calls.specs.Events.{Step, Arrival}

@@ -2,12 +2,10 @@
 use Rattle.std.proofs.Common.{◌≡◌, ℕ, ◌<◌, Bool, true, false, ◌⊎◌, List, [], sym, refl, ap, ◌∙◌}
 use Rattle.words.specs.Bit.{bit}
 use Rattle.words.specs.Choice.{choose}
-use Rattle.answers.specs.declared.Answer.TheVariants.{Done}
+use Rattle.answers.specs.Answer.{Done}
 use Rattle.bodies.specs.Fack.{fack_bytes, fack_fields}
-use Rattle.calls.specs.declared.Sent.{Sent}
-use Rattle.calls.specs.declared.Sent.TheVariants.{Nothing as Unsent}
+use Rattle.calls.specs.Sent.{Sent, Nothing as Unsent, sent_header, Posting, sent_bytes}
 use Rattle.calls.specs.Events.{Arrival}
-use Rattle.calls.specs.Sent.{sent_header, Posting, sent_bytes}
 use Rattle.calls.proofs.PostLaws.{whole, same_fits}
 use Rattle.facks.specs.Mask.{last_contiguous, mask_of}
 use Rattle.facks.specs.Telling.{TellsHeld}

@@ -12,9 +12,7 @@ use Rattle.reader.specs.Reading.{read_refusals, reader_refusals, reading}
 use Rattle.client.specs.declared.records.Client.{Client}
 use Rattle.client.specs.declared.records.TimerKind.{TimerKind}
 use Rattle.client.specs.declared.judge.Row.{Row}
-use Rattle.client.specs.declared.judge.Verdict.{Verdict}
-use Rattle.client.specs.declared.judge.Verdict.TheVariants.{Refuse, Go}
-use Rattle.client.specs.declared.judge.StartVerdict.TheVariants.{Refuse as RefuseStart, Go as GoStart}
+use Rattle.client.specs.judge.Verdict.{Verdict, Refuse, Go, Refuse as RefuseStart, Go as GoStart}
 use Rattle.client.specs.records.States.{is_queued}
 use Rattle.client.specs.judge.Rows.{is_row, next_number, transmit_row, timer_row, cancel_row, arrival_cell}
 use Rattle.client.specs.judge.Refusals.{start_refusals, start_verdict, transmit_refusals, transmit_verdict, timer_refusals, timer_verdict, cancel_refusals, cancel_verdict, pdu_refusals, arrival_refusals, arrival_verdict}

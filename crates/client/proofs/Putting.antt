@@ -2,7 +2,7 @@
 use Rattle.std.proofs.Common.{◌≡◌, Bool, true, false, refl, true≢false}
 use Rattle.words.specs.Choice.{choose}
 use Rattle.fragments.specs.declared.Fragment.{Fragment}
-use Rattle.fragments.specs.declared.Stored.TheVariants.{Nothing as Unstored}
+use Rattle.fragments.specs.Stored.{Nothing as Unstored}
 use Rattle.fragments.specs.Put.{put_into}
 use Rattle.client.specs.declared.records.Client.{Client}
 use Rattle.client.specs.declared.records.TimerKind.{TimerKind}

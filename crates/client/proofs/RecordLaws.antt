@@ -7,8 +7,7 @@ use Rattle.incoming.specs.Slots.{sound as incoming_sound}
 use Rattle.outgoing.specs.declared.Outgoing.{Outgoing}
 use Rattle.incoming.proofs.SlotLaws.{cleared-sound}
 use Rattle.outgoing.specs.Sending.{no_message, bounded, has_message, has_nothing}
-use Rattle.timers.specs.declared.Timer.{Timer}
-use Rattle.timers.specs.declared.Timer.TheVariants.{Off}
+use Rattle.timers.specs.Timer.{Timer, Off}
 use Rattle.timers.specs.Tickets.{used_up, next_ticket, armed_afresh, armed_if_off, tickets_if_off, off, sound as timer_ticket_sound, timer_sound}
 use Rattle.timers.proofs.TimerLaws.{armed_sound, sound_kept, named_sound, off-sound, if_off_sound, if_off_sound_beside}
 use Rattle.client.specs.declared.records.State.{State}

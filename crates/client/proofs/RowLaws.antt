@@ -20,8 +20,7 @@ use Rattle.client.specs.declared.records.TimerKind.{TimerKind}
 use Rattle.client.specs.declared.records.TimerKind.TheVariants.{Wait, Ack, Cancel as CancelKind}
 use Rattle.client.specs.declared.judge.Row.{Row}
 use Rattle.client.specs.declared.judge.Row.TheVariants.{Transmit, Ping, SendAck, Cancel, Response, Fault, Reject, Working, Resend, GiveUp, Fack, CancelAck}
-use Rattle.client.specs.declared.judge.Verdict.{Verdict}
-use Rattle.client.specs.declared.judge.Verdict.TheVariants.{Refuse, Go}
+use Rattle.client.specs.judge.Verdict.{Verdict, Refuse, Go}
 use Rattle.client.specs.records.States.{is_active, is_dispatched}
 use Rattle.client.specs.judge.Rows.{cell_in, is_row, wait_row, timer_row, nocall_row, is_current, arrival_cell}
 
@@ -30,7 +29,7 @@ pub unrowed : (row : Row) (r : Refusal) → Refuse r ≡ Go row → ⊥
 unfolding is_row
 unrowed row r e = false≢true (ap is_row e)
 
-pub same_row : (a b : Row) → Go a ≡ Go b → a ≡ b
+pub same_row : (a b : Row) → ◌≡◌ {A = Verdict} (Go a) (Go b) → a ≡ b
 same_row a b e = cc
 
 -- What is known of a header and a body of which the table says that row. A response:

@@ -7,8 +7,7 @@ use Rattle.words.proofs.Tests.{both_true, both_hold}
 use Rattle.incoming.specs.Slots.{sound as incoming_sound}
 use Rattle.outgoing.specs.declared.Outgoing.{Outgoing}
 use Rattle.outgoing.specs.Sending.{bounded, has_message, has_nothing}
-use Rattle.timers.specs.declared.Timer.{Timer}
-use Rattle.timers.specs.declared.Timer.TheVariants.{Off}
+use Rattle.timers.specs.Timer.{Timer, Off}
 use Rattle.timers.specs.Tickets.{timer_sound}
 use Rattle.timers.proofs.TimerLaws.{unnamed_off}
 use Rattle.client.specs.declared.records.State.{State}

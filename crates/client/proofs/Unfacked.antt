@@ -3,12 +3,11 @@ use Rattle.std.proofs.Common.{◌≡◌, ℕ, ◌≤◌, false, List, [], length
 use mathlib.Core.Bool.{false≢true}
 use borrow.Author.Tests.{eqb-false}
 use Rattle.words.specs.Sizes.{body_size, pdu_size}
-use Rattle.answers.specs.declared.Answer.TheVariants.{Done}
+use Rattle.answers.specs.Answer.{Done}
 use Rattle.bodies.specs.Cancel.{cancel_bytes}
 use Rattle.calls.specs.declared.Call.{Call}
-use Rattle.calls.specs.declared.Sent.TheVariants.{Nothing as Unsent}
+use Rattle.calls.specs.Sent.{Nothing as Unsent, sent_header}
 use Rattle.calls.specs.Events.{Step}
-use Rattle.calls.specs.Sent.{sent_header}
 use Rattle.calls.proofs.PostLaws.{posted_whole, same-sized}
 use Rattle.outgoing.specs.Message.{fragment_of}
 use Rattle.outgoing.proofs.OutgoingLaws.{fragment_most}
@@ -18,8 +17,7 @@ use Rattle.writer.proofs.Returns.{Sized}
 use Rattle.client.specs.declared.records.Client.{Client}
 use Rattle.client.specs.declared.records.TimerKind.{TimerKind}
 use Rattle.client.specs.declared.judge.Row.{Row}
-use Rattle.client.specs.declared.judge.StartVerdict.{StartVerdict}
-use Rattle.client.specs.declared.judge.StartVerdict.TheVariants.{Refuse as RefuseStart, Go as GoStart}
+use Rattle.client.specs.judge.Verdict.{StartVerdict, Refuse as RefuseStart, Go as GoStart}
 use Rattle.client.specs.declared.step.Send.{Send}
 use Rattle.client.specs.declared.step.Send.TheVariants.{Nothing, Request, Ping as SendPing, Ack as AckPdu, Fack as SendFack, Cancel as SendCancel}
 use Rattle.client.specs.declared.Outcome.{Outcome}

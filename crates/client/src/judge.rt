@@ -4,7 +4,7 @@ ghost use Rattle.std.specs.Prelude.{◌≡◌, ◌≤◌, ◌⊎◌};
 ghost use Rattle.words.specs.Choice.{choose, both};
 ghost use Rattle.answers.specs.declared.Refusal.TheVariants.{TicketsUsedUp};
 ghost use Rattle.timers.specs.Tickets.{used_up};
-ghost use Rattle.client.specs.declared.judge.Verdict.TheVariants.{Refuse, Go};
+ghost use Rattle.client.specs.judge.Verdict.{Refuse, Go};
 ghost use Rattle.client.specs.judge.Rows.{next_number, wait_row, timer_row as row_of_timer, nocall_row, is_current, arms as arms_row};
 ghost use Rattle.client.specs.judge.Refusals.{start_verdict, transmit_verdict, timer_verdict, may_cancel, cancel_verdict, is_old, pdu_verdict, activity_verdict, arrival_verdict};
 
@@ -43,18 +43,11 @@ pub enum Row {
     CancelAck,
 }
 
-#[derive(Clone, Copy)]
-pub enum Verdict {
-    Refuse(Refusal),
-    Go(Row),
-}
+// A row, or why the event is refused.
+pub type Verdict = Result<Row, Refusal>;
 
 // Of a start: its row has the call's number.
-#[derive(Clone, Copy)]
-pub enum StartVerdict {
-    Refuse(Refusal),
-    Go(u32),
-}
+pub type StartVerdict = Result<u32, Refusal>;
 
 // The last call number.
 const LAST_CALL_NUMBER: u32 = 4294967295;
@@ -91,9 +84,9 @@ fn with_ticket(c: Client, row: Row) -> Verdict
 {
     // Few counters are used up, so that is asked first.
     if timers::used_up(c.tickets) && arms(c, row) {
-        return Verdict::Refuse(Refusal::TicketsUsedUp);
+        return Err(Refusal::TicketsUsedUp);
     }
-    Verdict::Go(row)
+    Ok(row)
 }
 
 // The number of the next call.
@@ -112,19 +105,19 @@ pub fn start(c: Client, length: u32) -> StartVerdict
 {
     let state = c.state;
     if MESSAGE_SIZE < length {
-        return StartVerdict::Refuse(Refusal::WrongLength);
+        return Err(Refusal::WrongLength);
     }
     if !records::is_sound(c) {
-        return StartVerdict::Refuse(Refusal::BrokenRecord);
+        return Err(Refusal::BrokenRecord);
     }
     if !records::may_start(state) {
-        return StartVerdict::Refuse(Refusal::NoRow);
+        return Err(Refusal::NoRow);
     }
     let queued = records::is_queued(state);
     if words::both(!queued, c.number == LAST_CALL_NUMBER) {
-        return StartVerdict::Refuse(Refusal::NumbersUsedUp);
+        return Err(Refusal::NumbersUsedUp);
     }
-    StartVerdict::Go(next_number(queued, c.number))
+    Ok(next_number(queued, c.number))
 }
 
 // A transmit, by the lengths of what is lent: 1, 2, 15, 20.
@@ -135,13 +128,13 @@ pub fn transmit(c: Client, message: usize, out: usize) -> Verdict
     let o = c.outgoing;
     let sending = records::is_sending(state);
     if !outgoing::is_transmit_lent(sending, message, o.length, out) {
-        return Verdict::Refuse(Refusal::WrongLength);
+        return Err(Refusal::WrongLength);
     }
     if !records::is_sound(c) {
-        return Verdict::Refuse(Refusal::BrokenRecord);
+        return Err(Refusal::BrokenRecord);
     }
     if !sending {
-        return Verdict::Refuse(Refusal::NoRow);
+        return Err(Refusal::NoRow);
     }
     with_ticket(c, Row::Transmit(outgoing::sends_last(o)))
 }
@@ -176,16 +169,16 @@ pub fn timer(c: Client, kind: TimerKind, ticket: u64, out: usize) -> Verdict
     let ack = c.ack;
     let cancel = c.cancel;
     if out != PDU_SIZE {
-        return Verdict::Refuse(Refusal::WrongLength);
+        return Err(Refusal::WrongLength);
     }
     if !records::is_sound(c) {
-        return Verdict::Refuse(Refusal::BrokenRecord);
+        return Err(Refusal::BrokenRecord);
     }
     if !records::is_named(kind, state) {
-        return Verdict::Refuse(Refusal::NoRow);
+        return Err(Refusal::NoRow);
     }
     if !timers::is_armed_with(records::timer_of(kind, wait, ack, cancel), ticket) {
-        return Verdict::Refuse(Refusal::LateTimer);
+        return Err(Refusal::LateTimer);
     }
     with_ticket(c, timer_row(kind, c))
 }
@@ -204,13 +197,13 @@ pub fn cancel(c: Client, out: usize) -> Verdict
 {
     let state = c.state;
     if out != PDU_SIZE {
-        return Verdict::Refuse(Refusal::WrongLength);
+        return Err(Refusal::WrongLength);
     }
     if !records::is_sound(c) {
-        return Verdict::Refuse(Refusal::BrokenRecord);
+        return Err(Refusal::BrokenRecord);
     }
     if !may_cancel(state, c.cancels) {
-        return Verdict::Refuse(Refusal::NoRow);
+        return Err(Refusal::NoRow);
     }
     with_ticket(c, Row::Cancel(std::num::wrapping_add_u32(c.cancels, 1)))
 }
@@ -231,20 +224,20 @@ fn response(c: Client, h: Header, little: bool, body: &[u8]) -> Verdict
     let state = c.state;
     let m = c.incoming;
     if fragments::is_wrong(h.flags1, h.fragment) {
-        return Verdict::Refuse(Refusal::WrongFragment);
+        return Err(Refusal::WrongFragment);
     }
     if is_old(state, c.number, h.number) {
-        return Verdict::Refuse(Refusal::OldCall);
+        return Err(Refusal::OldCall);
     }
     if !records::is_active(state) {
-        return Verdict::Refuse(Refusal::NoRow);
+        return Err(Refusal::NoRow);
     }
     if fragments::is_held(m, h.fragment) {
-        return Verdict::Refuse(Refusal::Repeated);
+        return Err(Refusal::Repeated);
     }
     let last = fragments::is_last(h.flags1);
     if fragments::contradicts_held(m, h.fragment, last) {
-        return Verdict::Refuse(Refusal::Contradiction);
+        return Err(Refusal::Contradiction);
     }
     let length = fragments::body_length(body.len());
     let p = fragments::put_of(m, h.flags1, h.serial, h.fragment, length);
@@ -258,19 +251,19 @@ fn failure(c: Client, h: Header, little: bool, body: &[u8]) -> Verdict
 {
     let state = c.state;
     if is_old(state, c.number, h.number) {
-        return Verdict::Refuse(Refusal::OldCall);
+        return Err(Refusal::OldCall);
     }
     if bodies::is_status_malformed(body) {
-        return Verdict::Refuse(Refusal::MalformedBody);
+        return Err(Refusal::MalformedBody);
     }
     if !records::is_active(state) {
-        return Verdict::Refuse(Refusal::NoRow);
+        return Err(Refusal::NoRow);
     }
     let status = bodies::status(body, little);
     if h.kind == 3 {
-        return Verdict::Go(Row::Fault(status));
+        return Ok(Row::Fault(status));
     }
-    Verdict::Go(Row::Reject(status))
+    Ok(Row::Reject(status))
 }
 
 // Working: 13, 15, 20.
@@ -280,10 +273,10 @@ fn working(c: Client, h: Header, little: bool, body: &[u8]) -> Verdict
 {
     let state = c.state;
     if is_old(state, c.number, h.number) {
-        return Verdict::Refuse(Refusal::OldCall);
+        return Err(Refusal::OldCall);
     }
     if !records::is_dispatched(state) {
-        return Verdict::Refuse(Refusal::NoRow);
+        return Err(Refusal::NoRow);
     }
     with_ticket(c, Row::Working)
 }
@@ -305,12 +298,12 @@ fn nocall(c: Client, h: Header, little: bool, body: &[u8]) -> Verdict
 {
     let state = c.state;
     if is_old(state, c.number, h.number) {
-        return Verdict::Refuse(Refusal::OldCall);
+        return Err(Refusal::OldCall);
     }
     if !records::is_dispatched(state) {
-        return Verdict::Refuse(Refusal::NoRow);
+        return Err(Refusal::NoRow);
     }
-    Verdict::Go(nocall_row(c.resends))
+    Ok(nocall_row(c.resends))
 }
 
 // A fack: 13, 14, 15, 17.
@@ -321,19 +314,19 @@ fn fack(c: Client, h: Header, little: bool, body: &[u8]) -> Verdict
     let state = c.state;
     let o = c.outgoing;
     if is_old(state, c.number, h.number) {
-        return Verdict::Refuse(Refusal::OldCall);
+        return Err(Refusal::OldCall);
     }
     if bodies::is_fack_malformed(body, little) {
-        return Verdict::Refuse(Refusal::MalformedBody);
+        return Err(Refusal::MalformedBody);
     }
     if !records::is_active(state) {
-        return Verdict::Refuse(Refusal::NoRow);
+        return Err(Refusal::NoRow);
     }
     let count = facks::acknowledged_by(h.fragment);
     if o.count < count {
-        return Verdict::Refuse(Refusal::Contradiction);
+        return Err(Refusal::Contradiction);
     }
-    Verdict::Go(Row::Fack(count))
+    Ok(Row::Fack(count))
 }
 
 // Whether a cancel_ack is the current one: CANCEL is armed, and the number is the record's.
@@ -352,15 +345,15 @@ fn cancel_ack(c: Client, h: Header, little: bool, body: &[u8]) -> Verdict
     let state = c.state;
     let cancel = c.cancel;
     if is_old(state, c.number, h.number) {
-        return Verdict::Refuse(Refusal::OldCall);
+        return Err(Refusal::OldCall);
     }
     if bodies::is_cancel_ack_malformed(body, little) {
-        return Verdict::Refuse(Refusal::MalformedBody);
+        return Err(Refusal::MalformedBody);
     }
     if !is_current(cancel, c.cancels, bodies::cancel_number(body, little)) {
-        return Verdict::Refuse(Refusal::NoRow);
+        return Err(Refusal::NoRow);
     }
-    Verdict::Go(Row::CancelAck)
+    Ok(Row::CancelAck)
 }
 
 // 12 to 20, of what the server answers a call with: types 2 to 6.
@@ -386,9 +379,9 @@ fn pdu(c: Client, h: Header, little: bool, body: &[u8]) -> Verdict
         2..=6 => of_call(c, h, little, body),
         9 => fack(c, h, little, body),
         10 => cancel_ack(c, h, little, body),
-        0..=1 => Verdict::Refuse(Refusal::WrongSide),
-        7..=8 => Verdict::Refuse(Refusal::WrongSide),
-        11..=255 => Verdict::Refuse(Refusal::WrongSide),
+        0..=1 => Err(Refusal::WrongSide),
+        7..=8 => Err(Refusal::WrongSide),
+        11..=255 => Err(Refusal::WrongSide),
     }
 }
 
@@ -399,7 +392,7 @@ fn own_activity(c: Client, h: Header, little: bool, body: &[u8]) -> Verdict
     let mine = c.activity;
     let theirs = h.activity;
     if !words::same_uuid(mine, theirs) {
-        return Verdict::Refuse(Refusal::OtherActivity);
+        return Err(Refusal::OtherActivity);
     }
     pdu(c, h, little, body)
 }
@@ -409,15 +402,11 @@ pub fn arrival(c: Client, slots: usize, out: usize, d: &[u8]) -> Verdict
     ensures { result ≡ arrival_verdict c slots out d.now }
 {
     if !fragments::is_lent_right(slots, out) {
-        return Verdict::Refuse(Refusal::WrongLength);
+        return Err(Refusal::WrongLength);
     }
     if !records::is_sound(c) {
-        return Verdict::Refuse(Refusal::BrokenRecord);
+        return Err(Refusal::BrokenRecord);
     }
-    let reading = reader::read(d);
-    let answer = reading.answer;
-    match answer {
-        Answer::Refused(refusal) => Verdict::Refuse(refusal),
-        Answer::Done => own_activity(c, reading.header, reading.little, reader::body(d)),
-    }
+    let read = reader::read(d)?;
+    own_activity(c, read.header, read.little, reader::body(d))
 }

@@ -83,7 +83,7 @@ fn send_out(send: Send, c: Client, lent: &[u8], out: &mut [u8]) -> Sent
     ensures { Posted (sent_out send c lent.now out.old) result out.new }
 {
     match send {
-        Send::Nothing => Sent::Nothing,
+        Send::Nothing => None,
         Send::Request(f) => send_request(f, c, lent, out),
         Send::Ping => send_empty(1, c, out),
         Send::Ack => send_empty(7, c, out),
@@ -97,9 +97,9 @@ fn refused(c: Client, refusal: Refusal) -> Outcome
     ensures { result ≡ refused_outcome c refusal }
 {
     Outcome {
-        answer: Answer::Refused(refusal),
+        answer: Err(refusal),
         client: c,
-        sent: Sent::Nothing,
+        sent: None,
         notice: Notice::Nothing,
     }
 }
@@ -111,7 +111,7 @@ fn done(plan: Plan, sent: Sent) -> Outcome
     let client = plan.client;
     let notice = plan.notice;
     Outcome {
-        answer: Answer::Done,
+        answer: Ok(()),
         client,
         sent,
         notice,
@@ -123,11 +123,11 @@ pub fn start(c: Client, call: Call, length: u32) -> Outcome
     ensures { result ≡ starting c call length }
 {
     match judge::start(c, length) {
-        StartVerdict::Refuse(refusal) => refused(c, refusal),
-        StartVerdict::Go(number) => Outcome {
-            answer: Answer::Done,
+        Err(refusal) => refused(c, refusal),
+        Ok(number) => Outcome {
+            answer: Ok(()),
             client: step::start(c, number, call, length),
-            sent: Sent::Nothing,
+            sent: None,
             notice: Notice::Nothing,
         },
     }
@@ -147,8 +147,8 @@ fn act(verdict: Verdict, c: Client, lent: &[u8], out: &mut [u8]) -> Outcome
     ensures { Stepped (step_by verdict c lent.now out.old) result out.new }
 {
     match verdict {
-        Verdict::Refuse(refusal) => refused(c, refusal),
-        Verdict::Go(row) => send(step::step(row, c), lent, out),
+        Err(refusal) => refused(c, refusal),
+        Ok(row) => send(step::step(row, c), lent, out),
     }
 }
 
@@ -194,8 +194,8 @@ pub fn arrive(c: Client, datagram: &[u8], slots: &mut [u8], out: &mut [u8]) -> O
     ensures { Arrived (arriving c datagram.now slots.old out.old) result slots.new out.new }
 {
     match judge::arrival(c, slots.len(), out.len(), datagram) {
-        Verdict::Refuse(refusal) => refused(c, refusal),
-        Verdict::Go(row) => store_and_send(step::step(row, c), reader::body(datagram), slots, out),
+        Err(refusal) => refused(c, refusal),
+        Ok(row) => store_and_send(step::step(row, c), reader::body(datagram), slots, out),
     }
 }
 

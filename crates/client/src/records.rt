@@ -236,9 +236,9 @@ pub fn fresh(activity: [u8; 16], tickets: u64) -> Client
         resends: 0,
         cancels: 0,
         tickets,
-        wait: Timer::Off,
-        ack: Timer::Off,
-        cancel: Timer::Off,
+        wait: None,
+        ack: None,
+        cancel: None,
     }
 }
 
@@ -281,7 +281,7 @@ pub fn to_waiting(c: Client, state: State) -> Client
     let cancel = c.cancel;
     let tickets = timers::next_ticket(c.tickets);
     let wait = timers::armed_afresh(c.tickets);
-    with_timers(c, state, tickets, wait, Timer::Off, cancel)
+    with_timers(c, state, tickets, wait, None, cancel)
 }
 
 // To SEND_FRAGS, WAIT disarmed; CANCEL stays as it is.
@@ -293,8 +293,8 @@ pub fn to_sending(c: Client) -> Client
         c,
         State::SendFrags,
         c.tickets,
-        Timer::Off,
-        Timer::Off,
+        None,
+        None,
         cancel,
     )
 }
@@ -305,14 +305,14 @@ pub fn to_ack_pending(c: Client) -> Client
 {
     let tickets = timers::next_ticket(c.tickets);
     let ack = timers::armed_afresh(c.tickets);
-    with_timers(c, State::AckPending, tickets, Timer::Off, ack, Timer::Off)
+    with_timers(c, State::AckPending, tickets, None, ack, None)
 }
 
 // To a state with nothing armed.
 pub fn to_unarmed(c: Client, state: State) -> Client
     ensures { result ≡ unarmed c state }
 {
-    with_timers(c, state, c.tickets, Timer::Off, Timer::Off, Timer::Off)
+    with_timers(c, state, c.tickets, None, None, None)
 }
 
 // CANCEL armed if it is not; the state and the other timers stay as they are.
@@ -335,7 +335,7 @@ pub fn disarm_cancel(c: Client) -> Client
     let state = c.state;
     let wait = c.wait;
     let ack = c.ack;
-    with_timers(c, state, c.tickets, wait, ack, Timer::Off)
+    with_timers(c, state, c.tickets, wait, ack, None)
 }
 
 // The record with another message sent.
@@ -399,9 +399,9 @@ pub fn with_call(c: Client, state: State, number: u32, call: Call, outgoing: Out
         resends: 0,
         cancels: 0,
         tickets: c.tickets,
-        wait: Timer::Off,
-        ack: Timer::Off,
-        cancel: Timer::Off,
+        wait: None,
+        ack: None,
+        cancel: None,
     }
 }
 

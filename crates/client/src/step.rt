@@ -39,7 +39,7 @@ fn going(c: Client, send: Send, notice: Notice) -> Plan
         client: c,
         send,
         notice,
-        store: Stored::Nothing,
+        store: None,
     }
 }
 
@@ -137,7 +137,7 @@ fn response(c: Client, p: Fragment) -> Plan
         client: received(next, fragments::put_into(m, p)),
         send: fack_for(p.facked, p.serial, p.count),
         notice: put_notice(p.complete, p.count),
-        store: Stored::At(p.number),
+        store: Some(p.number),
     }
 }
 

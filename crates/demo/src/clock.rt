@@ -24,8 +24,8 @@ pub(crate) fn after_event(alarm: Alarm, handed_in: u64, armed: Timer, event: u64
         return alarm;
     }
     match armed {
-        Timer::Off => STOPPED,
-        Timer::Armed(ticket) => Alarm {
+        None => STOPPED,
+        Some(ticket) => Alarm {
             ticket,
             since: event,
         },

@@ -39,8 +39,8 @@ fn copies(number: u32) -> u8
 // After an event of the sender: the PDU sent is on the wire; where none was, the wire is as it was.
 pub(crate) fn after_sender(wire: Wire, sent: Sent) -> Wire {
     match sent {
-        Sent::Nothing => wire,
-        Sent::Pdu(length) => {
+        None => wire,
+        Some(length) => {
             let number = std::num::wrapping_add_u32(wire.sent, 1);
             Wire {
                 length,

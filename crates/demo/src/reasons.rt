@@ -55,14 +55,14 @@ pub(crate) fn print_client(
     state: ClientState,
 ) {
     match answer {
-        Answer::Done => match event {
+        Ok(()) => match event {
             ClientEvent::Start => print(b"a call begins"),
             ClientEvent::Transmit => print_client_transmitted(state),
             ClientEvent::Arrive => print_client_took(kind, notice, state),
             ClientEvent::Wait => print_waited(state),
             ClientEvent::Ack => print(b"say that the reply is there"),
         },
-        Answer::Refused(refusal) => print_client_refused(event, refusal),
+        Err(refusal) => print_client_refused(event, refusal),
     }
 }
 
@@ -129,13 +129,13 @@ pub(crate) fn print_server(
     state: ServerState,
 ) {
     match answer {
-        Answer::Done => match event {
+        Ok(()) => match event {
             ServerEvent::Arrive => print_server_took(kind, notice, state),
             ServerEvent::Reply => print(b"the stub answers"),
             ServerEvent::Transmit => print_server_transmitted(state),
             ServerEvent::Resend => print_resent(state),
         },
-        Answer::Refused(refusal) => print_server_refused(event, refusal),
+        Err(refusal) => print_server_refused(event, refusal),
     }
 }
 

@@ -87,8 +87,8 @@ fn print_sent_pdu(pdu: &[u8], copies: u8) {
 
 fn print_sent(sent: Sent, pdu: &[u8], copies: u8) {
     match sent {
-        Sent::Nothing => print(b"-                    "),
-        Sent::Pdu(_) => print_sent_pdu(calls::sent_bytes(sent, pdu), copies),
+        None => print(b"-                    "),
+        Some(_) => print_sent_pdu(calls::sent_bytes(sent, pdu), copies),
     }
 }
 
@@ -111,8 +111,8 @@ fn print_notice(notice: Notice) {
 // The timer that the record has armed, with its ticket.
 fn print_armed(name: &[u8], timer: Timer) {
     match timer {
-        Timer::Off => print(b"-         "),
-        Timer::Armed(ticket) => {
+        None => print(b"-         "),
+        Some(ticket) => {
             print(name);
             print_number(ticket, 3);
         }
@@ -138,8 +138,8 @@ fn print_client_state(state: ClientState, wait: Timer, ack: Timer) {
         ClientState::Fault => print(b"FAULT           "),
     }
     match wait {
-        Timer::Off => print_armed(b"ACK    ", ack),
-        Timer::Armed(_) => print_armed(b"WAIT   ", wait),
+        None => print_armed(b"ACK    ", ack),
+        Some(_) => print_armed(b"WAIT   ", wait),
     }
 }
 

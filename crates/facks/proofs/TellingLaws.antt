@@ -12,15 +12,13 @@ use borrow.Author.Tests.{eqb-true, eqb-false}
 use Rattle.words.specs.Bit.{bit}
 use Rattle.words.specs.Choice.{choose}
 use Rattle.words.specs.Sizes.{body_size, pdu_size, window_size}
-use Rattle.answers.specs.declared.Answer.TheVariants.{Done}
+use Rattle.answers.specs.Answer.{Done}
 use Rattle.pdu.specs.declared.Header.{Header}
 use Rattle.pdu.specs.Header.{datagram, body_of}
-use Rattle.reader.specs.declared.Reading.{Reading}
-use Rattle.reader.specs.Reading.{reading}
+use Rattle.reader.specs.Reading.{Reading, reading}
 use Rattle.writer.proofs.Returns.{Sized}
 use Rattle.writer.proofs.RoundTrip.{Fits, read-written, kind-written, body-written}
-use Rattle.bodies.specs.declared.FackReading.{FackReading}
-use Rattle.bodies.specs.Fack.{fack_bytes, fack_fields, fack_reading}
+use Rattle.bodies.specs.Fack.{FackReading, fack_bytes, fack_fields, fack_reading}
 use Rattle.bodies.proofs.RoundTrip.{read-written-fack}
 use Rattle.calls.specs.Sent.{Posting, sent_bytes}
 use Rattle.calls.proofs.PostLaws.{whole, whole_bytes}

@@ -1,14 +1,11 @@
 -- What a fack tells its reader, and that a PDU is none.
 use Rattle.std.specs.Prelude.{ℕ, ◌+◌, ◌<◌, true, List, ◌⊎◌, ◌≡◌, get_or}
 use Rattle.words.specs.Bit.{bit}
-use Rattle.answers.specs.declared.Answer.TheVariants.{Done}
+use Rattle.answers.specs.Answer.{Done}
 use Rattle.pdu.specs.Header.{body_of}
 use Rattle.reader.specs.Reading.{reading}
-use Rattle.bodies.specs.declared.FackReading.{FackReading}
-use Rattle.bodies.specs.Fack.{fack_reading}
-use Rattle.calls.specs.declared.Sent.{Sent}
-use Rattle.calls.specs.declared.Sent.TheVariants.{Nothing as Unsent}
-use Rattle.calls.specs.Sent.{sent_bytes}
+use Rattle.bodies.specs.Fack.{FackReading, fack_reading}
+use Rattle.calls.specs.Sent.{Sent, Nothing as Unsent, sent_bytes}
 use Rattle.incoming.specs.declared.Incoming.{Incoming}
 use Rattle.incoming.specs.Slots.{missing, contiguous}
 use Rattle.facks.specs.Mask.{acknowledged_by, held_bit}

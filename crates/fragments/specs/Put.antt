@@ -3,8 +3,7 @@ use Rattle.std.specs.Prelude.{ℕ, List}
 use Rattle.incoming.specs.declared.Incoming.{Incoming}
 use Rattle.incoming.specs.Slots.{contiguous, complete, stored}
 use Rattle.fragments.specs.declared.Fragment.{Fragment}
-use Rattle.fragments.specs.declared.Stored.{Stored}
-use Rattle.fragments.specs.declared.Stored.TheVariants.{Nothing, At}
+use Rattle.fragments.specs.Stored.{Stored, Nothing, At}
 use Rattle.fragments.specs.Fragment.{is_last, wants_fack}
 use Rattle.fragments.specs.Slots.{filled}
 

@@ -69,11 +69,7 @@ pub struct Fragment {
 }
 
 // What of an arriving body is stored: nothing, or all of it as the fragment of that number.
-#[derive(Clone, Copy)]
-pub enum Stored {
-    Nothing,
-    At(u16),
-}
+pub type Stored = Option<u16>;
 
 // The slot of number f; beyond the window it is a missing one.
 fn slot_of(slots: [Slot; WINDOW_SIZE as usize], f: u16) -> Slot
@@ -119,8 +115,8 @@ fn above_last(last: Last, f: u16) -> bool
     ensures { result ≡ above_last last f }
 {
     match last {
-        Last::Unknown => false,
-        Last::At(number) => number < f,
+        None => false,
+        Some(number) => number < f,
     }
 }
 
@@ -129,8 +125,8 @@ fn other_last(last: Last, f: u16, is_last: bool) -> bool
     ensures { result ≡ other_last last f is_last }
 {
     match last {
-        Last::Unknown => false,
-        Last::At(number) => words::both(is_last, number != f),
+        None => false,
+        Some(number) => words::both(is_last, number != f),
     }
 }
 
@@ -168,8 +164,8 @@ pub fn store(place: Stored, body: &[u8], slots: &mut [u8])
     ensures { slots.new ≡ storing place body.now slots.old }
 {
     match place {
-        Stored::Nothing => {}
-        Stored::At(f) => fill(slots, f, body),
+        None => {}
+        Some(f) => fill(slots, f, body),
     }
 }
 

@@ -13,8 +13,7 @@ use Rattle.incoming.specs.Slots.{cleared}
 use Rattle.outgoing.specs.declared.Outgoing.{Outgoing}
 use Rattle.outgoing.specs.Sending.{no_message, bounded, has_nothing}
 use Rattle.outgoing.proofs.SendLaws.{bounded_holds}
-use Rattle.timers.specs.declared.Timer.{Timer}
-use Rattle.timers.specs.declared.Timer.TheVariants.{Off}
+use Rattle.timers.specs.Timer.{Timer, Off}
 use Rattle.timers.specs.Tickets.{timer_sound}
 use Rattle.timers.proofs.TimerLaws.{off-sound}
 use Rattle.client.specs.declared.records.State.{State as ClientState}

@@ -6,10 +6,10 @@ use mathlib.Core.Logic.{◌⊎◌, inl, inr}
 use mathlib.Core.Path.{◌≡◌, refl, sym, ap, subst, ◌∙◌}
 use native.Mathlib.Omega.{arith}
 use lib.ListN.{length}
-use Rattle.answers.specs.declared.Answer.TheVariants.{Done}
+use Rattle.answers.specs.Answer.{Done}
 use Rattle.answers.specs.declared.Refusal.TheVariants.{NoRow}
 use Rattle.answers.proofs.NumberLaws.{done_or_not}
-use Rattle.bodies.specs.declared.CancelReading.{CancelReading}
+use Rattle.bodies.specs.Cancel.{CancelReading}
 use Rattle.bodies.proofs.CancelTrip.{cancel-read}
 use Rattle.calls.specs.declared.Notice.{Notice}
 use Rattle.calls.specs.declared.Notice.TheVariants.{Nothing as Untold, Last, Count, Fault as FaultNotice, Reject, Cause, Dispatch, Cancel as CancelTold}
@@ -23,8 +23,7 @@ use Rattle.server.specs.records.Record.{holding, unarmed, with_outgoing, with_re
 use Rattle.server.specs.records.States.{never_called, is_fresh, is_idle, is_running}
 use Rattle.server.specs.declared.judge.Row.{Row}
 use Rattle.server.specs.declared.judge.Row.TheVariants.{Reply as ReplyRow, TransmitMore, TransmitRepeatable, TransmitHeld, FaultRepeatable, FaultHeld, ResendData, ResendFault, Spend, Begin, Put, Working, Nocall, Rewind, RepeatFault, Acknowledge, HearCancel, AcceptCancel, DeclineCancel}
-use Rattle.server.specs.declared.judge.Verdict.{Verdict}
-use Rattle.server.specs.declared.judge.Verdict.TheVariants.{Go}
+use Rattle.server.specs.judge.Verdict.{Verdict, Go}
 use Rattle.server.specs.judge.Rows.{timer_cell}
 use Rattle.server.specs.step.Plan.{going}
 use Rattle.server.specs.step.Steps.{answered, transmitted, repeatable, rewinding, step_of}

@@ -6,25 +6,22 @@ use mathlib.Core.Logic.{inl, inr}
 use mathlib.Core.Path.{◌≡◌, refl, sym, ap, subst, ◌∙◌}
 use native.Mathlib.Omega.{arith}
 use lib.ListN.{length}
-use Rattle.answers.specs.declared.Answer.TheVariants.{Done}
-use Rattle.bodies.specs.declared.CancelReading.{CancelReading}
-use Rattle.bodies.specs.Cancel.{cancel_bytes, cancel_reading}
+use Rattle.answers.specs.Answer.{Done}
+use Rattle.bodies.specs.Cancel.{CancelReading, cancel_bytes, cancel_reading}
 use Rattle.bodies.proofs.CancelTrip.{read-written-cancel}
 use Rattle.pdu.specs.Header.{datagram, body_of}
 use Rattle.reader.specs.Reading.{reading}
 use Rattle.calls.specs.Sent.{sent_header}
 use Rattle.writer.proofs.Returns.{Sized}
 use Rattle.writer.proofs.RoundTrip.{kind-written, number-written, body-written}
-use Rattle.timers.specs.declared.Timer.{Timer}
-use Rattle.timers.specs.declared.Timer.TheVariants.{Off, Armed}
+use Rattle.timers.specs.Timer.{Timer, Off, Armed}
 use Rattle.client.specs.declared.records.Client.{Client}
 use Rattle.client.specs.declared.records.State.{State}
 use Rattle.client.specs.declared.records.State.TheVariants.{Queued, SendFrags, Dispatched, ReceiveFrags, AckPending, Complete, Fault}
 use Rattle.client.specs.records.Record.{with_cancels, cancel_armed}
 use Rattle.client.specs.declared.step.Send.TheVariants.{Cancel as SendCancel}
 use Rattle.client.specs.declared.judge.Row.TheVariants.{Cancel}
-use Rattle.client.specs.declared.judge.Verdict.{Verdict}
-use Rattle.client.specs.declared.judge.Verdict.TheVariants.{Go}
+use Rattle.client.specs.judge.Verdict.{Verdict, Go}
 use Rattle.client.specs.judge.Rows.{one_more, cancel_row}
 use Rattle.client.specs.step.Plan.{going}
 use Rattle.client.specs.step.Steps.{cancelled, step_of}

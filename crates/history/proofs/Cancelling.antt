@@ -6,8 +6,8 @@ use mathlib.Core.Logic.{◌⊎◌, inl, inr}
 use mathlib.Core.Path.{◌≡◌, refl, sym, ap, subst, ◌∙◌}
 use native.Mathlib.Omega.{arith}
 use lib.ListN.{length, length-append}
-use Rattle.answers.specs.declared.Answer.TheVariants.{Done}
-use Rattle.timers.specs.declared.Timer.TheVariants.{Off, Armed}
+use Rattle.answers.specs.Answer.{Done}
+use Rattle.timers.specs.Timer.{Off, Armed}
 use Rattle.client.specs.declared.records.State.{State}
 use Rattle.client.specs.declared.records.State.TheVariants.{Queued, SendFrags, Dispatched as DispatchedState, ReceiveFrags, AckPending, Complete, Fault}
 use Rattle.client.specs.declared.records.Client.{Client}

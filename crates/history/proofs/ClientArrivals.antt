@@ -7,7 +7,7 @@ use mathlib.Core.Path.{◌≡◌, refl, sym, subst, ◌∙◌}
 use native.Mathlib.Omega.{arith}
 use lib.ListN.{length}
 use Rattle.words.specs.Choice.{choose}
-use Rattle.answers.specs.declared.Answer.TheVariants.{Done}
+use Rattle.answers.specs.Answer.{Done}
 use Rattle.calls.specs.declared.Notice.{Notice}
 use Rattle.fragments.specs.declared.Fragment.{Fragment}
 use Rattle.fragments.specs.Fragment.{is_last, body_length}
@@ -24,7 +24,7 @@ use Rattle.writer.proofs.RoundTrip.{body_short}
 use Rattle.client.specs.declared.records.Client.{Client}
 use Rattle.client.specs.declared.judge.Row.{Row}
 use Rattle.client.specs.declared.judge.Row.TheVariants.{Transmit, Ping, SendAck, Cancel, Response as ResponseRow, Fault, Reject, Working, Resend, GiveUp, Fack, CancelAck}
-use Rattle.client.specs.declared.judge.Verdict.{Verdict}
+use Rattle.client.specs.judge.Verdict.{Verdict}
 use Rattle.client.specs.records.States.{is_queued}
 use Rattle.client.specs.records.Record.{waiting, ack_pending, unarmed, with_incoming, with_waits}
 use Rattle.client.specs.step.Plan.{going, failed}

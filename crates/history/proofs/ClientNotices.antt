@@ -13,10 +13,7 @@ use Rattle.client.specs.declared.records.State.{State}
 use Rattle.client.specs.declared.records.State.TheVariants.{Fault as FaultState}
 use Rattle.client.specs.declared.judge.Row.{Row}
 use Rattle.client.specs.declared.judge.Row.TheVariants.{Transmit, Ping, SendAck, Cancel, Response, Fault, Reject, Working, Resend, GiveUp, Fack, CancelAck}
-use Rattle.client.specs.declared.judge.Verdict.{Verdict}
-use Rattle.client.specs.declared.judge.Verdict.TheVariants.{Refuse, Go}
-use Rattle.client.specs.declared.judge.StartVerdict.{StartVerdict}
-use Rattle.client.specs.declared.judge.StartVerdict.TheVariants.{Refuse as RefuseStart, Go as GoStart}
+use Rattle.client.specs.judge.Verdict.{Verdict, Refuse, Go, StartVerdict, Refuse as RefuseStart, Go as GoStart}
 use Rattle.client.specs.records.Record.{ack_pending, unarmed, with_incoming, with_waits}
 use Rattle.client.specs.step.Plan.{going, failed}
 use Rattle.client.specs.step.Steps.{put_record, put_notice, response_plan, working_plan, step_of}

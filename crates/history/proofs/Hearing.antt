@@ -7,8 +7,8 @@ use mathlib.Core.Path.{◌≡◌, refl, sym, ap, subst, ◌∙◌}
 use native.Mathlib.Omega.{arith}
 use lib.ListN.{length, length-append}
 use Rattle.words.specs.Choice.{choose}
-use Rattle.answers.specs.declared.Answer.TheVariants.{Done}
-use Rattle.bodies.specs.declared.CancelReading.{CancelReading}
+use Rattle.answers.specs.Answer.{Done}
+use Rattle.bodies.specs.Cancel.{CancelReading}
 use Rattle.calls.specs.declared.Notice.{Notice}
 use Rattle.calls.specs.declared.Notice.TheVariants.{Nothing as Untold, Dispatch, Cancel as CancelTold}
 use Rattle.pdu.specs.declared.Header.{Header}
@@ -19,7 +19,7 @@ use Rattle.server.specs.declared.records.State.TheVariants.{Idle as IdleState, C
 use Rattle.server.specs.declared.records.Server.{Server}
 use Rattle.server.specs.declared.judge.Row.{Row}
 use Rattle.server.specs.declared.judge.Row.TheVariants.{Reply as ReplyRow, TransmitMore, TransmitRepeatable, TransmitHeld, FaultRepeatable, FaultHeld, ResendData, ResendFault, Spend, Begin, Put, Working, Nocall, Rewind, RepeatFault, Acknowledge, HearCancel, AcceptCancel, DeclineCancel}
-use Rattle.server.specs.declared.judge.Verdict.{Verdict}
+use Rattle.server.specs.judge.Verdict.{Verdict}
 use Rattle.server.specs.records.States.{is_fresh}
 use Rattle.server.specs.records.Record.{unarmed, with_outgoing, with_incoming, with_seen}
 use Rattle.server.specs.step.Plan.{going}

@@ -7,7 +7,7 @@ use native.Mathlib.Omega.{arith}
 use native.Mathlib.Nat.{le_refl}
 use lib.ListN.{length, length-append}
 use Rattle.words.proofs.Tests.{choose_true}
-use Rattle.answers.specs.declared.Answer.TheVariants.{Done}
+use Rattle.answers.specs.Answer.{Done}
 use Rattle.calls.specs.declared.Call.{Call}
 use Rattle.fragments.specs.Joined.{Leads}
 use Rattle.fragments.proofs.PutLaws.{leads_refl, leads_trans}

@@ -14,8 +14,7 @@ use Rattle.words.specs.Sizes.{body_size, window_size, slots_size}
 use Rattle.words.proofs.Tests.{either_false}
 use Rattle.flags.specs.Flags.{last_fragment, fragment, idempotent, has_flag, with_flag}
 use Rattle.incoming.specs.declared.Slot.{Slot}
-use Rattle.incoming.specs.declared.Last.{Last}
-use Rattle.incoming.specs.declared.Last.TheVariants.{Unknown, At}
+use Rattle.incoming.specs.Last.{Last, Unknown, At}
 use Rattle.incoming.specs.declared.Incoming.{Incoming}
 use Rattle.incoming.specs.Slots.{missing, window, cleared, all_to, last_sound, sound, ready, contiguous, complete, last_with, stored}
 use Rattle.incoming.proofs.SlotLaws.{sound_all}

@@ -7,13 +7,11 @@ use lib.Dec.{eqb}
 use lib.ListN.{length}
 use borrow.Author.Tests.{eqb-true}
 use Rattle.words.proofs.Tests.{choose_false}
-use Rattle.answers.specs.declared.Answer.{Answer}
-use Rattle.answers.specs.declared.Answer.TheVariants.{Done}
+use Rattle.answers.specs.Answer.{Answer, Done}
 use Rattle.answers.specs.Number.{number_of}
 use Rattle.calls.specs.declared.Notice.TheVariants.{Nothing as Untold}
-use Rattle.calls.specs.declared.Sent.TheVariants.{Nothing}
-use Rattle.timers.specs.declared.Timer.{Timer}
-use Rattle.timers.specs.declared.Timer.TheVariants.{Off, Armed}
+use Rattle.calls.specs.Sent.{Nothing}
+use Rattle.timers.specs.Timer.{Timer, Off, Armed}
 use Rattle.timers.specs.Tickets.{armed_with}
 use Rattle.answers.proofs.NumberLaws.{zero_done}
 use Rattle.client.specs.declared.records.TimerKind.{TimerKind}

@@ -10,12 +10,10 @@ use lib.ListN.{length}
 use borrow.Author.Tests.{eqb-true, eqb-false}
 use Rattle.words.specs.Choice.{choose}
 use Rattle.words.specs.Sizes.{pdu_size}
-use Rattle.answers.specs.declared.Answer.{Answer}
-use Rattle.answers.specs.declared.Answer.TheVariants.{Done}
+use Rattle.answers.specs.Answer.{Answer, Done}
 use Rattle.bodies.specs.Cancel.{cancel_reading}
 use Rattle.fragments.specs.declared.Fragment.{Fragment}
-use Rattle.fragments.specs.declared.Stored.{Stored}
-use Rattle.fragments.specs.declared.Stored.TheVariants.{Nothing as Unstored}
+use Rattle.fragments.specs.Stored.{Stored, Nothing as Unstored}
 use Rattle.fragments.specs.Fragment.{is_last}
 use Rattle.fragments.specs.Put.{put_of, storing}
 use Rattle.fragments.proofs.PutLaws.{CanPut}
@@ -30,7 +28,7 @@ use Rattle.server.specs.declared.records.Server.{Server}
 use Rattle.server.specs.declared.judge.Order.TheVariants.{Equal, Newer}
 use Rattle.server.specs.declared.judge.Row.{Row}
 use Rattle.server.specs.declared.judge.Row.TheVariants.{Reply, TransmitMore, TransmitRepeatable, TransmitHeld, FaultRepeatable, FaultHeld, ResendData, ResendFault, Spend, Begin, Put, Working, Nocall, Rewind, RepeatFault, Acknowledge, HearCancel, AcceptCancel, DeclineCancel}
-use Rattle.server.specs.declared.judge.Verdict.{Verdict}
+use Rattle.server.specs.judge.Verdict.{Verdict}
 use Rattle.server.specs.records.States.{is_fresh}
 use Rattle.server.specs.records.Record.{with_outgoing}
 use Rattle.server.specs.judge.Rows.{order_for, request_put}

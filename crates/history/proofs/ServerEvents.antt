@@ -9,7 +9,7 @@ use lib.ListN.{length}
 use Rattle.words.specs.Choice.{choose}
 use Rattle.words.specs.Sizes.{pdu_size}
 use Rattle.answers.specs.declared.Refusal.TheVariants.{NoRow}
-use Rattle.answers.specs.declared.Answer.TheVariants.{Done}
+use Rattle.answers.specs.Answer.{Done}
 use Rattle.outgoing.proofs.OutgoingLaws.{fragment_most}
 use Rattle.outgoing.specs.Message.{fragment_of}
 use Rattle.outgoing.specs.declared.Outgoing.{Outgoing}
@@ -20,8 +20,7 @@ use Rattle.server.specs.declared.records.State.TheVariants.{Running, Replying}
 use Rattle.server.specs.declared.records.Server.{Server}
 use Rattle.server.specs.declared.judge.Row.{Row}
 use Rattle.server.specs.declared.judge.Row.TheVariants.{Reply, TransmitMore, TransmitRepeatable, TransmitHeld, FaultRepeatable, FaultHeld, ResendData, ResendFault, Spend}
-use Rattle.server.specs.declared.judge.Verdict.{Verdict}
-use Rattle.server.specs.declared.judge.Verdict.TheVariants.{Go}
+use Rattle.server.specs.judge.Verdict.{Verdict, Go}
 use Rattle.server.specs.declared.step.Send.{Send}
 use Rattle.server.specs.declared.step.Send.TheVariants.{Response as SendResponse}
 use Rattle.server.specs.records.States.{is_fresh, is_replying}

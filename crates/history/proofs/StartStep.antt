@@ -7,14 +7,13 @@ use mathlib.Core.Path.{◌≡◌, refl, sym, ap, subst, ◌∙◌}
 use native.Mathlib.Omega.{arith}
 use lib.ListN.{length, length-append}
 use Rattle.words.specs.Choice.{choose}
-use Rattle.answers.specs.declared.Answer.TheVariants.{Done}
+use Rattle.answers.specs.Answer.{Done}
 use Rattle.calls.specs.declared.Call.{Call}
 use Rattle.outgoing.specs.Sending.{started_message, message_of}
 use Rattle.pdu.specs.declared.Header.{Header}
 use Rattle.client.specs.declared.records.Client.{Client}
 use Rattle.client.specs.records.States.{is_queued, is_active}
-use Rattle.client.specs.declared.judge.StartVerdict.{StartVerdict}
-use Rattle.client.specs.declared.judge.StartVerdict.TheVariants.{Go}
+use Rattle.client.specs.judge.Verdict.{StartVerdict, Go}
 use Rattle.client.specs.judge.Rows.{next_number}
 use Rattle.client.specs.step.Steps.{started}
 use Rattle.client.proofs.StepLaws.{next_number_lem, started-sound}

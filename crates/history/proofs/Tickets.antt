@@ -5,7 +5,7 @@ use mathlib.Core.Logic.{◌⊎◌, inl, inr}
 use mathlib.Core.Path.{◌≡◌, refl}
 use native.Mathlib.Omega.{arith}
 use Rattle.reader.specs.Reading.{reading}
-use Rattle.timers.specs.declared.Timer.TheVariants.{Armed}
+use Rattle.timers.specs.Timer.{Armed}
 use Rattle.timers.proofs.TimerLaws.{Moved, stays_moved}
 use Rattle.client.specs.declared.records.Client.{Client}
 use Rattle.client.specs.declared.records.TimerKind.TheVariants.{Wait, Ack, Cancel}

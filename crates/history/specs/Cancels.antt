@@ -2,12 +2,12 @@
 use Rattle.std.specs.Prelude.{ℕ, ◌+◌, ◌≤◌, ◌<◌, Bool, true, false, List, ◌∷◌, ◌++◌, ◌⊎◌, ◌≡◌, eqb, length}
 use Rattle.words.specs.Choice.{both}
 use Rattle.words.specs.Sizes.{pdu_size, slots_size}
-use Rattle.answers.specs.declared.Answer.TheVariants.{Done}
+use Rattle.answers.specs.Answer.{Done}
 use Rattle.calls.specs.declared.Notice.TheVariants.{Cancel as CancelTold}
 use Rattle.bodies.specs.Cancel.{cancel_reading, cancel_ack_reading}
 use Rattle.pdu.specs.Header.{body_of}
 use Rattle.reader.specs.Reading.{reading}
-use Rattle.timers.specs.declared.Timer.TheVariants.{Off, Armed}
+use Rattle.timers.specs.Timer.{Off, Armed}
 use Rattle.client.specs.declared.records.Client.{Client}
 use Rattle.client.specs.declared.records.TimerKind.TheVariants.{Cancel}
 use Rattle.history.specs.Lists.{In, and_then, how_many}

@@ -1,6 +1,6 @@
 -- The premises of document 01, of events that are answered 0. A refused event is bound by none of them.
 use Rattle.std.specs.Prelude.{ℕ, ◌<◌, List, [], ◌∷◌, ◌≡◌, length}
-use Rattle.answers.specs.declared.Answer.TheVariants.{Done}
+use Rattle.answers.specs.Answer.{Done}
 use Rattle.calls.specs.declared.Call.{Call}
 use Rattle.history.specs.Lists.{In, OfLast}
 use Rattle.history.specs.World.{Started, Replied, SentPdu, World}

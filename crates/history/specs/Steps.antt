@@ -2,20 +2,18 @@
 -- public function cites.
 use Rattle.std.specs.Prelude.{ℕ, ◌-◌, Bool, List, [], ◌∷◌, eqb, length}
 use Rattle.words.specs.Choice.{choose}
-use Rattle.answers.specs.declared.Answer.{Answer}
+use Rattle.answers.specs.Answer.{Answer}
 use Rattle.answers.specs.Number.{number_of}
 use Rattle.bodies.specs.Cancel.{cancel_reading}
 use Rattle.calls.specs.declared.Call.{Call}
 use Rattle.calls.specs.declared.Notice.{Notice}
 use Rattle.calls.specs.declared.Notice.TheVariants.{Nothing as Untold, Last, Count, Fault as FaultNotice, Reject, Cause, Dispatch, Cancel}
-use Rattle.calls.specs.declared.Sent.{Sent}
-use Rattle.calls.specs.declared.Sent.TheVariants.{Nothing, Pdu}
+use Rattle.calls.specs.Sent.{Sent, Nothing, Pdu, sent_bytes}
 use Rattle.pdu.specs.Header.{body_of}
 use Rattle.reader.specs.Reading.{reading}
 use Rattle.client.specs.declared.records.Client.{Client}
 use Rattle.client.specs.declared.Outcome.{Outcome as ClientOutcome}
 use Rattle.client.specs.HandUp.{hands_up as client_hands_up}
-use Rattle.calls.specs.Sent.{sent_bytes}
 use Rattle.calls.specs.Events.{Step, Arrival}
 use Rattle.client.specs.Machine.{starting, transmitting as client_transmitting, timing as client_timing, cancelling, arriving as client_arriving}
 use Rattle.server.specs.declared.records.Server.{Server}

@@ -1,11 +1,10 @@
 -- Timers: a late one changes nothing, a ticket acts once, and none is armed where no state names it.
 use Rattle.std.specs.Prelude.{ℕ, Bool, true, false, List, ◌++◌, ◌⊎◌, ◌≡◌}
-use Rattle.answers.specs.declared.Answer.TheVariants.{Done}
+use Rattle.answers.specs.Answer.{Done}
 use Rattle.calls.specs.declared.Notice.TheVariants.{Nothing as Untold}
 use Rattle.incoming.specs.declared.Incoming.{Incoming}
 use Rattle.reader.specs.Reading.{reading}
-use Rattle.timers.specs.declared.Timer.{Timer}
-use Rattle.timers.specs.declared.Timer.TheVariants.{Off, Armed}
+use Rattle.timers.specs.Timer.{Timer, Off, Armed}
 use Rattle.client.specs.declared.records.State.{State as ClientState}
 use Rattle.client.specs.declared.records.State.TheVariants.{Queued, SendFrags, Dispatched as DispatchedState, ReceiveFrags, AckPending, Complete, Fault as FaultState}
 use Rattle.client.specs.declared.records.TimerKind.{TimerKind}

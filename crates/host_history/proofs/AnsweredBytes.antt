@@ -11,12 +11,11 @@ use Rattle.words.specs.Choice.{choose}
 use Rattle.words.specs.Place.{placed}
 use Rattle.words.proofs.Tests.{choose_true, both_true}
 use Rattle.answers.specs.declared.Refusal.TheVariants.{WrongLength, BrokenRecord}
-use Rattle.answers.specs.declared.Answer.{Answer}
-use Rattle.answers.specs.declared.Answer.TheVariants.{Done}
+use Rattle.answers.specs.Answer.{Answer, Done}
 use Rattle.answers.specs.Number.{number_of}
 use Rattle.answers.proofs.NumberLaws.{refused_not_done}
 use Rattle.calls.specs.declared.Notice.{Notice}
-use Rattle.calls.specs.declared.Sent.{Sent}
+use Rattle.calls.specs.Sent.{Sent}
 use Rattle.record_bytes.specs.Fits.{Octets, Uuid, FitsCall}
 use Rattle.record_bytes.proofs.Keeping.{choice_by}
 use Rattle.client.specs.declared.records.TimerKind.TheVariants.{Wait, Ack, Cancel}

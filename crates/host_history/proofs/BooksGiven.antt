@@ -2,8 +2,7 @@
 use mathlib.Core.Bool.{true}
 use mathlib.Core.Path.{◌≡◌, refl, ap}
 use Rattle.words.proofs.Tests.{choose_true, choose_false}
-use Rattle.answers.specs.declared.Answer.{Answer}
-use Rattle.answers.specs.declared.Answer.TheVariants.{Done}
+use Rattle.answers.specs.Answer.{Answer, Done}
 use Rattle.record_bytes.specs.Layout.{fields_in}
 use Rattle.client_bytes.specs.Layout.{client_in, client_of}
 use Rattle.history.specs.Steps.{is_done}

@@ -11,16 +11,14 @@ use lib.ListN.{length, length-drop}
 use borrow.Author.Tests.{eqb-true}
 use Rattle.words.specs.Choice.{choose}
 use Rattle.words.specs.Sizes.{header_size}
-use Rattle.answers.specs.declared.Answer.TheVariants.{Done}
-use Rattle.bodies.specs.declared.CancelReading.{CancelReading}
-use Rattle.bodies.specs.declared.CancelAckReading.{CancelAckReading}
-use Rattle.bodies.specs.Cancel.{cancel_ack_reading}
+use Rattle.answers.specs.Answer.{Done}
+use Rattle.bodies.specs.Cancel.{CancelReading, CancelAckReading, cancel_ack_reading}
 use Rattle.bodies.proofs.CancelTrip.{cancel-read, cancel-ack-read}
 use Rattle.calls.specs.declared.Notice.{Notice}
 use Rattle.calls.specs.declared.Notice.TheVariants.{Nothing as Untold, Last, Count, Fault, Reject, Cause, Dispatch, Cancel}
 use Rattle.pdu.specs.Header.{body_of}
 use Rattle.reader.specs.Reading.{reading}
-use Rattle.timers.specs.declared.Timer.TheVariants.{Armed}
+use Rattle.timers.specs.Timer.{Armed}
 use Rattle.timers.proofs.TimerLaws.{off_has_none}
 use Rattle.record_bytes.specs.Layout.{fields_in}
 use Rattle.record_bytes.proofs.PartLaws.{uuid-part}

@@ -9,7 +9,7 @@ use lib.ListN.{length}
 use borrow.Author.Tests.{eq-eqb, eqb-true}
 use Rattle.words.specs.Choice.{choose, both}
 use Rattle.words.specs.Place.{placed}
-use Rattle.answers.specs.declared.Answer.TheVariants.{Done}
+use Rattle.answers.specs.Answer.{Done}
 use Rattle.words.proofs.Tests.{choose_true, both_true}
 use Rattle.words.proofs.Number.{part_all}
 use Rattle.calls.specs.declared.Call.{Call}

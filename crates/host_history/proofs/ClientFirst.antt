@@ -8,7 +8,7 @@ use lib.ListN.{length}
 use borrow.Author.Tests.{not-false}
 use Rattle.words.specs.Choice.{choose, both}
 use Rattle.words.specs.Sizes.{pdu_size, message_size}
-use Rattle.answers.specs.declared.Answer.{Answer}
+use Rattle.answers.specs.Answer.{Answer}
 use Rattle.answers.proofs.TableLaws.{passed_parts}
 use Rattle.calls.specs.declared.Call.{Call}
 use Rattle.fragments.specs.Fragment.{lent_right}
@@ -19,10 +19,7 @@ use Rattle.record_bytes.proofs.Keeping.{choice_keeps}
 use Rattle.client.specs.declared.records.Client.{Client}
 use Rattle.client.specs.declared.records.TimerKind.{TimerKind}
 use Rattle.client.specs.declared.records.TimerKind.TheVariants.{Wait, Ack, Cancel}
-use Rattle.client.specs.declared.judge.Verdict.{Verdict}
-use Rattle.client.specs.declared.judge.Verdict.TheVariants.{Refuse, Go}
-use Rattle.client.specs.declared.judge.StartVerdict.{StartVerdict}
-use Rattle.client.specs.declared.judge.StartVerdict.TheVariants.{Refuse as RefuseStart}
+use Rattle.client.specs.judge.Verdict.{Verdict, Refuse, Go, StartVerdict, Refuse as RefuseStart}
 use Rattle.client.specs.records.Rules.{sound}
 use Rattle.client.specs.records.States.{is_sending}
 use Rattle.client.specs.judge.Rows.{is_row}

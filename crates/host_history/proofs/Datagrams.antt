@@ -13,12 +13,11 @@ use Rattle.words.specs.Choice.{choose, either}
 use Rattle.words.specs.Number.{part, value, number}
 use Rattle.words.specs.Sizes.{header_size}
 use Rattle.words.proofs.Tests.{both_true}
-use Rattle.answers.specs.declared.Answer.TheVariants.{Done}
+use Rattle.answers.specs.Answer.{Done}
 use Rattle.answers.proofs.NumberLaws.{zero_done}
 use Rattle.pdu.specs.declared.Header.{Header}
 use Rattle.pdu.specs.Header.{header_of, body_of}
-use Rattle.reader.specs.declared.Reading.{Reading}
-use Rattle.reader.specs.Reading.{order_is, reading}
+use Rattle.reader.specs.Reading.{Reading, order_is, reading}
 use Rattle.reader.proofs.Readable.{accepted_readable, accepted_reading}
 use Rattle.record_bytes.proofs.Keeping.{choice_keeps}
 use Rattle.client.proofs.Accepting.{arrive_accepted}

@@ -13,14 +13,13 @@ use Rattle.words.specs.Sizes.{pdu_size, message_size}
 use Rattle.words.proofs.Tests.{both_true}
 use Rattle.answers.specs.declared.Refusal.{Refusal}
 use Rattle.answers.specs.declared.Refusal.TheVariants.{WrongLength, BrokenRecord, NoRow}
-use Rattle.answers.specs.declared.Answer.{Answer}
-use Rattle.answers.specs.declared.Answer.TheVariants.{Done, Refused}
+use Rattle.answers.specs.Answer.{Answer, Done, Refused, Ok}
 use Rattle.answers.specs.Number.{refusal_number, number_of}
 use Rattle.answers.specs.Table.{Line, ◌when◌, first_of, answer_of, behind_answer, rises_from}
 use Rattle.answers.proofs.NumberLaws.{refusal_numbered}
 use Rattle.answers.proofs.TableLaws.{AllPassed, by_answer, answer_done}
 use Rattle.calls.specs.declared.Notice.{Notice}
-use Rattle.calls.specs.declared.Sent.{Sent}
+use Rattle.calls.specs.Sent.{Sent}
 use Rattle.morphelai.specs.Result.{result_of}
 use Rattle.morphelai.specs.Export.{Export, refusing, other_timer, other_kind}
 use Rattle.host_history.specs.Results.{answer_in}
@@ -83,7 +82,7 @@ module _ {A : Type 0} (refuse : Refusal → A) (answer : A → Answer)
       subst (λ (v : A). is_one (answer v) ≡ false) (sym (by_answer refuse more behind)) (by_case (answer_of more) refl)
     where
       by_case : (a : Answer) → answer_of more ≡ a → is_one (answer (behind_answer refuse behind a)) ≡ false
-      by_case Done e = passes (answer_done more e)
+      by_case (Ok tt) e = passes (answer_done more e)
       by_case (Refused r) e =
           ap is_one (told r)
           ∙ ne_eqb (refusal_number r) 1 (λ (is : refusal_number r ≡ 1). omega (arith, is, refuses_above 2 more rises r e))

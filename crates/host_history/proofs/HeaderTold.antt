@@ -14,12 +14,11 @@ use Rattle.words.specs.Place.{put_at, placed}
 use Rattle.words.specs.Sizes.{header_size}
 use Rattle.words.proofs.Number.{part_all}
 use Rattle.words.proofs.Tests.{choose_true}
-use Rattle.answers.specs.declared.Answer.TheVariants.{Done}
+use Rattle.answers.specs.Answer.{Done}
 use Rattle.answers.specs.Number.{number_of}
 use Rattle.pdu.specs.declared.Header.{Header}
 use Rattle.pdu.specs.Header.{header_of, header_bytes, datagram, body_of}
-use Rattle.reader.specs.declared.Reading.{Reading}
-use Rattle.reader.specs.Reading.{order_is, reading}
+use Rattle.reader.specs.Reading.{Reading, order_is, reading}
 use Rattle.writer.specs.Writing.{writing}
 use Rattle.writer.proofs.Returns.{Sized, length-header}
 use Rattle.reader.proofs.Readable.{accepted_readable, accepted_reading}

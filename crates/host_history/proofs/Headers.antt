@@ -7,8 +7,7 @@ use native.Mathlib.Omega.{arith}
 use lib.ListN.{length}
 use Rattle.words.specs.Number.{turned, part}
 use Rattle.words.specs.Sizes.{header_size}
-use Rattle.answers.specs.declared.Answer.{Answer}
-use Rattle.answers.specs.declared.Answer.TheVariants.{Done, Refused}
+use Rattle.answers.specs.Answer.{Answer, Done, Refused, Ok}
 use Rattle.answers.specs.Table.{answer_of}
 use Rattle.pdu.specs.declared.Header.{Header}
 use Rattle.bodies.specs.Cancel.{cancel_number_in}
@@ -71,7 +70,7 @@ blank_fits = record {
 -- and so what reading gives of any bytes.
 read_fits : (a : Answer) (little : Bool) (h : Header) → FitsHeader h → FitsHeader (read_by a little h).header
 unfolding read_by
-read_fits Done little h fits = fits
+read_fits (Ok tt) little h fits = fits
 read_fits (Refused r) little h fits = blank_fits
 
 pub reading_fits : (s : List ℕ) → Octets s → FitsHeader (reading s).header

@@ -5,7 +5,7 @@ use mathlib.Core.List.{List, [], ◌∷◌, ◌++◌, append_assoc, append-nil}
 use mathlib.Core.Logic.{inl, inr}
 use mathlib.Core.Path.{◌≡◌, refl, sym, ap, subst, ◌∙◌}
 use Rattle.words.specs.Choice.{choose}
-use Rattle.timers.specs.declared.Timer.TheVariants.{Armed}
+use Rattle.timers.specs.Timer.{Armed}
 use Rattle.fragments.specs.Joined.{Leads}
 use Rattle.record_bytes.specs.Layout.{fields_in}
 use Rattle.client_bytes.specs.Layout.{state_of, client_of, client_in}

@@ -11,14 +11,12 @@ use Rattle.words.specs.Sizes.{pdu_size}
 use Rattle.words.proofs.Tests.{choose_false}
 use Rattle.answers.specs.declared.Refusal.{Refusal}
 use Rattle.answers.specs.declared.Refusal.TheVariants.{WrongLength, BrokenRecord, NoRow}
-use Rattle.answers.specs.declared.Answer.{Answer}
-use Rattle.answers.specs.declared.Answer.TheVariants.{Done, Refused as RefusedBy}
+use Rattle.answers.specs.Answer.{Answer, Done, Refused as RefusedBy}
 use Rattle.answers.specs.Number.{refusal_number, number_of}
 use Rattle.answers.proofs.NumberLaws.{refused_not_done, zero_done}
 use Rattle.calls.specs.declared.Notice.{Notice}
 use Rattle.calls.specs.declared.Notice.TheVariants.{Nothing as Untold}
-use Rattle.calls.specs.declared.Sent.{Sent}
-use Rattle.calls.specs.declared.Sent.TheVariants.{Nothing}
+use Rattle.calls.specs.Sent.{Sent, Nothing}
 use Rattle.history.specs.Steps.{is_done}
 use Rattle.record_bytes.proofs.Keeping.{choice_keeps}
 use Rattle.morphelai.specs.Result.{result_of}

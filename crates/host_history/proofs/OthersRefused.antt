@@ -8,8 +8,7 @@ use lib.Dec.{eqb}
 use lib.ListN.{length}
 use borrow.Author.Tests.{eqb-true}
 use Rattle.words.specs.Sizes.{header_size}
-use Rattle.answers.specs.declared.Answer.{Answer}
-use Rattle.answers.specs.declared.Answer.TheVariants.{Done, Refused}
+use Rattle.answers.specs.Answer.{Answer, Done, Refused, Ok}
 use Rattle.answers.specs.Number.{number_of}
 use Rattle.answers.specs.Table.{answer_of}
 use Rattle.pdu.specs.declared.Header.{Header}
@@ -52,7 +51,7 @@ read_leaves datagram out =
 written_leaves : (a : Answer) (h : Header) (body out : List ℕ)
     → ((codec_written (write_by a h body out)).result % 256 ≡ 0 → ⊥) → (codec_written (write_by a h body out)).out ≡ out
 unfolding codec_written written_result write_by packed
-written_leaves Done h body out other = absurd (other (omega arith))
+written_leaves (Ok tt) h body out other = absurd (other (omega arith))
 written_leaves (Refused r) h body out other = refl
 
 pub write_leaves : (header body out : List ℕ) → ((codec_write header body out).result % 256 ≡ 0 → ⊥)

@@ -6,7 +6,7 @@ use mathlib.Core.List.{List, []}
 use mathlib.Core.Path.{◌≡◌, refl}
 use lib.Dec.{eqb}
 use Rattle.words.specs.Choice.{choose}
-use Rattle.answers.specs.declared.Answer.TheVariants.{Done}
+use Rattle.answers.specs.Answer.{Done}
 use Rattle.calls.specs.declared.Call.{Call}
 use Rattle.calls.specs.Events.{Step}
 use Rattle.record_bytes.proofs.Keeping.{choice_keeps}

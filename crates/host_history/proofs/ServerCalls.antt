@@ -9,8 +9,7 @@ use borrow.Author.Tests.{eq-eqb}
 use Rattle.words.specs.Choice.{choose}
 use Rattle.words.specs.Place.{placed}
 use Rattle.words.proofs.Tests.{choose_true}
-use Rattle.answers.specs.declared.Answer.{Answer}
-use Rattle.answers.specs.declared.Answer.TheVariants.{Done}
+use Rattle.answers.specs.Answer.{Answer, Done}
 use Rattle.record_bytes.specs.Fits.{Octets}
 use Rattle.server.specs.declared.records.Server.{Server}
 use Rattle.server.specs.records.Rules.{sound}

@@ -7,7 +7,7 @@ use lib.Dec.{eqb, leb}
 use lib.ListN.{length}
 use Rattle.words.specs.Choice.{choose, both}
 use Rattle.words.specs.Sizes.{pdu_size, message_size}
-use Rattle.answers.specs.declared.Answer.{Answer}
+use Rattle.answers.specs.Answer.{Answer}
 use Rattle.answers.proofs.TableLaws.{passed_parts}
 use Rattle.fragments.specs.Fragment.{lent_right}
 use Rattle.outgoing.specs.Lent.{transmit_lent}
@@ -15,8 +15,7 @@ use Rattle.pdu.specs.Header.{body_of}
 use Rattle.reader.specs.Reading.{read_refusals, reading}
 use Rattle.record_bytes.proofs.Keeping.{choice_keeps}
 use Rattle.server.specs.declared.records.Server.{Server}
-use Rattle.server.specs.declared.judge.Verdict.{Verdict}
-use Rattle.server.specs.declared.judge.Verdict.TheVariants.{Refuse}
+use Rattle.server.specs.judge.Verdict.{Verdict, Refuse}
 use Rattle.server.specs.records.Rules.{sound}
 use Rattle.server.specs.records.States.{is_replying}
 use Rattle.server.specs.judge.Rows.{timer_cell}

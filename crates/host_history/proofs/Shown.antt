@@ -7,8 +7,7 @@ use lib.ListN.{length}
 use borrow.Author.Tests.{eqb-false}
 use Rattle.words.specs.Choice.{choose}
 use Rattle.words.specs.Place.{placed}
-use Rattle.answers.specs.declared.Answer.{Answer}
-use Rattle.answers.specs.declared.Answer.TheVariants.{Done}
+use Rattle.answers.specs.Answer.{Answer, Done}
 use Rattle.answers.specs.Number.{number_of}
 use Rattle.record_bytes.proofs.HeldLaws.{placed_all}
 use Rattle.record_bytes.proofs.Keeping.{choice_by}

@@ -9,16 +9,12 @@ use borrow.Author.Tests.{eqb-false}
 use Rattle.words.specs.Sizes.{pdu_size}
 use Rattle.pdu.specs.declared.Header.{Header}
 use Rattle.writer.specs.Writing.{writing}
-use Rattle.calls.specs.declared.Sent.TheVariants.{Nothing as Unsent, Pdu}
-use Rattle.calls.specs.Sent.{sent_of, posting}
+use Rattle.calls.specs.Sent.{Nothing as Unsent, Pdu, sent_of, posting}
 use Rattle.calls.specs.Events.{Step, Arrival}
 use Rattle.record_bytes.proofs.Keeping.{choice_by}
 use Rattle.calls.specs.declared.Call.{Call}
 use Rattle.client.specs.declared.records.Client.{Client}
-use Rattle.client.specs.declared.judge.Verdict.{Verdict}
-use Rattle.client.specs.declared.judge.Verdict.TheVariants.{Refuse, Go}
-use Rattle.client.specs.declared.judge.StartVerdict.{StartVerdict}
-use Rattle.client.specs.declared.judge.StartVerdict.TheVariants.{Refuse as RefuseStart, Go as GoStart}
+use Rattle.client.specs.judge.Verdict.{Verdict, Refuse, Go, StartVerdict, Refuse as RefuseStart, Go as GoStart}
 use Rattle.client.specs.declared.step.Send.{Send as ClientSend}
 use Rattle.client.specs.declared.step.Send.TheVariants.{Nothing as NoneOfClient, Request, Ping, Ack, Fack as FackOfClient, Cancel}
 use Rattle.client.specs.Sending.{sent_out as client_sent, request_sent, empty_sent as client_empty, fack_sent as client_fack, cancel_sent}

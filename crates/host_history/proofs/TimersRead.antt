@@ -10,7 +10,7 @@ use lib.ListN.{get_or}
 use borrow.Author.Tests.{eqb-true, ne_eqb}
 use Rattle.words.specs.Choice.{choose}
 use Rattle.words.proofs.Tests.{choose_false, both_true}
-use Rattle.timers.specs.declared.Timer.TheVariants.{Off, Armed}
+use Rattle.timers.specs.Timer.{Off, Armed}
 use Rattle.record_bytes.specs.Parts.{timer_where, is_armed, timer_ticket}
 use Rattle.record_bytes.specs.Layout.{readable as shared_readable, fields_in}
 use Rattle.record_bytes.proofs.Keeping.{choice_by}

@@ -3,8 +3,7 @@ use Prim.Native.Nat.{ℕ}
 use mathlib.Core.List.{List}
 use mathlib.Core.Path.{◌≡◌, refl}
 use Rattle.words.proofs.Tests.{choose_false}
-use Rattle.answers.specs.declared.Answer.{Answer}
-use Rattle.answers.specs.declared.Answer.TheVariants.{Done}
+use Rattle.answers.specs.Answer.{Answer, Done}
 use Rattle.client.specs.declared.records.Client.{Client}
 use Rattle.server.specs.declared.records.Server.{Server}
 use Rattle.history.specs.World.{Started, Cancelled, Side, Books, World}

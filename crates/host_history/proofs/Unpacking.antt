@@ -8,14 +8,12 @@ use Rattle.words.specs.Choice.{choose}
 use Rattle.words.specs.Sizes.{pdu_size}
 use Rattle.words.proofs.Tests.{choose_false}
 use Rattle.answers.specs.declared.Refusal.TheVariants.{WrongLength, BrokenRecord, ShortDatagram, WrongVersion, UnknownType, UnknownRepresentation, Authenticated, WrongBodyLength, OtherActivity, WrongSide, MaybeOrBroadcast, WrongFragment, OldCall, MalformedBody, NoRow, Repeated, Contradiction, LateTimer, NumbersUsedUp, TicketsUsedUp}
-use Rattle.answers.specs.declared.Answer.{Answer}
-use Rattle.answers.specs.declared.Answer.TheVariants.{Done, Refused}
+use Rattle.answers.specs.Answer.{Answer, Done, Refused, Ok}
 use Rattle.answers.specs.Number.{number_of}
 use Rattle.answers.proofs.NumberLaws.{refusal_numbered}
 use Rattle.calls.specs.declared.Notice.{Notice}
 use Rattle.calls.specs.declared.Notice.TheVariants.{Nothing as Untold, Last, Count, Fault, Reject, Cause, Dispatch, Cancel}
-use Rattle.calls.specs.declared.Sent.{Sent}
-use Rattle.calls.specs.declared.Sent.TheVariants.{Nothing, Pdu}
+use Rattle.calls.specs.Sent.{Sent, Nothing, Pdu}
 use Rattle.morphelai.specs.Result.{notice_kind, notice_value, sent_length, packed, result_of}
 use Rattle.host_history.specs.Results.{refusal_at, answer_at, notice_at, sent_at, answer_in, notice_in, sent_in}
 
@@ -39,7 +37,7 @@ module _ (a k l v : ℕ) (answer : a < 256) (kind : k < 256) (size : l < 65536) 
 
 -- An answer's number, a notice's kind and a length fit their places.
 answer_small : (a : Answer) → number_of a < 256
-answer_small Done = omega arith
+answer_small (Ok tt) = omega arith
 answer_small (Refused r) = omega (arith, refusal_numbered r)
 
 kind_small : (n : Notice) → notice_kind n < 256
@@ -59,7 +57,7 @@ length_small (Pdu n) = omega arith
 -- Each number is read as what it is the number of.
 pub answer_back : (a : Answer) → answer_at (number_of a) ≡ a
 unfolding answer_at refusal_at choose
-answer_back Done = refl
+answer_back (Ok tt) = refl
 answer_back (Refused WrongLength) = refl
 answer_back (Refused BrokenRecord) = refl
 answer_back (Refused ShortDatagram) = refl

@@ -9,8 +9,7 @@ use lib.ListN.{length}
 use Rattle.words.specs.Choice.{choose}
 use Rattle.words.proofs.Tests.{choose_true, choose_false}
 use Rattle.answers.specs.declared.Refusal.TheVariants.{WrongLength, BrokenRecord}
-use Rattle.answers.specs.declared.Answer.{Answer}
-use Rattle.answers.specs.declared.Answer.TheVariants.{Refused}
+use Rattle.answers.specs.Answer.{Answer, Refused}
 use Rattle.fragments.specs.Joined.{part_of}
 use Rattle.incoming.specs.declared.Incoming.{Incoming}
 use Rattle.record_bytes.proofs.Keeping.{choice_keeps}

@@ -7,10 +7,10 @@ use mathlib.Core.Path.{◌≡◌, sym, ap, subst, ◌∙◌}
 use native.Mathlib.Omega.{arith}
 use lib.ListN.{drop, length-drop}
 use Rattle.words.specs.Number.{number}
-use Rattle.answers.specs.declared.Answer.TheVariants.{Done}
+use Rattle.answers.specs.Answer.{Done}
 use Rattle.incoming.specs.declared.Incoming.{Incoming}
 use Rattle.reader.specs.Reading.{reading}
-use Rattle.timers.specs.declared.Timer.TheVariants.{Armed}
+use Rattle.timers.specs.Timer.{Armed}
 use Rattle.record_bytes.specs.Parts.{last_field}
 use Rattle.record_bytes.specs.Held.{slots_bytes, slots_in}
 use Rattle.record_bytes.specs.Layout.{fields_in, incoming_in}

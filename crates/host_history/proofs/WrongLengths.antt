@@ -4,7 +4,7 @@ use mathlib.Core.Bool.{Bool, true, false, not, false≢true}
 use mathlib.Core.Path.{◌≡◌, refl, sym, ap, ◌∙◌}
 use borrow.Author.Tests.{eqb-true}
 use Rattle.answers.specs.declared.Refusal.TheVariants.{WrongLength}
-use Rattle.answers.specs.declared.Answer.TheVariants.{Refused}
+use Rattle.answers.specs.Answer.{Refused}
 use Rattle.answers.specs.Number.{number_of}
 use Rattle.host_history.specs.Results.{answer_at, answer_in}
 use Rattle.host_history.specs.Hosts.{HostWorld, HostCall, ToClient, ToServer, exported}

@@ -1,7 +1,7 @@
 -- What is on the books is what a host does, is told and reads, at any further call.
 use Rattle.std.specs.Prelude.{ℕ, Bool, true, false, List, ◌≡◌, length}
 use Rattle.words.specs.Number.{number as number_at}
-use Rattle.answers.specs.declared.Answer.TheVariants.{Done}
+use Rattle.answers.specs.Answer.{Done}
 use Rattle.calls.specs.declared.Call.{Call}
 use Rattle.calls.specs.declared.Notice.TheVariants.{Last, Dispatch, Cancel}
 use Rattle.history.specs.Lists.{and_then}

@@ -3,10 +3,10 @@
 use Rattle.std.specs.Prelude.{ℕ, ◌≤◌, ◌<◌, true, false, List, [], ◌++◌, ◌⊎◌, ◌≡◌, length, get_or, take, drop}
 use Rattle.words.specs.Number.{part, number as number_at}
 use Rattle.words.specs.Sizes.{pdu_size, slots_size}
-use Rattle.answers.specs.declared.Answer.TheVariants.{Done}
+use Rattle.answers.specs.Answer.{Done}
 use Rattle.calls.specs.declared.Notice.{Notice}
 use Rattle.calls.specs.declared.Notice.TheVariants.{Nothing as Untold, Cancel}
-use Rattle.calls.specs.declared.Sent.TheVariants.{Nothing}
+use Rattle.calls.specs.Sent.{Nothing}
 use Rattle.fragments.specs.Joined.{Leads}
 use Rattle.history.specs.Lists.{In, and_then}
 use Rattle.history.specs.World.{call_number, Started, Dispatched, Replied, Completed, Heard, SentPdu}

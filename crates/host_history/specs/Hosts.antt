@@ -6,7 +6,7 @@ use Rattle.client.specs.declared.records.Client.{Client}
 use Rattle.client_bytes.specs.Layout.{client_in}
 use Rattle.server.specs.declared.records.Server.{Server}
 use Rattle.server_bytes.specs.Layout.{server_in}
-use Rattle.answers.specs.declared.Answer.{Answer}
+use Rattle.answers.specs.Answer.{Answer}
 use Rattle.calls.specs.declared.Call.{Call}
 use Rattle.history.specs.World.{Started, Replied, Cancelled, SentPdu, Side, Books, World}
 use Rattle.history.specs.Events.{Lent}

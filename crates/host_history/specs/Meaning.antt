@@ -1,7 +1,7 @@
 -- What a host's calls are in the theorem's world, what their types say of them, and what a host begins with.
 use Rattle.std.specs.Prelude.{ℕ, ◌<◌, Bool, List, [], ◌∷◌, ◌++◌, ◌≡◌, eqb, leb, length}
 use Rattle.words.specs.Choice.{choose, both}
-use Rattle.answers.specs.declared.Answer.TheVariants.{Done}
+use Rattle.answers.specs.Answer.{Done}
 use Rattle.client.specs.declared.records.TimerKind.TheVariants.{Wait, Ack, Cancel}
 use Rattle.record_bytes.specs.Fits.{Octets}
 use Rattle.client_bytes.specs.Canonical.{Canonical as ClientCanonical}

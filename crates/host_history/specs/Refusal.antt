@@ -4,10 +4,10 @@ use Rattle.std.specs.Prelude.{ℕ, Bool, true, not, List, [], ◌≡◌, eqb, le
 use Rattle.words.specs.Choice.{both, either}
 use Rattle.words.specs.Number.{number}
 use Rattle.words.specs.Sizes.{pdu_size, slots_size, message_size}
-use Rattle.answers.specs.declared.Answer.TheVariants.{Done}
+use Rattle.answers.specs.Answer.{Done}
 use Rattle.answers.specs.Number.{number_of}
 use Rattle.calls.specs.declared.Notice.TheVariants.{Nothing as Untold}
-use Rattle.calls.specs.declared.Sent.TheVariants.{Nothing}
+use Rattle.calls.specs.Sent.{Nothing}
 use Rattle.client_bytes.specs.Layout.{readable as client_readable}
 use Rattle.server_bytes.specs.Layout.{readable as server_readable}
 use Rattle.history.specs.World.{Side}

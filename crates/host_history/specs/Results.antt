@@ -2,14 +2,12 @@
 -- PDU sent in 16 to 31, the notice's value in 32 to 63.
 use Rattle.std.specs.Prelude.{ℕ, ◌/◌, ◌%◌, eqb}
 use Rattle.words.specs.Choice.{choose}
-use Rattle.answers.specs.declared.Answer.{Answer}
-use Rattle.answers.specs.declared.Answer.TheVariants.{Done, Refused}
+use Rattle.answers.specs.Answer.{Answer, Done, Refused}
 use Rattle.answers.specs.declared.Refusal.{Refusal}
 use Rattle.answers.specs.declared.Refusal.TheVariants.{WrongLength, BrokenRecord, ShortDatagram, WrongVersion, UnknownType, UnknownRepresentation, Authenticated, WrongBodyLength, OtherActivity, WrongSide, MaybeOrBroadcast, WrongFragment, OldCall, MalformedBody, NoRow, Repeated, Contradiction, LateTimer, NumbersUsedUp, TicketsUsedUp}
 use Rattle.calls.specs.declared.Notice.{Notice}
 use Rattle.calls.specs.declared.Notice.TheVariants.{Nothing as Untold, Last, Count, Fault, Reject, Cause, Dispatch, Cancel}
-use Rattle.calls.specs.declared.Sent.{Sent}
-use Rattle.calls.specs.declared.Sent.TheVariants.{Nothing, Pdu}
+use Rattle.calls.specs.Sent.{Sent, Nothing, Pdu}
 
 -- The refusal of that number. One above 20 never comes (`answer_back`); it is read as 2.
 unfoldable pub refusal_at : ℕ → Refusal

@@ -15,7 +15,7 @@ use Rattle.record_bytes.specs.Fits.{Uuid, FitsCall}
 use Rattle.record_bytes.proofs.PartLaws.{mark-back, mark-readable, mark_small}
 use Rattle.client.specs.declared.records.State.{State as ClientState}
 use Rattle.client.specs.declared.records.TimerKind.TheVariants.{Wait, Ack, Cancel}
-use Rattle.timers.specs.declared.Timer.{Timer}
+use Rattle.timers.specs.Timer.{Timer}
 use Rattle.server.specs.declared.records.State.{State as ServerState}
 use Rattle.history.specs.World.{Dispatched, Completed, Cancelled, Heard, SentPdu, World}
 use Rattle.history.specs.Events.{Event, Start, ClientTransmit, ClientArrive, ClientTimer, ClientCancel, ServerArrive, ServerTransmit, ServerTimer, Reply, Fault, OfClient, OfServer}

@@ -14,11 +14,7 @@ pub struct Slot {
 }
 
 // The number known to be the last fragment's.
-#[derive(Clone, Copy)]
-pub enum Last {
-    Unknown,
-    At(u16),
-}
+pub type Last = Option<u16>;
 
 #[derive(Clone, Copy)]
 pub struct Incoming {
@@ -38,8 +34,8 @@ fn is_within(last: Last, i: u16) -> bool
     ensures { result ≡ within last i }
 {
     match last {
-        Last::Unknown => true,
-        Last::At(number) => i <= number,
+        None => true,
+        Some(number) => i <= number,
     }
 }
 
@@ -57,8 +53,8 @@ fn last_is_sound(last: Last) -> bool
     ensures { result ≡ last_sound last }
 {
     match last {
-        Last::Unknown => true,
-        Last::At(number) => number <= LAST_NUMBER,
+        None => true,
+        Some(number) => number <= LAST_NUMBER,
     }
 }
 
@@ -121,8 +117,8 @@ fn reaches(last: Last, held: u16) -> bool
     ensures { result ≡ all_to last held }
 {
     match last {
-        Last::Unknown => false,
-        Last::At(number) => number < held,
+        None => false,
+        Some(number) => number < held,
     }
 }
 
@@ -147,7 +143,7 @@ pub fn empty() -> Incoming
             held: false,
             length: 0,
         }; WINDOW_SIZE as usize],
-        last: Last::Unknown,
+        last: None,
     }
 }
 
@@ -173,7 +169,7 @@ fn last_with(last: Last, f: u16, is_last: bool) -> Last
     ensures { result ≡ last_with last f is_last }
 {
     if is_last {
-        return Last::At(f);
+        return Some(f);
     }
     last
 }

@@ -16,10 +16,8 @@ use Rattle.answers.specs.Number.{number_of}
 use Rattle.pdu.specs.declared.Header.{Header}
 use Rattle.pdu.specs.Header.{front_bytes, number_bytes, back_bytes, header_bytes, header_of, header_in, body_of}
 use Rattle.pdu.proofs.HeaderLaws.{fields_whole}
-use Rattle.reader.specs.declared.Reading.{Reading}
-use Rattle.reader.specs.Reading.{reading}
-use Rattle.writer.specs.declared.Written.{Written}
-use Rattle.writer.specs.Writing.{Wrote, writing}
+use Rattle.reader.specs.Reading.{Reading, reading}
+use Rattle.writer.specs.Writing.{Written, Wrote, writing}
 use Rattle.morphelai.specs.CodecDoor.{Codec, Coded, refusing_codec, order_byte, header_out, codec_read, written_result, codec_written, codec_write}
 
 low_byte : (a b : ℕ) → (256 * a + b) % 256 ≡ b % 256

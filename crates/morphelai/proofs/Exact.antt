@@ -5,8 +5,7 @@ use mathlib.Core.Path.{◌≡◌, refl}
 use native.Mathlib.Omega.{arith}
 use lib.ListN.{length}
 use Rattle.words.specs.Sizes.{body_size, pdu_size}
-use Rattle.answers.specs.declared.Answer.{Answer}
-use Rattle.answers.specs.declared.Answer.TheVariants.{Done, Refused}
+use Rattle.answers.specs.Answer.{Answer, Done, Refused, Ok}
 use Rattle.answers.specs.Table.{answer_of}
 use Rattle.answers.proofs.TableLaws.{answer_done}
 use Rattle.pdu.specs.declared.Header.{Header}
@@ -17,7 +16,7 @@ use Rattle.writer.proofs.Returns.{writable}
 short_by : (a : Answer) (h : Header) (body out : List ℕ) → (a ≡ Done → length body ≤ body_size)
     → (write_by a h body out).result.length ≤ pdu_size
 unfolding write_by
-short_by Done h body out short = omega (arith, short refl)
+short_by (Ok tt) h body out short = omega (arith, short refl)
 short_by (Refused r) h body out short = omega arith
 
 pub written_short : (h : Header) (body out : List ℕ) → (writing h body out).result.length ≤ pdu_size

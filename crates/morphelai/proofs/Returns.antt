@@ -8,7 +8,7 @@ use borrow.Author.Tests.{eq-eqb, ne_eqb}
 use Rattle.words.specs.Choice.{choose}
 use Rattle.words.specs.Place.{placed}
 use Rattle.words.proofs.Tests.{choose_true, choose_false}
-use Rattle.answers.specs.declared.Answer.{Answer}
+use Rattle.answers.specs.Answer.{Answer}
 use Rattle.answers.specs.Number.{number_of}
 use Rattle.calls.specs.Events.{Step, Stepped, Arrival, Arrived}
 use Rattle.morphelai.specs.Export.{Export, Exported, sized, refusing, kept_bytes}

@@ -5,10 +5,8 @@ use Rattle.words.specs.Place.{placed}
 use Rattle.words.specs.Sizes.{header_size}
 use Rattle.answers.specs.Number.{number_of}
 use Rattle.pdu.specs.Header.{header_bytes, header_of, body_of}
-use Rattle.reader.specs.declared.Reading.{Reading}
-use Rattle.reader.specs.Reading.{reading}
-use Rattle.writer.specs.declared.Written.{Written}
-use Rattle.writer.specs.Writing.{Writing, writing}
+use Rattle.reader.specs.Reading.{Reading, reading}
+use Rattle.writer.specs.Writing.{Written, Writing, writing}
 use Rattle.morphelai.specs.Result.{packed}
 
 -- What the reader or the writer gives, and what it leaves in the buffer that it was lent to write into.

@@ -1,12 +1,11 @@
 -- What an event gives back in one number: the answer in bits 0 to 7, the notice's kind in 8 to 15, the length of the
 -- PDU sent in 16 to 31, the notice's value in 32 to 63.
 use Rattle.std.specs.Prelude.{ℕ, ◌+◌, ◌*◌, ◌%◌}
-use Rattle.answers.specs.declared.Answer.{Answer}
+use Rattle.answers.specs.Answer.{Answer}
 use Rattle.answers.specs.Number.{number_of}
 use Rattle.calls.specs.declared.Notice.{Notice}
 use Rattle.calls.specs.declared.Notice.TheVariants.{Nothing as Untold, Last, Count, Fault, Reject, Cause, Dispatch, Cancel}
-use Rattle.calls.specs.declared.Sent.{Sent}
-use Rattle.calls.specs.declared.Sent.TheVariants.{Nothing, Pdu}
+use Rattle.calls.specs.Sent.{Sent, Nothing, Pdu}
 
 -- A notice's kind,
 abbrev pub notice_kind : Notice → ℕ

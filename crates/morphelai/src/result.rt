@@ -41,8 +41,8 @@ fn sent_length(sent: Sent) -> u16
     ensures { result ≡ sent_length sent }
 {
     match sent {
-        Sent::Nothing => 0,
-        Sent::Pdu(length) => (length % 65536) as u16,
+        None => 0,
+        Some(length) => (length % 65536) as u16,
     }
 }
 

@@ -4,16 +4,15 @@
 ghost use Rattle.std.specs.Prelude.{◌≡◌};
 ghost use Rattle.pdu.specs.Header.{body_of};
 ghost use Rattle.answers.specs.Table.{answer_of};
-ghost use Rattle.reader.specs.Reading.{order_is, reader_refusals, reading};
+ghost use Rattle.reader.specs.Reading.{order_is, reader_refusals, read_result};
 
 use answers::{Answer, Refusal};
 use pdu::Header;
 use words::{BODY_SIZE, HEADER_SIZE};
 
-// What reading gives: the answer, whether the sender's order is little-endian, and the header.
+// A datagram that was read: whether the sender's order is little-endian, and the header.
 #[derive(Clone, Copy)]
-pub struct Reading {
-    pub answer: Answer,
+pub struct Received {
     pub little: bool,
     pub header: Header,
 }
@@ -34,50 +33,43 @@ fn judge(d: &[u8], little: bool, big: bool) -> Answer
 {
     let size = d.len();
     if size < HEADER_SIZE {
-        return Answer::Refused(Refusal::ShortDatagram);
+        return Err(Refusal::ShortDatagram);
     }
     let version = words::byte_at(d, 0);
     if version != 4 {
-        return Answer::Refused(Refusal::WrongVersion);
+        return Err(Refusal::WrongVersion);
     }
     let kind = words::byte_at(d, 1);
     if kind > 10 {
-        return Answer::Refused(Refusal::UnknownType);
+        return Err(Refusal::UnknownType);
     }
     let known = words::either(little, big);
     if !known {
-        return Answer::Refused(Refusal::UnknownRepresentation);
+        return Err(Refusal::UnknownRepresentation);
     }
     let authentication = words::byte_at(d, 78);
     if authentication != 0 {
-        return Answer::Refused(Refusal::Authenticated);
+        return Err(Refusal::Authenticated);
     }
     let behind = words::number16(d, 74, little) as usize;
     let wrong = words::either(behind > BODY_SIZE, size != HEADER_SIZE + behind);
     if wrong {
-        return Answer::Refused(Refusal::WrongBodyLength);
+        return Err(Refusal::WrongBodyLength);
     }
-    Answer::Done
+    Ok(())
 }
 
 // Reads a datagram: the header and the sender's order, or the refusal.
-pub fn read(d: &[u8]) -> Reading
-    ensures { result ≡ reading d.now }
+pub fn read(d: &[u8]) -> Result<Received, Refusal>
+    ensures { result ≡ read_result d.now }
 {
     let little = order_is(d, 16);
     let big = order_is(d, 0);
-    match judge(d, little, big) {
-        Answer::Done => Reading {
-            answer: Answer::Done,
-            little,
-            header: pdu::fields(d, little),
-        },
-        Answer::Refused(refusal) => Reading {
-            answer: Answer::Refused(refusal),
-            little: false,
-            header: pdu::no_header(),
-        },
-    }
+    judge(d, little, big)?;
+    Ok(Received {
+        little,
+        header: pdu::fields(d, little),
+    })
 }
 
 // The body of a datagram: the part of it from byte 80, empty where it ends before.

@@ -14,7 +14,7 @@ use Rattle.words.specs.Number.{number}
 use Rattle.words.specs.Place.{put_at, placed}
 use Rattle.words.specs.Sizes.{window_size}
 use Rattle.words.proofs.Place.{placed_fits, length-put_at}
-use Rattle.timers.specs.declared.Timer.{Timer}
+use Rattle.timers.specs.Timer.{Timer}
 use Rattle.record_bytes.specs.declared.Fields.{Fields}
 use Rattle.record_bytes.specs.Canonical.{SharedUnjudged, SameButAt}
 use Rattle.record_bytes.specs.Parts.{timer_where, timer_in, last_of, uuid_in}

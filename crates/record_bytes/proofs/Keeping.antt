@@ -16,8 +16,7 @@ use Rattle.incoming.specs.Slots.{cleared, slots_with, last_with, stored}
 use Rattle.outgoing.specs.declared.Outgoing.{Outgoing}
 use Rattle.outgoing.specs.Message.{fragments}
 use Rattle.outgoing.specs.Sending.{next_serial, sent_more, after_send, after_ping, in_field, acknowledged_to, first_to_send, rewound, message_of, started_message, replied, no_message}
-use Rattle.timers.specs.declared.Timer.{Timer}
-use Rattle.timers.specs.declared.Timer.TheVariants.{Off, Armed}
+use Rattle.timers.specs.Timer.{Timer, Off, Armed}
 use Rattle.timers.specs.Tickets.{used_up, next_ticket, armed_afresh, armed_if_off, tickets_if_off}
 use Rattle.record_bytes.specs.Fits.{Uuid, FitsCall, FitsOutgoing, FitsLast, FitsSlots, FitsIncoming, FitsTimer}
 use Rattle.record_bytes.proofs.ByteLaws.{octets_zeros}

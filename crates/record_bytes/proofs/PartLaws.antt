@@ -10,10 +10,8 @@ use borrow.Author.Tests.{lt-ltb, ne_eqb}
 use Rattle.words.specs.Choice.{choose, either, mark_of}
 use Rattle.words.specs.Number.{digits, part, number}
 use Rattle.words.proofs.Number.{value-bytes, part_all}
-use Rattle.incoming.specs.declared.Last.{Last}
-use Rattle.incoming.specs.declared.Last.TheVariants.{Unknown, At}
-use Rattle.timers.specs.declared.Timer.{Timer}
-use Rattle.timers.specs.declared.Timer.TheVariants.{Off, Armed}
+use Rattle.incoming.specs.Last.{Last, Unknown, At}
+use Rattle.timers.specs.Timer.{Timer, Off, Armed}
 use Rattle.record_bytes.specs.Fits.{FitsLast, FitsTimer}
 use Rattle.record_bytes.specs.Parts.{timer_where, is_armed, timer_ticket, last_field, last_of, uuid_in}
 use Rattle.record_bytes.specs.Layout.{last_readable}

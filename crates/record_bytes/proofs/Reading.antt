@@ -12,7 +12,7 @@ use Rattle.words.specs.Choice.{choose, both, either, mark_of}
 use Rattle.words.specs.Number.{part, number}
 use Rattle.words.specs.Sizes.{retry_limit}
 use Rattle.words.proofs.Tests.{both_true, choose_true}
-use Rattle.incoming.specs.declared.Last.TheVariants.{Unknown, At}
+use Rattle.incoming.specs.Last.{Unknown, At}
 use Rattle.record_bytes.specs.Fits.{FitsLast, FitsTimer}
 use Rattle.record_bytes.specs.Canonical.{TicketClear}
 use Rattle.record_bytes.specs.Parts.{timer_where, is_armed, timer_ticket, last_field, last_of}

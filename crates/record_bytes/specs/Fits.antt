@@ -4,12 +4,10 @@ use Rattle.std.specs.Prelude.{ℕ, ◌<◌, Bool, true, false, List, [], ◌∷�
 use Rattle.words.specs.Sizes.{window_size}
 use Rattle.calls.specs.declared.Call.{Call}
 use Rattle.incoming.specs.declared.Slot.{Slot}
-use Rattle.incoming.specs.declared.Last.{Last}
-use Rattle.incoming.specs.declared.Last.TheVariants.{Unknown, At}
+use Rattle.incoming.specs.Last.{Last, Unknown, At}
 use Rattle.incoming.specs.declared.Incoming.{Incoming}
 use Rattle.outgoing.specs.declared.Outgoing.{Outgoing}
-use Rattle.timers.specs.declared.Timer.{Timer}
-use Rattle.timers.specs.declared.Timer.TheVariants.{Off, Armed}
+use Rattle.timers.specs.Timer.{Timer, Off, Armed}
 use Rattle.record_bytes.specs.declared.Fields.{Fields}
 
 -- Every element is a byte.

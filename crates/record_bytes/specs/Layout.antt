@@ -4,9 +4,9 @@ use Rattle.words.specs.Choice.{both, either, mark_of}
 use Rattle.words.specs.Number.{digits, number}
 use Rattle.calls.specs.declared.Call.{Call}
 use Rattle.incoming.specs.declared.Incoming.{Incoming}
-use Rattle.incoming.specs.declared.Last.{Last}
+use Rattle.incoming.specs.Last.{Last}
 use Rattle.outgoing.specs.declared.Outgoing.{Outgoing}
-use Rattle.timers.specs.declared.Timer.{Timer}
+use Rattle.timers.specs.Timer.{Timer}
 use Rattle.record_bytes.specs.declared.Decoded.{Decoded}
 use Rattle.record_bytes.specs.declared.Fields.{Fields}
 use Rattle.record_bytes.specs.Parts.{timer_in, is_armed, timer_ticket, last_field, last_of, uuid_in, clear}

@@ -3,10 +3,8 @@ use Rattle.std.specs.Prelude.{ℕ, zero, suc, Bool, true, false, List, get_or, t
 use Rattle.words.specs.Choice.{choose, both}
 use Rattle.words.specs.Number.{number}
 use Rattle.words.specs.Place.{placed}
-use Rattle.incoming.specs.declared.Last.{Last}
-use Rattle.incoming.specs.declared.Last.TheVariants.{Unknown, At}
-use Rattle.timers.specs.declared.Timer.{Timer}
-use Rattle.timers.specs.declared.Timer.TheVariants.{Off, Armed}
+use Rattle.incoming.specs.Last.{Last, Unknown, At}
+use Rattle.timers.specs.Timer.{Timer, Off, Armed}
 
 -- The timer with that ticket where it is armed.
 unfoldable pub timer_where : Bool → ℕ → Timer

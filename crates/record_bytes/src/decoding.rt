@@ -167,9 +167,9 @@ fn last(number: u16) -> Last
     ensures { result ≡ last_of number }
 {
     if number == 65535 {
-        return Last::Unknown;
+        return None;
     }
-    Last::At(number)
+    Some(number)
 }
 
 // The message received.

@@ -66,9 +66,9 @@ pub fn timer_where(armed: bool, ticket: u64) -> Timer
     ensures { result ≡ timer_where armed ticket }
 {
     if armed {
-        return Timer::Armed(ticket);
+        return Some(ticket);
     }
-    Timer::Off
+    None
 }
 
 // Whether a timer is armed.
@@ -76,8 +76,8 @@ pub fn is_armed(timer: Timer) -> bool
     ensures { result ≡ is_armed timer }
 {
     match timer {
-        Timer::Off => false,
-        Timer::Armed(_) => true,
+        None => false,
+        Some(_) => true,
     }
 }
 
@@ -86,8 +86,8 @@ pub fn timer_ticket(timer: Timer) -> u64
     ensures { result ≡ timer_ticket timer }
 {
     match timer {
-        Timer::Off => 0,
-        Timer::Armed(ticket) => ticket,
+        None => 0,
+        Some(ticket) => ticket,
     }
 }
 
@@ -96,8 +96,8 @@ fn last_field(last: Last) -> u16
     ensures { result ≡ last_field last }
 {
     match last {
-        Last::Unknown => 65535,
-        Last::At(number) => number,
+        None => 65535,
+        Some(number) => number,
     }
 }
 

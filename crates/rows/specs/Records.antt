@@ -5,7 +5,7 @@ use Rattle.incoming.specs.declared.Incoming.{Incoming}
 use Rattle.incoming.specs.Slots.{cleared, stored}
 use Rattle.outgoing.specs.declared.Outgoing.{Outgoing}
 use Rattle.outgoing.specs.Sending.{started_message, after_send}
-use Rattle.timers.specs.declared.Timer.TheVariants.{Off, Armed}
+use Rattle.timers.specs.Timer.{Off, Armed}
 use Rattle.client.specs.declared.records.Client.{Client}
 use Rattle.client.specs.declared.records.State.TheVariants.{SendFrags, Dispatched, AckPending}
 use Rattle.client.specs.records.Record.{fresh as fresh_client, timed as timed_client, with_outgoing as client_with}

@@ -14,8 +14,7 @@ use Rattle.answers.specs.Number.{number_of}
 use Rattle.answers.specs.Table.{◌when◌, first_of}
 use Rattle.pdu.specs.declared.Header.{Header}
 use Rattle.pdu.specs.Header.{datagram, body_of}
-use Rattle.reader.specs.declared.Reading.{Reading}
-use Rattle.reader.specs.Reading.{read_refusals, reading}
+use Rattle.reader.specs.Reading.{Reading, read_refusals, reading}
 use Rattle.reader.proofs.Readable.{read_passed}
 use Rattle.writer.proofs.RoundTrip.{accepted}
 use Rattle.outgoing.specs.Message.{fragment_of}
@@ -25,8 +24,7 @@ use Rattle.fragments.specs.Put.{storing}
 use Rattle.client.specs.declared.records.Client.{Client}
 use Rattle.client.specs.declared.records.TimerKind.{TimerKind}
 use Rattle.client.specs.records.Rules.{sound}
-use Rattle.client.specs.declared.judge.Verdict.{Verdict}
-use Rattle.client.specs.declared.judge.Verdict.TheVariants.{Refuse, Go}
+use Rattle.client.specs.judge.Verdict.{Verdict, Refuse, Go}
 use Rattle.client.specs.judge.Rows.{arrival_cell}
 use Rattle.client.specs.judge.Refusals.{transmit_verdict, timer_verdict, cancel_verdict, pdu_refusals, arrival_refusals, arrival_verdict}
 use Rattle.client.specs.declared.step.Send.TheVariants.{Nothing}
@@ -37,7 +35,7 @@ use Rattle.client.specs.Sending.{sent_out}
 use Rattle.client.specs.Machine.{refused, done, sending, step_by, transmitting, timing, cancelling, acted, arrival_by, arriving}
 use Rattle.client.proofs.Accepting.{answered_by}
 use Rattle.calls.specs.declared.Notice.TheVariants.{Nothing as Untold}
-use Rattle.calls.specs.declared.Sent.TheVariants.{Nothing as Unsent}
+use Rattle.calls.specs.Sent.{Nothing as Unsent}
 use Rattle.history.specs.World.{Cancelled, World}
 use Rattle.history.specs.Events.{Own, ClientEvent, ClientTransmit, ClientArrive, ClientTimer, ClientCancel, OfClient}
 use Rattle.history.specs.Steps.{last_start, bytes_lent, own_after, Turn, client_turn_of, client_turn, cancelled_after, client_world, happens, step, answer_to, notice_of}

@@ -9,7 +9,7 @@ use Rattle.words.specs.Sizes.{body_size, pdu_size, slots_size}
 use Rattle.bodies.specs.Fack.{fack_bytes, fack_fields}
 use Rattle.calls.specs.declared.Notice.TheVariants.{Count, Last, Dispatch as DispatchTold}
 use Rattle.calls.specs.Sent.{sent_header}
-use Rattle.incoming.specs.declared.Last.TheVariants.{Unknown, At}
+use Rattle.incoming.specs.Last.{Unknown, At}
 use Rattle.incoming.specs.declared.Incoming.{Incoming}
 use Rattle.incoming.specs.Slots.{missing, cleared}
 use Rattle.fragments.specs.Slots.{filled}
@@ -19,8 +19,7 @@ use Rattle.fragments.proofs.PutLaws.{filled-length}
 use Rattle.outgoing.specs.declared.Outgoing.{Outgoing}
 use Rattle.outgoing.specs.Message.{fragment_of, flags_of}
 use Rattle.outgoing.proofs.OutgoingLaws.{fragment_most}
-use Rattle.timers.specs.declared.Timer.{Timer}
-use Rattle.timers.specs.declared.Timer.TheVariants.{Off, Armed}
+use Rattle.timers.specs.Timer.{Timer, Off, Armed}
 use Rattle.client.specs.declared.records.State.{State as ClientState}
 use Rattle.client.specs.declared.records.State.TheVariants.{SendFrags, Dispatched, ReceiveFrags, AckPending, Complete}
 use Rattle.client.specs.declared.records.TimerKind.TheVariants.{Wait, Ack}

@@ -6,7 +6,7 @@ use native.Mathlib.Omega.{arith}
 use lib.ListN.{length, length-replicate}
 use Rattle.words.specs.Sizes.{pdu_size, slots_size}
 use Rattle.calls.specs.declared.Notice.{Notice}
-use Rattle.timers.specs.declared.Timer.TheVariants.{Off, Armed}
+use Rattle.timers.specs.Timer.{Off, Armed}
 use Rattle.client.specs.declared.records.State.TheVariants.{AckPending, Complete, Fault}
 use Rattle.server.specs.declared.records.Idle.TheVariants.{Spent, Repeatable}
 use Rattle.server.specs.declared.records.Reply.TheVariants.{Data, Fault as FaultReply}

@@ -9,15 +9,13 @@ use Rattle.words.specs.Choice.{choose, both}
 use Rattle.words.specs.Same.{same}
 use Rattle.words.specs.Sizes.{pdu_size, slots_size}
 use Rattle.answers.specs.declared.Refusal.TheVariants.{WrongLength, BrokenRecord, OtherActivity}
-use Rattle.answers.specs.declared.Answer.{Answer}
-use Rattle.answers.specs.declared.Answer.TheVariants.{Done, Refused}
+use Rattle.answers.specs.Answer.{Answer, Done, Refused}
 use Rattle.answers.specs.Number.{number_of}
 use Rattle.answers.specs.Table.{◌when◌, first_of}
 use Rattle.bodies.specs.Cancel.{cancel_reading}
 use Rattle.pdu.specs.declared.Header.{Header}
 use Rattle.pdu.specs.Header.{datagram, body_of, blank}
-use Rattle.reader.specs.declared.Reading.{Reading}
-use Rattle.reader.specs.Reading.{read_refusals, reading}
+use Rattle.reader.specs.Reading.{Reading, read_refusals, reading}
 use Rattle.reader.proofs.Readable.{read_passed}
 use Rattle.writer.proofs.Returns.{Sized}
 use Rattle.writer.proofs.RoundTrip.{accepted}
@@ -27,8 +25,7 @@ use Rattle.fragments.specs.Fragment.{lent_right}
 use Rattle.fragments.specs.Put.{storing}
 use Rattle.server.specs.declared.records.Server.{Server}
 use Rattle.server.specs.records.Rules.{sound}
-use Rattle.server.specs.declared.judge.Verdict.{Verdict}
-use Rattle.server.specs.declared.judge.Verdict.TheVariants.{Refuse, Go}
+use Rattle.server.specs.judge.Verdict.{Verdict, Refuse, Go}
 use Rattle.server.specs.judge.Rows.{arrival_cell}
 use Rattle.server.specs.judge.Refusals.{transmit_verdict, timer_verdict, fault_verdict, pdu_refusals, arrival_refusals, arrival_verdict}
 use Rattle.server.specs.declared.step.Send.TheVariants.{Nothing}
@@ -37,7 +34,7 @@ use Rattle.server.specs.step.Plan.{going}
 use Rattle.server.specs.step.Steps.{step_of}
 use Rattle.server.specs.Sending.{echoed, sent_out}
 use Rattle.server.specs.Machine.{refused, done, sending, step_by, transmitting, timing, faulting, acted, arrival_by, arriving}
-use Rattle.calls.specs.declared.Sent.TheVariants.{Nothing as Unsent}
+use Rattle.calls.specs.Sent.{Nothing as Unsent}
 use Rattle.history.specs.World.{World}
 use Rattle.history.specs.Events.{Own, ServerEvent, ServerTransmit, ServerArrive, ServerTimer, Fault, OfServer}
 use Rattle.history.specs.Steps.{standing_after, Subject, of_record, bytes_lent, own_after, Turn, server_turn_of, server_turn, server_world, happens, step, answer_to, notice_of}

@@ -5,13 +5,11 @@ use mathlib.Core.List.{List, [], ◌∷◌}
 use lib.ListN.{replicate}
 use Rattle.calls.specs.declared.Call.{Call}
 use Rattle.incoming.specs.declared.Slot.{Slot}
-use Rattle.incoming.specs.declared.Last.{Last}
-use Rattle.incoming.specs.declared.Last.TheVariants.{Unknown}
+use Rattle.incoming.specs.Last.{Last, Unknown}
 use Rattle.incoming.specs.declared.Incoming.{Incoming}
 use Rattle.incoming.specs.Slots.{missing}
 use Rattle.outgoing.specs.declared.Outgoing.{Outgoing}
-use Rattle.timers.specs.declared.Timer.{Timer}
-use Rattle.timers.specs.declared.Timer.TheVariants.{Off}
+use Rattle.timers.specs.Timer.{Timer, Off}
 use Rattle.client.specs.declared.records.Client.{Client}
 use Rattle.client.specs.declared.records.State.{State as ClientState}
 use Rattle.server.specs.declared.records.Server.{Server}

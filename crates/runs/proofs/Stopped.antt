@@ -11,7 +11,7 @@ use Rattle.bodies.specs.Cancel.{cancel_bytes, cancel_ack_bytes}
 use Rattle.bodies.specs.Status.{status_bytes}
 use Rattle.calls.specs.declared.Notice.TheVariants.{Nothing as Untold, Dispatch as DispatchTold, Cancel as CancelTold, Fault as FaultTold, Cause}
 use Rattle.calls.specs.Sent.{sent_header}
-use Rattle.incoming.specs.declared.Last.TheVariants.{At}
+use Rattle.incoming.specs.Last.{At}
 use Rattle.incoming.specs.declared.Incoming.{Incoming}
 use Rattle.incoming.specs.Slots.{missing, cleared}
 use Rattle.fragments.specs.Slots.{filled}
@@ -19,8 +19,7 @@ use Rattle.fragments.proofs.PartLaws.{parts_joined}
 use Rattle.fragments.proofs.BufferLaws.{joined as joined_parts, handed_below}
 use Rattle.fragments.proofs.PutLaws.{filled-length}
 use Rattle.outgoing.specs.Message.{fragment_of}
-use Rattle.timers.specs.declared.Timer.{Timer}
-use Rattle.timers.specs.declared.Timer.TheVariants.{Off, Armed}
+use Rattle.timers.specs.Timer.{Timer, Off, Armed}
 use Rattle.client.specs.declared.records.Client.{Client}
 use Rattle.client.specs.declared.records.State.{State as ClientState}
 use Rattle.client.specs.declared.records.State.TheVariants.{SendFrags, Dispatched, Fault as FaultState}

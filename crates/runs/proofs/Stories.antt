@@ -11,7 +11,7 @@ use borrow.Author.Tests.{ltb-true, eqb-false}
 use Rattle.words.specs.Choice.{choose}
 use Rattle.words.specs.Sizes.{body_size}
 use Rattle.answers.specs.declared.Refusal.{Refusal}
-use Rattle.answers.specs.declared.Answer.TheVariants.{Done}
+use Rattle.answers.specs.Answer.{Done}
 use Rattle.answers.specs.Number.{number_of}
 use Rattle.answers.specs.Table.{Line, first_of}
 use Rattle.answers.proofs.TableLaws.{passed_over, joined as tables-joined, AllPassed, all_behind}

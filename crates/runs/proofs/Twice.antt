@@ -8,13 +8,13 @@ use Rattle.words.specs.Sizes.{body_size, pdu_size, slots_size}
 use Rattle.calls.specs.declared.Notice.TheVariants.{Last, Dispatch as DispatchTold}
 use Rattle.calls.specs.Sent.{sent_header}
 use Rattle.incoming.specs.declared.Incoming.{Incoming}
-use Rattle.incoming.specs.declared.Last.TheVariants.{At}
+use Rattle.incoming.specs.Last.{At}
 use Rattle.incoming.specs.Slots.{missing, cleared}
 use Rattle.fragments.specs.Slots.{filled}
 use Rattle.fragments.proofs.PartLaws.{parts_joined}
 use Rattle.fragments.proofs.PutLaws.{filled-length}
 use Rattle.outgoing.specs.Message.{fragment_of}
-use Rattle.timers.specs.declared.Timer.TheVariants.{Off, Armed}
+use Rattle.timers.specs.Timer.{Off, Armed}
 use Rattle.client.specs.declared.records.State.TheVariants.{SendFrags, Dispatched, AckPending, Complete}
 use Rattle.client.specs.declared.records.TimerKind.TheVariants.{Wait}
 use Rattle.client.specs.HandUp.{hands_up as client_hands_up}

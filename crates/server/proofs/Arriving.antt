@@ -15,7 +15,7 @@ use Rattle.words.proofs.SameLaws.{same_equal, same_self}
 use Rattle.words.proofs.Tests.{choose_true, choose_false, both_hold, either_false}
 use Rattle.answers.specs.declared.Refusal.{Refusal}
 use Rattle.answers.specs.declared.Refusal.TheVariants.{OldCall, NoRow, Repeated}
-use Rattle.answers.specs.declared.Answer.TheVariants.{Done, Refused}
+use Rattle.answers.specs.Answer.{Done, Refused}
 use Rattle.answers.specs.Table.{first_of}
 use Rattle.answers.proofs.TableLaws.{AllPassed, joined, all_behind, passed_parts}
 use Rattle.facks.specs.Mask.{acknowledged_by}
@@ -40,8 +40,7 @@ use Rattle.server.specs.declared.judge.Order.{Order}
 use Rattle.server.specs.declared.judge.Order.TheVariants.{Equal}
 use Rattle.server.specs.declared.judge.Row.{Row}
 use Rattle.server.specs.declared.judge.Row.TheVariants.{Reply as ReplyRow, TransmitMore, TransmitRepeatable, TransmitHeld, FaultRepeatable, FaultHeld, ResendData, ResendFault, Spend, Begin, Put, Working, Nocall, Rewind, RepeatFault, Acknowledge, HearCancel, AcceptCancel, DeclineCancel}
-use Rattle.server.specs.declared.judge.Verdict.{Verdict}
-use Rattle.server.specs.declared.judge.Verdict.TheVariants.{Refuse, Go}
+use Rattle.server.specs.judge.Verdict.{Verdict, Refuse, Go}
 use Rattle.server.specs.judge.Rows.{says, order_for, request_put, arrival_cell}
 use Rattle.server.specs.judge.Refusals.{is_request, is_malformed, puts, slots_for, is_held_already, same_call, is_other_call, is_contradiction, pdu_refusals, pdu_verdict, arrival_refusals, arrival_verdict}
 use Rattle.server.proofs.TableLaws.{Begins, RowTells, Stops, row_tells, table_stops}

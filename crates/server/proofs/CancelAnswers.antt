@@ -14,8 +14,7 @@ use Rattle.words.specs.Sizes.{pdu_size, slots_size}
 use Rattle.words.proofs.Tests.{choose_true, choose_false}
 use Rattle.answers.specs.declared.Refusal.{Refusal}
 use Rattle.answers.specs.declared.Refusal.TheVariants.{OldCall, MalformedBody, NoRow}
-use Rattle.answers.specs.declared.Answer.{Answer}
-use Rattle.answers.specs.declared.Answer.TheVariants.{Done, Refused}
+use Rattle.answers.specs.Answer.{Answer, Done, Refused}
 use Rattle.answers.specs.Table.{first_of}
 use Rattle.bodies.specs.Cancel.{cancel_malformed, cancel_number_in, cancel_reading}
 use Rattle.bodies.proofs.CancelTrip.{cancel_formed}
@@ -31,8 +30,7 @@ use Rattle.server.specs.declared.judge.Order.{Order}
 use Rattle.server.specs.declared.judge.Order.TheVariants.{Below, Equal, Newer}
 use Rattle.server.specs.declared.judge.Row.{Row}
 use Rattle.server.specs.declared.judge.Row.TheVariants.{HearCancel, AcceptCancel, DeclineCancel}
-use Rattle.server.specs.declared.judge.Verdict.{Verdict}
-use Rattle.server.specs.declared.judge.Verdict.TheVariants.{Refuse, Go}
+use Rattle.server.specs.judge.Verdict.{Verdict, Refuse, Go}
 use Rattle.server.specs.judge.Rows.{says, order_of, order_for, running_cancel, cancel_equal, cancel_cell, is_for_server}
 use Rattle.server.specs.judge.Refusals.{is_request, is_malformed, is_contradiction, pdu_refusals, pdu_verdict, arrival_verdict}
 use Rattle.server.specs.Machine.{refused, arrival_by, arriving}

@@ -13,9 +13,8 @@ use Rattle.words.specs.Sizes.{pdu_size}
 use Rattle.words.proofs.Tests.{choose_true}
 use Rattle.answers.specs.declared.Refusal.{Refusal}
 use Rattle.answers.specs.declared.Refusal.TheVariants.{OldCall, NoRow}
-use Rattle.answers.specs.declared.Answer.TheVariants.{Done}
-use Rattle.bodies.specs.declared.CancelAckReading.{CancelAckReading}
-use Rattle.bodies.specs.Cancel.{cancel_ack_reading, cancel_ack_bytes}
+use Rattle.answers.specs.Answer.{Done}
+use Rattle.bodies.specs.Cancel.{CancelAckReading, cancel_ack_reading, cancel_ack_bytes}
 use Rattle.bodies.proofs.CancelTrip.{read-written-cancel-ack}
 use Rattle.calls.specs.declared.Notice.{Notice}
 use Rattle.calls.specs.declared.Notice.TheVariants.{Nothing as Untold, Cancel as CancelNotice}
@@ -25,8 +24,7 @@ use Rattle.calls.proofs.PostLaws.{whole, whole_bytes}
 use Rattle.fragments.specs.Put.{storing}
 use Rattle.pdu.specs.declared.Header.{Header}
 use Rattle.pdu.specs.Header.{datagram as datagram_of, body_of}
-use Rattle.reader.specs.declared.Reading.{Reading}
-use Rattle.reader.specs.Reading.{reading}
+use Rattle.reader.specs.Reading.{Reading, reading}
 use Rattle.writer.proofs.RoundTrip.{Fits, read-written, body-written}
 use Rattle.server.specs.declared.records.State.TheVariants.{Running}
 use Rattle.server.specs.declared.records.Server.{Server}
@@ -34,8 +32,7 @@ use Rattle.server.specs.records.Record.{with_seen}
 use Rattle.server.specs.records.States.{is_idle, is_running}
 use Rattle.server.specs.declared.judge.Row.{Row}
 use Rattle.server.specs.declared.judge.Row.TheVariants.{HearCancel, AcceptCancel, DeclineCancel}
-use Rattle.server.specs.declared.judge.Verdict.{Verdict}
-use Rattle.server.specs.declared.judge.Verdict.TheVariants.{Go}
+use Rattle.server.specs.judge.Verdict.{Verdict, Go}
 use Rattle.server.specs.judge.Rows.{order_for, running_cancel, cancel_cell}
 use Rattle.server.specs.declared.step.Send.{Send}
 use Rattle.server.specs.declared.step.Send.TheVariants.{CancelAck}

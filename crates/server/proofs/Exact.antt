@@ -11,12 +11,11 @@ use Rattle.words.specs.Choice.{choose}
 use Rattle.words.specs.Place.{put_at}
 use Rattle.words.specs.Sizes.{body_size, last_number}
 use Rattle.words.proofs.Place.{placed_fits}
-use Rattle.answers.specs.declared.Answer.TheVariants.{Done}
+use Rattle.answers.specs.Answer.{Done}
 use Rattle.calls.specs.Events.{Step, Arrival}
 use Rattle.facks.specs.Mask.{acknowledged_by}
 use Rattle.fragments.specs.declared.Fragment.{Fragment}
-use Rattle.fragments.specs.declared.Stored.{Stored}
-use Rattle.fragments.specs.declared.Stored.TheVariants.{At}
+use Rattle.fragments.specs.Stored.{Stored, At}
 use Rattle.fragments.specs.Fragment.{is_last}
 use Rattle.fragments.specs.Judgement.{held}
 use Rattle.fragments.specs.Put.{put_of, put_into, storing}
@@ -36,7 +35,7 @@ use Rattle.server.specs.declared.records.Server.{Server}
 use Rattle.server.specs.records.Record.{holding, unarmed, with_outgoing}
 use Rattle.server.specs.declared.judge.Row.{Row}
 use Rattle.server.specs.declared.judge.Row.TheVariants.{Begin, Put}
-use Rattle.server.specs.declared.judge.Verdict.TheVariants.{Go}
+use Rattle.server.specs.judge.Verdict.{Go}
 use Rattle.server.specs.judge.Rows.{request_put}
 use Rattle.server.specs.judge.Refusals.{arrival_verdict}
 use Rattle.server.specs.step.Plan.{going}

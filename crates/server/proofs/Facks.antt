@@ -9,10 +9,8 @@ use lib.ListN.{length}
 use Rattle.words.specs.Bit.{bit}
 use Rattle.words.specs.Choice.{choose}
 use Rattle.words.specs.Sizes.{pdu_size}
-use Rattle.calls.specs.declared.Sent.{Sent}
-use Rattle.calls.specs.declared.Sent.TheVariants.{Nothing as Unsent}
+use Rattle.calls.specs.Sent.{Sent, Nothing as Unsent, sent_header, sent_bytes}
 use Rattle.calls.specs.Events.{Arrival}
-use Rattle.calls.specs.Sent.{sent_header, sent_bytes}
 use Rattle.calls.proofs.PostLaws.{same_fits}
 use Rattle.incoming.specs.Slots.{contiguous}
 use Rattle.incoming.proofs.RuleLaws.{kept_by}
@@ -22,8 +20,7 @@ use Rattle.facks.specs.Telling.{TellsHeld, Unfacked}
 use Rattle.facks.proofs.MaskLaws.{count_small}
 use Rattle.facks.proofs.TellingLaws.{number_small, sent_tells}
 use Rattle.fragments.specs.declared.Fragment.{Fragment}
-use Rattle.fragments.specs.declared.Stored.{Stored}
-use Rattle.fragments.specs.declared.Stored.TheVariants.{Nothing as Unstored, At}
+use Rattle.fragments.specs.Stored.{Stored, Nothing as Unstored, At}
 use Rattle.fragments.specs.Fragment.{wants_fack}
 use Rattle.fragments.specs.Put.{put_of}
 use Rattle.fragments.proofs.FlagLaws.{fack_asked, fack_unasked}
@@ -36,7 +33,7 @@ use Rattle.server.specs.records.Record.{unarmed, with_incoming}
 use Rattle.server.specs.records.Rules.{sound}
 use Rattle.server.specs.declared.judge.Row.{Row}
 use Rattle.server.specs.declared.judge.Row.TheVariants.{Begin, Put}
-use Rattle.server.specs.declared.judge.Verdict.TheVariants.{Go}
+use Rattle.server.specs.judge.Verdict.{Go}
 use Rattle.server.specs.judge.Rows.{request_put}
 use Rattle.server.specs.judge.Refusals.{arrival_verdict}
 use Rattle.server.specs.declared.step.Plan.{Plan}

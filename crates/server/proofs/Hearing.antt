@@ -7,7 +7,7 @@ use mathlib.Core.Path.{◌≡◌, refl, sym, ap, subst, ◌∙◌}
 use native.Mathlib.Omega.{arith}
 use lib.ListN.{length}
 use Rattle.words.specs.Choice.{choose}
-use Rattle.answers.specs.declared.Answer.TheVariants.{Done}
+use Rattle.answers.specs.Answer.{Done}
 use Rattle.calls.specs.declared.Notice.{Notice}
 use Rattle.calls.specs.declared.Notice.TheVariants.{Nothing as Untold, Last, Count, Fault as FaultNotice, Reject, Cause, Dispatch, Cancel as CancelNotice}
 use Rattle.calls.specs.Events.{Step, Arrival}
@@ -24,8 +24,7 @@ use Rattle.server.specs.records.States.{never_called, is_fresh, is_running}
 use Rattle.server.specs.records.Record.{holding, unarmed, with_outgoing, with_incoming, with_resends, with_seen}
 use Rattle.server.specs.declared.judge.Row.{Row}
 use Rattle.server.specs.declared.judge.Row.TheVariants.{Begin, HearCancel}
-use Rattle.server.specs.declared.judge.Verdict.{Verdict}
-use Rattle.server.specs.declared.judge.Verdict.TheVariants.{Go}
+use Rattle.server.specs.judge.Verdict.{Verdict, Go}
 use Rattle.server.specs.judge.Rows.{order_for, request_put, arrival_cell}
 use Rattle.server.specs.judge.Refusals.{arrival_verdict}
 use Rattle.server.specs.step.Plan.{going}

@@ -14,8 +14,7 @@ use Rattle.pdu.specs.Header.{body_of}
 use Rattle.reader.specs.Reading.{reader_refusals, read_refusals, reading}
 use Rattle.server.specs.declared.records.Server.{Server}
 use Rattle.server.specs.declared.judge.Row.TheVariants.{Reply as ReplyRow}
-use Rattle.server.specs.declared.judge.Verdict.{Verdict}
-use Rattle.server.specs.declared.judge.Verdict.TheVariants.{Refuse, Go}
+use Rattle.server.specs.judge.Verdict.{Verdict, Refuse, Go}
 use Rattle.server.specs.judge.Rows.{is_row, arrival_cell, transmit_row, fault_row, timer_cell}
 use Rattle.server.specs.judge.Refusals.{reply_refusals, reply_verdict, transmit_refusals, transmit_verdict, fault_refusals, fault_verdict, timer_refusals, timer_verdict, pdu_refusals, arrival_refusals, arrival_verdict}
 use Rattle.server.specs.Machine.{refused, reply_by, replying, step_by, transmitting, timing, faulting, arrival_by, arriving}

@@ -10,7 +10,7 @@ use Rattle.words.specs.Choice.{choose, both}
 use Rattle.words.specs.Sizes.{last_number, message_size, retry_limit}
 use Rattle.calls.specs.declared.Notice.TheVariants.{Nothing as Untold}
 use Rattle.fragments.specs.declared.Fragment.{Fragment}
-use Rattle.fragments.specs.declared.Stored.TheVariants.{Nothing as Unstored}
+use Rattle.fragments.specs.Stored.{Nothing as Unstored}
 use Rattle.fragments.specs.Put.{put_into}
 use Rattle.fragments.proofs.PutLaws.{stored-sound}
 use Rattle.incoming.specs.Slots.{cleared, sound as incoming_sound}

@@ -27,8 +27,7 @@ use Rattle.server.specs.declared.judge.Order.{Order}
 use Rattle.server.specs.declared.judge.Order.TheVariants.{Below, Equal, Newer}
 use Rattle.server.specs.declared.judge.Row.{Row}
 use Rattle.server.specs.declared.judge.Row.TheVariants.{Reply as ReplyRow, TransmitMore, TransmitRepeatable, TransmitHeld, FaultRepeatable, FaultHeld, ResendData, ResendFault, Spend, Begin, Put, Working, Nocall, Rewind, RepeatFault, Acknowledge, HearCancel, AcceptCancel, DeclineCancel}
-use Rattle.server.specs.declared.judge.Verdict.{Verdict}
-use Rattle.server.specs.declared.judge.Verdict.TheVariants.{Refuse, Go}
+use Rattle.server.specs.judge.Verdict.{Verdict, Refuse, Go}
 use Rattle.server.specs.judge.Rows.{is_row, says, order_by, order_of, order_for, replay_row, request_newer, request_again, request_idle, request_equal, request_cell, ping_equal, ping_cell, where_replied, acknowledgement_cell, ack_cell, running_cancel, cancel_equal, cancel_cell, request_put, is_for_server, arrival_cell}
 
 -- What is known of both ways of a choice, by its test, is known of it.
@@ -43,7 +42,7 @@ pub refusal_no_row : (r : Refusal) (row : Row) → Refuse r ≡ Go row → ⊥
 unfolding is_row
 refusal_no_row r row e = false≢true (ap is_row e)
 
-pub same_row : (row taken : Row) → Go row ≡ Go taken → row ≡ taken
+pub same_row : (row taken : Row) → ◌≡◌ {A = Verdict} (Go row) (Go taken) → row ≡ taken
 same_row row taken e = cc
 
 -- What an order tells of the two numbers.

@@ -8,12 +8,11 @@ use native.Mathlib.Omega.{arith}
 use lib.ListN.{length}
 use borrow.Author.Tests.{eqb-false}
 use Rattle.words.specs.Sizes.{body_size, pdu_size}
-use Rattle.answers.specs.declared.Answer.TheVariants.{Done}
+use Rattle.answers.specs.Answer.{Done}
 use Rattle.bodies.specs.Status.{status_bytes}
 use Rattle.bodies.specs.Cancel.{cancel_ack_bytes}
-use Rattle.calls.specs.declared.Sent.TheVariants.{Nothing as Unsent}
+use Rattle.calls.specs.Sent.{Nothing as Unsent, sent_header}
 use Rattle.calls.specs.Events.{Step}
-use Rattle.calls.specs.Sent.{sent_header}
 use Rattle.calls.proofs.PostLaws.{posted_whole, same-sized}
 use Rattle.outgoing.specs.Message.{fragment_of}
 use Rattle.outgoing.proofs.OutgoingLaws.{fragment_most}

@@ -5,8 +5,9 @@ ghost use Rattle.words.specs.Choice.{choose, either};
 ghost use Rattle.timers.specs.Tickets.{used_up};
 ghost use Rattle.server.specs.records.States.{is_replying, is_held};
 ghost use Rattle.server.specs.judge.Rows.{order_for, replay_row, ping_equal, running_cancel, cancel_equal, request_put as request_fragment, resend_held};
-ghost use Rattle.server.specs.judge.Refusals.{reply_verdict, transmit_verdict, fault_verdict, timer_verdict, is_maybe_or_broadcast, agree, same_call, pdu_verdict, activity_verdict};
-ghost use Rattle.server.specs.judge.Parts.{ticketed, RequestIn, contradicts_call, entry_answer, read_verdict};
+ghost use Rattle.server.specs.judge.Refusals.{reply_verdict, transmit_verdict, fault_verdict, timer_verdict, is_maybe_or_broadcast, agree, same_call, pdu_verdict, activity_verdict, arrival_verdict};
+ghost use Rattle.server.specs.judge.Parts.{ticketed, RequestIn, contradicts_call, entry_answer, with_header};
+ghost use Rattle.reader.specs.Reading.{reading};
 
 use crate::records;
 use crate::records::{Idle, Reply, Server, State};
@@ -15,7 +16,6 @@ use calls::Call;
 use fragments::Fragment;
 use incoming::Incoming;
 use pdu::Header;
-use reader::Reading;
 use words::{MESSAGE_SIZE, PDU_SIZE, RETRY_LIMIT};
 
 // The number of an arriving PDU against the server's.
@@ -59,11 +59,8 @@ pub enum Row {
     DeclineCancel(u32),
 }
 
-#[derive(Clone, Copy)]
-pub enum Verdict {
-    Refuse(Refusal),
-    Go(Row),
-}
+// A row, or why the event is refused.
+pub type Verdict = Result<Row, Refusal>;
 
 // A reply with a message of this length: 1, 2, 15.
 pub fn reply(s: Server, length: u32) -> Verdict
@@ -71,15 +68,15 @@ pub fn reply(s: Server, length: u32) -> Verdict
 {
     let state = s.state;
     if MESSAGE_SIZE < length {
-        return Verdict::Refuse(Refusal::WrongLength);
+        return Err(Refusal::WrongLength);
     }
     if !records::is_sound(s) {
-        return Verdict::Refuse(Refusal::BrokenRecord);
+        return Err(Refusal::BrokenRecord);
     }
     if !records::is_running(state) {
-        return Verdict::Refuse(Refusal::NoRow);
+        return Err(Refusal::NoRow);
     }
-    Verdict::Go(Row::Reply(length))
+    Ok(Row::Reply(length))
 }
 
 // A transmit, by the lengths of what is lent: 1, 2, 15, 20. A reply that is held arms RESEND.
@@ -91,24 +88,24 @@ pub fn transmit(s: Server, message: usize, out: usize) -> Verdict
     let call = s.call;
     let replying = records::is_replying(state);
     if !outgoing::is_transmit_lent(replying, message, o.length, out) {
-        return Verdict::Refuse(Refusal::WrongLength);
+        return Err(Refusal::WrongLength);
     }
     if !records::is_sound(s) {
-        return Verdict::Refuse(Refusal::BrokenRecord);
+        return Err(Refusal::BrokenRecord);
     }
     if !replying {
-        return Verdict::Refuse(Refusal::NoRow);
+        return Err(Refusal::NoRow);
     }
     if !outgoing::sends_last(o) {
-        return Verdict::Go(Row::TransmitMore);
+        return Ok(Row::TransmitMore);
     }
     if records::runs_again(call.idempotent, o) {
-        return Verdict::Go(Row::TransmitRepeatable);
+        return Ok(Row::TransmitRepeatable);
     }
     if timers::used_up(s.tickets) {
-        return Verdict::Refuse(Refusal::TicketsUsedUp);
+        return Err(Refusal::TicketsUsedUp);
     }
-    Verdict::Go(Row::TransmitHeld)
+    Ok(Row::TransmitHeld)
 }
 
 // A fault with that status: 1, 2, 15, 20. A fault that is held arms RESEND.
@@ -118,21 +115,21 @@ pub fn fault(s: Server, status: u32, out: usize) -> Verdict
     let state = s.state;
     let call = s.call;
     if out != PDU_SIZE {
-        return Verdict::Refuse(Refusal::WrongLength);
+        return Err(Refusal::WrongLength);
     }
     if !records::is_sound(s) {
-        return Verdict::Refuse(Refusal::BrokenRecord);
+        return Err(Refusal::BrokenRecord);
     }
     if !records::is_running(state) {
-        return Verdict::Refuse(Refusal::NoRow);
+        return Err(Refusal::NoRow);
     }
     if call.idempotent {
-        return Verdict::Go(Row::FaultRepeatable(status));
+        return Ok(Row::FaultRepeatable(status));
     }
     if timers::used_up(s.tickets) {
-        return Verdict::Refuse(Refusal::TicketsUsedUp);
+        return Err(Refusal::TicketsUsedUp);
     }
-    Verdict::Go(Row::FaultHeld(status))
+    Ok(Row::FaultHeld(status))
 }
 
 // RESEND below its limit, with the count then: 20. A fault that is sent again arms RESEND afresh.
@@ -140,12 +137,12 @@ fn resend(reply: Reply, resends: u8, tickets: u64) -> Verdict
     ensures { result ≡ ticketed (resend_held reply resends) (used_up tickets) }
 {
     let Reply::Fault(status) = reply else {
-        return Verdict::Go(Row::ResendData(resends));
+        return Ok(Row::ResendData(resends));
     };
     if timers::used_up(tickets) {
-        return Verdict::Refuse(Refusal::TicketsUsedUp);
+        return Err(Refusal::TicketsUsedUp);
     }
-    Verdict::Go(Row::ResendFault(status, resends))
+    Ok(Row::ResendFault(status, resends))
 }
 
 // The RESEND timer with that ticket: 1, 2, 15, 18, 20.
@@ -155,21 +152,21 @@ pub fn timer(s: Server, ticket: u64, out: usize) -> Verdict
     let state = s.state;
     let timer = s.resend;
     if out != PDU_SIZE {
-        return Verdict::Refuse(Refusal::WrongLength);
+        return Err(Refusal::WrongLength);
     }
     if !records::is_sound(s) {
-        return Verdict::Refuse(Refusal::BrokenRecord);
+        return Err(Refusal::BrokenRecord);
     }
     let State::Held(reply) = state else {
-        return Verdict::Refuse(Refusal::NoRow);
+        return Err(Refusal::NoRow);
     };
     if !timers::is_armed_with(timer, ticket) {
-        return Verdict::Refuse(Refusal::LateTimer);
+        return Err(Refusal::LateTimer);
     }
     if s.resends < RETRY_LIMIT {
         return resend(reply, s.resends + 1, s.tickets);
     }
-    Verdict::Go(Row::Spend)
+    Ok(Row::Spend)
 }
 
 // The number of an arriving PDU against the server's; to a fresh server every number is newer.
@@ -265,9 +262,9 @@ fn request_newer(s: Server, h: Header, little: bool, body: &[u8]) -> Verdict
 {
     let state = s.state;
     if records::is_running(state) {
-        return Verdict::Refuse(Refusal::NoRow);
+        return Err(Refusal::NoRow);
     }
-    Verdict::Go(Row::Begin(request_put(incoming::empty(), h, body)))
+    Ok(Row::Begin(request_put(incoming::empty(), h, body)))
 }
 
 // A request of an equal number in IDLE: 13, 17. A repeatable call begins again where the bit is set.
@@ -277,15 +274,15 @@ fn request_idle(idle: Idle, s: Server, h: Header, little: bool, body: &[u8]) -> 
 {
     let call = s.call;
     let Idle::Repeatable = idle else {
-        return Verdict::Refuse(Refusal::OldCall);
+        return Err(Refusal::OldCall);
     };
     if !flags::has(h.flags1, flags::IDEMPOTENT) {
-        return Verdict::Refuse(Refusal::OldCall);
+        return Err(Refusal::OldCall);
     }
     if !is_same_call(call, h) {
-        return Verdict::Refuse(Refusal::Contradiction);
+        return Err(Refusal::Contradiction);
     }
-    Verdict::Go(Row::Begin(request_put(incoming::empty(), h, body)))
+    Ok(Row::Begin(request_put(incoming::empty(), h, body)))
 }
 
 // A request of an equal number in COLLECT: 16, 17.
@@ -295,22 +292,22 @@ fn request_collect(s: Server, h: Header, little: bool, body: &[u8]) -> Verdict
 {
     let m = s.incoming;
     if fragments::is_held(m, h.fragment) {
-        return Verdict::Refuse(Refusal::Repeated);
+        return Err(Refusal::Repeated);
     }
     if contradicts_call(s, h) {
-        return Verdict::Refuse(Refusal::Contradiction);
+        return Err(Refusal::Contradiction);
     }
-    Verdict::Go(Row::Put(request_put(m, h, body)))
+    Ok(Row::Put(request_put(m, h, body)))
 }
 
 // A request of an equal number whose call is whole: 17, else that row.
 fn request_whole(s: Server, h: Header, row: Row) -> Verdict
-    ensures { result ≡ choose (contradicts_call s h) (Verdict.Refuse Refusal.Contradiction) (Verdict.Go row) }
+    ensures { result ≡ choose (contradicts_call s h) (Err Refusal.Contradiction) (Ok row) }
 {
     if contradicts_call(s, h) {
-        return Verdict::Refuse(Refusal::Contradiction);
+        return Err(Refusal::Contradiction);
     }
-    Verdict::Go(row)
+    Ok(row)
 }
 
 // A request of an equal number, by the state.
@@ -323,7 +320,7 @@ fn request_equal(s: Server, h: Header, little: bool, body: &[u8]) -> Verdict
         State::Idle(idle) => request_idle(idle, s, h, little, body),
         State::Collect => request_collect(s, h, little, body),
         State::Running => request_whole(s, h, Row::Working),
-        State::Replying => Verdict::Refuse(Refusal::Repeated),
+        State::Replying => Err(Refusal::Repeated),
         State::Held(reply) => request_whole(s, h, replay_row(reply)),
     }
 }
@@ -334,13 +331,13 @@ fn request(s: Server, h: Header, little: bool, body: &[u8]) -> Verdict
     ensures { result ≡ pdu_verdict s h little body.now }
 {
     if is_maybe_or_broadcast(h.flags1) {
-        return Verdict::Refuse(Refusal::MaybeOrBroadcast);
+        return Err(Refusal::MaybeOrBroadcast);
     }
     if fragments::is_wrong(h.flags1, h.fragment) {
-        return Verdict::Refuse(Refusal::WrongFragment);
+        return Err(Refusal::WrongFragment);
     }
     match order_for(s, h) {
-        Order::Below => Verdict::Refuse(Refusal::OldCall),
+        Order::Below => Err(Refusal::OldCall),
         Order::Equal => request_equal(s, h, little, body),
         Order::Newer => request_newer(s, h, little, body),
     }
@@ -351,11 +348,11 @@ fn ping_equal(state: State) -> Verdict
     ensures { result ≡ ping_equal state }
 {
     match state {
-        State::Idle(_) => Verdict::Go(Row::Nocall),
-        State::Collect => Verdict::Go(Row::Nocall),
-        State::Running => Verdict::Go(Row::Working),
-        State::Replying => Verdict::Refuse(Refusal::Repeated),
-        State::Held(reply) => Verdict::Go(replay_row(reply)),
+        State::Idle(_) => Ok(Row::Nocall),
+        State::Collect => Ok(Row::Nocall),
+        State::Running => Ok(Row::Working),
+        State::Replying => Err(Refusal::Repeated),
+        State::Held(reply) => Ok(replay_row(reply)),
     }
 }
 
@@ -366,9 +363,9 @@ fn ping(s: Server, h: Header, little: bool, body: &[u8]) -> Verdict
 {
     let state = s.state;
     match order_for(s, h) {
-        Order::Below => Verdict::Refuse(Refusal::OldCall),
+        Order::Below => Err(Refusal::OldCall),
         Order::Equal => ping_equal(state),
-        Order::Newer => Verdict::Go(Row::Nocall),
+        Order::Newer => Ok(Row::Nocall),
     }
 }
 
@@ -391,18 +388,18 @@ fn ack(s: Server, h: Header, little: bool, body: &[u8]) -> Verdict
     let call = s.call;
     let order = order_for(s, h);
     if let Order::Below = order {
-        return Verdict::Refuse(Refusal::OldCall);
+        return Err(Refusal::OldCall);
     }
     let Order::Equal = order else {
-        return Verdict::Refuse(Refusal::NoRow);
+        return Err(Refusal::NoRow);
     };
     if !is_replied(state) {
-        return Verdict::Refuse(Refusal::NoRow);
+        return Err(Refusal::NoRow);
     }
     if call.idempotent {
-        return Verdict::Refuse(Refusal::NoRow);
+        return Err(Refusal::NoRow);
     }
-    Verdict::Go(Row::Spend)
+    Ok(Row::Spend)
 }
 
 // The row of a cancel in RUNNING: a number above the last seen is heard.
@@ -420,11 +417,11 @@ fn cancel_equal(state: State, seen: u32, number: u32) -> Verdict
     ensures { result ≡ cancel_equal state seen number }
 {
     match state {
-        State::Idle(_) => Verdict::Refuse(Refusal::NoRow),
-        State::Collect => Verdict::Go(Row::DeclineCancel(number)),
-        State::Running => Verdict::Go(running_cancel(seen, number)),
-        State::Replying => Verdict::Go(Row::DeclineCancel(number)),
-        State::Held(_) => Verdict::Go(Row::DeclineCancel(number)),
+        State::Idle(_) => Err(Refusal::NoRow),
+        State::Collect => Ok(Row::DeclineCancel(number)),
+        State::Running => Ok(running_cancel(seen, number)),
+        State::Replying => Ok(Row::DeclineCancel(number)),
+        State::Held(_) => Ok(Row::DeclineCancel(number)),
     }
 }
 
@@ -436,13 +433,13 @@ fn cancel(s: Server, h: Header, little: bool, body: &[u8]) -> Verdict
     let state = s.state;
     let order = order_for(s, h);
     if let Order::Below = order {
-        return Verdict::Refuse(Refusal::OldCall);
+        return Err(Refusal::OldCall);
     }
     if bodies::is_cancel_malformed(body, little) {
-        return Verdict::Refuse(Refusal::MalformedBody);
+        return Err(Refusal::MalformedBody);
     }
     let Order::Equal = order else {
-        return Verdict::Refuse(Refusal::NoRow);
+        return Err(Refusal::NoRow);
     };
     cancel_equal(state, s.seen, bodies::cancel_number(body, little))
 }
@@ -456,22 +453,22 @@ fn fack(s: Server, h: Header, little: bool, body: &[u8]) -> Verdict
     let o = s.outgoing;
     let order = order_for(s, h);
     if let Order::Below = order {
-        return Verdict::Refuse(Refusal::OldCall);
+        return Err(Refusal::OldCall);
     }
     if bodies::is_fack_malformed(body, little) {
-        return Verdict::Refuse(Refusal::MalformedBody);
+        return Err(Refusal::MalformedBody);
     }
     let Order::Equal = order else {
-        return Verdict::Refuse(Refusal::NoRow);
+        return Err(Refusal::NoRow);
     };
     if !is_replied(state) {
-        return Verdict::Refuse(Refusal::NoRow);
+        return Err(Refusal::NoRow);
     }
     let count = facks::acknowledged_by(h.fragment);
     if o.count < count {
-        return Verdict::Refuse(Refusal::Contradiction);
+        return Err(Refusal::Contradiction);
     }
-    Verdict::Go(Row::Acknowledge(count))
+    Ok(Row::Acknowledge(count))
 }
 
 // 11 to 17, of what the client calls with: types 0 and 1.
@@ -496,8 +493,8 @@ fn pdu(s: Server, h: Header, little: bool, body: &[u8]) -> Verdict
         7 => ack(s, h, little, body),
         8 => cancel(s, h, little, body),
         9 => fack(s, h, little, body),
-        2..=6 => Verdict::Refuse(Refusal::WrongSide),
-        10..=255 => Verdict::Refuse(Refusal::WrongSide),
+        2..=6 => Err(Refusal::WrongSide),
+        10..=255 => Err(Refusal::WrongSide),
     }
 }
 
@@ -508,32 +505,31 @@ fn own_activity(s: Server, h: Header, little: bool, body: &[u8]) -> Verdict
     let mine = s.activity;
     let theirs = h.activity;
     if !words::same_uuid(mine, theirs) {
-        return Verdict::Refuse(Refusal::OtherActivity);
+        return Err(Refusal::OtherActivity);
     }
     pdu(s, h, little, body)
 }
 
 // 1 and 2 of a datagram, by the lengths of what is lent; Done where neither holds.
-pub fn entry(s: Server, slots: usize, out: usize) -> Answer
+fn entry(s: Server, slots: usize, out: usize) -> Answer
     ensures { result ≡ entry_answer s slots out }
 {
     if !fragments::is_lent_right(slots, out) {
-        return Answer::Refused(Refusal::WrongLength);
+        return Err(Refusal::WrongLength);
     }
     if !records::is_sound(s) {
-        return Answer::Refused(Refusal::BrokenRecord);
+        return Err(Refusal::BrokenRecord);
     }
-    Answer::Done
+    Ok(())
 }
 
-// An arriving datagram behind its entry, by what reading it gave: those of the reader, 9, those of the PDU.
-pub fn arrival(s: Server, reading: Reading, body: &[u8]) -> Verdict
-    ensures { result ≡ read_verdict s reading body.now }
+// An arriving datagram, by the lengths of what is lent: 1, 2, those of the reader, 9, those of the PDU. With its row comes
+// the header of the PDU, which what is sent for it echoes.
+pub fn arrival(s: Server, slots: usize, out: usize, d: &[u8]) -> Result<(Row, Header), Refusal>
+    ensures { result ≡ with_header (reading d.now).header (arrival_verdict s slots out d.now) }
 {
-    let answer = reading.answer;
-    let h = reading.header;
-    match answer {
-        Answer::Refused(refusal) => Verdict::Refuse(refusal),
-        Answer::Done => own_activity(s, h, reading.little, body),
-    }
+    entry(s, slots, out)?;
+    let read = reader::read(d)?;
+    let row = own_activity(s, read.header, read.little, reader::body(d))?;
+    Ok((row, read.header))
 }

@@ -10,14 +10,12 @@ ghost use Rattle.std.specs.Prelude.{◌≡◌, []};
 ghost use Rattle.calls.specs.Sent.{Posted};
 ghost use Rattle.server.specs.Sending.{reply_header, echoed as echoed_call, echo_header, response_sent, fault_sent, empty_sent, fack_sent, cancel_ack_sent, sent_out};
 ghost use Rattle.calls.specs.Events.{Stepped, Arrived};
-ghost use Rattle.server.specs.judge.Parts.{read_verdict};
 ghost use Rattle.server.specs.Machine.{refused as refused_outcome, done as done_outcome, replying, sending, step_by, transmitting, timing, faulting, acted, arrival_by, arriving, handed_up_of};
 
 use answers::{Answer, Refusal};
 use calls::{Call, Notice, Sent};
 use judge::Verdict;
 use pdu::Header;
-use reader::Reading;
 pub use records::{Idle, Reply, Server, State, fresh, is_held, is_replying, is_running, is_sound};
 use step::{Plan, Send};
 
@@ -126,7 +124,7 @@ fn send_out(send: Send, s: Server, h: Header, lent: &[u8], out: &mut [u8]) -> Se
     ensures { Posted (sent_out send s h lent.now out.old) result out.new }
 {
     match send {
-        Send::Nothing => Sent::Nothing,
+        Send::Nothing => None,
         Send::Response(f) => send_response(f, s, lent, out),
         Send::Fault(status) => send_fault(status, s, out),
         Send::Working => send_empty(4, s, h, out),
@@ -141,9 +139,9 @@ fn refused(s: Server, refusal: Refusal) -> Outcome
     ensures { result ≡ refused_outcome s refusal }
 {
     Outcome {
-        answer: Answer::Refused(refusal),
+        answer: Err(refusal),
         server: s,
-        sent: Sent::Nothing,
+        sent: None,
         notice: Notice::Nothing,
     }
 }
@@ -155,7 +153,7 @@ fn done(plan: Plan, sent: Sent) -> Outcome
     let server = plan.server;
     let notice = plan.notice;
     Outcome {
-        answer: Answer::Done,
+        answer: Ok(()),
         server,
         sent,
         notice,
@@ -167,8 +165,8 @@ pub fn reply(s: Server, length: u32) -> Outcome
     ensures { result ≡ replying s length }
 {
     match judge::reply(s, length) {
-        Verdict::Refuse(refusal) => refused(s, refusal),
-        Verdict::Go(row) => done(step::step(row, s, pdu::no_header()), Sent::Nothing),
+        Err(refusal) => refused(s, refusal),
+        Ok(row) => done(step::step(row, s, pdu::no_header()), None),
     }
 }
 
@@ -186,8 +184,8 @@ fn act(verdict: Verdict, s: Server, lent: &[u8], out: &mut [u8]) -> Outcome
     ensures { Stepped (step_by verdict s lent.now out.old) result out.new }
 {
     match verdict {
-        Verdict::Refuse(refusal) => refused(s, refusal),
-        Verdict::Go(row) => {
+        Err(refusal) => refused(s, refusal),
+        Ok(row) => {
             let h = pdu::no_header();
             send(step::step(row, s, h), h, lent, out)
         }
@@ -231,30 +229,13 @@ fn store_and_send(plan: Plan, h: Header, body: &[u8], slots: &mut [u8], out: &mu
     send(plan, h, &none, out)
 }
 
-// A datagram that was read, behind its entry.
-fn receive(s: Server, reading: Reading, body: &[u8], slots: &mut [u8], out: &mut [u8]) -> Outcome
-    ensures { Arrived (arrival_by (read_verdict s reading body.now) s reading.header body.now slots.old out.old) result slots.new out.new }
-{
-    let h = reading.header;
-    match judge::arrival(s, reading, body) {
-        Verdict::Refuse(refusal) => refused(s, refusal),
-        Verdict::Go(row) => store_and_send(step::step(row, s, h), h, body, slots, out),
-    }
-}
-
 // An arriving PDU. It is read only where what is lent is right and the record keeps its rules.
 pub fn arrive(s: Server, datagram: &[u8], slots: &mut [u8], out: &mut [u8]) -> Outcome
     ensures { Arrived (arriving s datagram.now slots.old out.old) result slots.new out.new }
 {
-    match judge::entry(s, slots.len(), out.len()) {
-        Answer::Refused(refusal) => refused(s, refusal),
-        Answer::Done => receive(
-            s,
-            reader::read(datagram),
-            reader::body(datagram),
-            slots,
-            out,
-        ),
+    match judge::arrival(s, slots.len(), out.len(), datagram) {
+        Err(refusal) => refused(s, refusal),
+        Ok((row, h)) => store_and_send(step::step(row, s, h), h, reader::body(datagram), slots, out),
     }
 }
 

@@ -199,7 +199,7 @@ pub fn fresh(activity: [u8; 16], boot: u32, tickets: u64) -> Server
         resends: 0,
         seen: 0,
         tickets,
-        resend: Timer::Off,
+        resend: None,
     }
 }
 
@@ -239,7 +239,7 @@ pub fn to_holding(s: Server, reply: Reply) -> Server
 pub fn to_unarmed(s: Server, state: State) -> Server
     ensures { result ≡ unarmed s state }
 {
-    with_timer(s, state, s.tickets, Timer::Off)
+    with_timer(s, state, s.tickets, None)
 }
 
 // The record with another message sent.
@@ -294,7 +294,7 @@ pub fn with_call(s: Server, state: State, number: u32, call: Call) -> Server
         resends: 0,
         seen: 0,
         tickets: s.tickets,
-        resend: Timer::Off,
+        resend: None,
     }
 }
 

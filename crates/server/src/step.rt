@@ -42,7 +42,7 @@ fn going(s: Server, send: Send) -> Plan
         server: s,
         send,
         notice: Notice::Nothing,
-        store: Stored::Nothing,
+        store: None,
     }
 }
 
@@ -172,7 +172,7 @@ fn put(s: Server, p: Fragment) -> Plan
         server: records::with_incoming(next, fragments::put_into(m, p)),
         send: fack_for(p.facked, p.serial, p.count),
         notice: put_notice(p.complete),
-        store: Stored::At(p.number),
+        store: Some(p.number),
     }
 }
 
@@ -192,7 +192,7 @@ fn heard(s: Server, number: u32) -> Plan
         server: records::with_seen(s, number),
         send: Send::CancelAck(number, true),
         notice: Notice::Cancel,
-        store: Stored::Nothing,
+        store: None,
     }
 }
 

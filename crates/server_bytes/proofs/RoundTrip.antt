@@ -11,7 +11,7 @@ use Rattle.words.specs.Choice.{choose, both, mark_of}
 use Rattle.words.specs.Number.{le, digits, part, number}
 use Rattle.words.proofs.Number.{value-bytes}
 use Rattle.words.proofs.Tests.{both_hold, both_true}
-use Rattle.timers.specs.declared.Timer.TheVariants.{Off}
+use Rattle.timers.specs.Timer.{Off}
 use Rattle.record_bytes.specs.Fits.{Octets, FitsFields}
 use Rattle.record_bytes.specs.Canonical.{TicketClear}
 use Rattle.record_bytes.specs.Parts.{clear, count_where, timer_where, timer_in, uuid_in}

@@ -2,7 +2,7 @@
 use Rattle.std.specs.Prelude.{ℕ, Bool, true, false, List, get_or, drop, eqb, leb}
 use Rattle.words.specs.Choice.{choose, both}
 use Rattle.words.specs.Number.{number}
-use Rattle.timers.specs.declared.Timer.TheVariants.{Off}
+use Rattle.timers.specs.Timer.{Off}
 use Rattle.record_bytes.specs.declared.Fields.{Fields}
 use Rattle.record_bytes.specs.Parts.{clear, count_where}
 use Rattle.record_bytes.specs.Layout.{readable as shared_readable, fields_in, field_bytes}

@@ -154,7 +154,7 @@ fn fields_of(s: Server) -> Fields
         timer,
         armed: false,
         word: status_of(state) as u64,
-        cancel: Timer::Off,
+        cancel: None,
         cancels: s.seen,
     }
 }

@@ -7,11 +7,8 @@ ghost use Rattle.timers.specs.Tickets.{used_up, next_ticket, armed_afresh, armed
 // The largest counter.
 const LARGEST: u64 = 18446744073709551615;
 
-#[derive(Clone, Copy)]
-pub enum Timer {
-    Off,
-    Armed(u64),
-}
+// A timer: off, or armed with that ticket.
+pub type Timer = Option<u64>;
 
 // Whether no further ticket can be made.
 pub fn used_up(counter: u64) -> bool
@@ -35,7 +32,7 @@ pub fn armed_afresh(counter: u64) -> Timer
     ensures { result ≡ armed_afresh counter }
 {
     let ticket = next_ticket(counter);
-    Timer::Armed(ticket)
+    Some(ticket)
 }
 
 // The timer armed with the next ticket where it is off; one that is armed stays as it is.
@@ -43,8 +40,8 @@ pub fn armed_if_off(timer: Timer, counter: u64) -> Timer
     ensures { result ≡ armed_if_off timer counter }
 {
     match timer {
-        Timer::Off => armed_afresh(counter),
-        Timer::Armed(held) => Timer::Armed(held),
+        None => armed_afresh(counter),
+        Some(held) => Some(held),
     }
 }
 
@@ -53,8 +50,8 @@ pub fn tickets_if_off(timer: Timer, counter: u64) -> u64
     ensures { result ≡ tickets_if_off timer counter }
 {
     match timer {
-        Timer::Off => next_ticket(counter),
-        Timer::Armed(_) => counter,
+        None => next_ticket(counter),
+        Some(_) => counter,
     }
 }
 
@@ -63,8 +60,8 @@ pub fn is_armed_with(timer: Timer, ticket: u64) -> bool
     ensures { result ≡ armed_with timer ticket }
 {
     match timer {
-        Timer::Off => false,
-        Timer::Armed(held) => held == ticket,
+        None => false,
+        Some(held) => held == ticket,
     }
 }
 
@@ -73,8 +70,8 @@ pub fn is_off(timer: Timer) -> bool
     ensures { result ≡ off timer }
 {
     match timer {
-        Timer::Off => true,
-        Timer::Armed(_) => false,
+        None => true,
+        Some(_) => false,
     }
 }
 
@@ -83,8 +80,8 @@ fn is_sound(timer: Timer, counter: u64) -> bool
     ensures { result ≡ sound timer counter }
 {
     match timer {
-        Timer::Off => true,
-        Timer::Armed(held) => held <= counter,
+        None => true,
+        Some(held) => held <= counter,
     }
 }
 

@@ -12,14 +12,12 @@ use Rattle.words.specs.Choice.{choose, both, either}
 use Rattle.words.specs.Number.{le, digits, part, number}
 use Rattle.words.proofs.Tests.{both_true}
 use Rattle.words.proofs.Number.{value-bytes, part_all, part-take, digits-part}
-use Rattle.answers.specs.declared.Answer.{Answer}
-use Rattle.answers.specs.declared.Answer.TheVariants.{Done, Refused}
+use Rattle.answers.specs.Answer.{Answer, Done, Refused, Ok}
 use Rattle.answers.specs.Table.{answer_of}
 use Rattle.answers.proofs.TableLaws.{answer_done}
 use Rattle.pdu.specs.declared.Header.{Header}
-use Rattle.reader.specs.declared.Reading.{Reading}
+use Rattle.reader.specs.Reading.{Reading, order_is, reader_refusals, read_refusals, read_by, reading}
 use Rattle.pdu.specs.Header.{uuid_at, header_of, front_bytes, number_bytes, hint_bytes, back_bytes, header_bytes, datagram, body_of}
-use Rattle.reader.specs.Reading.{order_is, reader_refusals, read_refusals, read_by, reading}
 use Rattle.words.specs.Place.{placed}
 use Rattle.words.specs.Sizes.{header_size, body_size, pdu_size}
 use Rattle.words.proofs.Place.{placed-front}
@@ -240,7 +238,7 @@ module _ (s out : List ℕ) (octets : (i : ℕ) → get_or s i 0 < 256) (done : 
 
 answered : (a : Answer) (h : Header) (body out : List ℕ) → (write_by a h body out).result.answer ≡ a
 unfolding write_by
-answered Done h body out = refl
+answered (Ok tt) h body out = refl
 answered (Refused r) h body out = refl
 
 module _ (h : Header) (body out : List ℕ) where

@@ -11,30 +11,23 @@ use answers::{Answer, Refusal};
 use pdu::Header;
 use words::{BODY_SIZE, HEADER_SIZE, PDU_SIZE};
 
-// What writing gives: the answer, and how many bytes of the buffer are the PDU, 0 where it is refused.
-#[derive(Clone, Copy)]
-pub struct Written {
-    pub answer: Answer,
-    pub length: usize,
-}
-
 // The first of refusals 1, 5, 7 and 8 that is met.
 fn judge(lent: usize, kind: u8, authentication: u8, body: usize) -> Answer
     ensures { result ≡ answer_of (write_refusals lent kind authentication body) }
 {
     if lent != PDU_SIZE {
-        return Answer::Refused(Refusal::WrongLength);
+        return Err(Refusal::WrongLength);
     }
     if kind > 10 {
-        return Answer::Refused(Refusal::UnknownType);
+        return Err(Refusal::UnknownType);
     }
     if authentication != 0 {
-        return Answer::Refused(Refusal::Authenticated);
+        return Err(Refusal::Authenticated);
     }
     if body > BODY_SIZE {
-        return Answer::Refused(Refusal::WrongBodyLength);
+        return Err(Refusal::WrongBodyLength);
     }
-    Answer::Done
+    Ok(())
 }
 
 // The 80 bytes of a header before a body of that length.
@@ -70,22 +63,12 @@ pub fn write_header(h: Header, body: u16, out: &mut [u8])
     words::put(out, 0, &header_bytes(h, body));
 }
 
-// Writes a PDU into a lent buffer, or refuses it and leaves every byte as it was.
-pub fn write(h: Header, body: &[u8], out: &mut [u8]) -> Written
+// Writes a PDU into a lent buffer and tells how many bytes it is, or refuses it and leaves every byte as it was.
+pub fn write(h: Header, body: &[u8], out: &mut [u8]) -> Result<usize, Refusal>
     ensures { Wrote (writing h body.now out.old) result out.new }
 {
-    match judge(out.len(), h.kind, h.authentication, body.len()) {
-        Answer::Done => {
-            write_header(h, body.len() as u16, out);
-            words::put(out, HEADER_SIZE, body);
-            Written {
-                answer: Answer::Done,
-                length: HEADER_SIZE + body.len(),
-            }
-        }
-        Answer::Refused(refusal) => Written {
-            answer: Answer::Refused(refusal),
-            length: 0,
-        },
-    }
+    judge(out.len(), h.kind, h.authentication, body.len())?;
+    write_header(h, body.len() as u16, out);
+    words::put(out, HEADER_SIZE, body);
+    Ok(HEADER_SIZE + body.len())
 }

@@ -2,10 +2,10 @@
 use Rattle.calls.specs.Sent.{sent_bytes}
 use Rattle.calls.proofs.sent_bytes.Goals as goal
 
-pub returns-in-Nothing : goal.returns-in-Nothing
+pub returns-in-None : goal.returns-in-None
 unfolding sent_bytes
-returns-in-Nothing c = rw c.in-Nothing.is
+returns-in-None c = rw c.in-None.is
 
-pub returns-in-Pdu : goal.returns-in-Pdu
+pub returns-in-Some : goal.returns-in-Some
 unfolding sent_bytes
-returns-in-Pdu c = rw c.in-Pdu.is c.first.ensures
+returns-in-Some c = rw c.in-Some.is c.first.ensures

@@ -3,18 +3,18 @@ use Rattle.client.specs.Machine.{arriving}
 use Rattle.client.proofs.Returns.{arrival-refused, arrival_taken}
 use Rattle.client.proofs.arrive.Goals as goal
 
-pub returns-in-Refuse : goal.returns-in-Refuse
+pub returns-in-Err : goal.returns-in-Err
 unfolding arriving
-returns-in-Refuse c =
+returns-in-Err c =
     arrival-refused _ _ _ _ _ _ _ _ c.arrival.ensures
-    c.in-Refuse.is c.refused.ensures
+    c.in-Err.is c.refused.ensures
 
-pub returns-in-Go : goal.returns-in-Go
+pub returns-in-Ok : goal.returns-in-Ok
 unfolding arriving
-returns-in-Go c =
+returns-in-Ok c =
     arrival_taken _ _ _ _ _ _ _ _ _ _ _ _
     c.arrival.ensures
-    c.in-Go.is
+    c.in-Ok.is
     c.step.ensures
     c.body.ensures
     c.store_and_send.ensures

@@ -2,12 +2,12 @@
 use Rattle.client.specs.Machine.{start_by, starting}
 use Rattle.client.proofs.start.Goals as goal
 
-pub returns-in-Refuse : goal.returns-in-Refuse
+pub returns-in-Err : goal.returns-in-Err
 unfolding starting start_by
-returns-in-Refuse c =
-    rw (← c.start.ensures, c.in-Refuse.is, c.refused.ensures)
+returns-in-Err c =
+    rw (← c.start.ensures, c.in-Err.is, c.refused.ensures)
 
-pub returns-in-Go : goal.returns-in-Go
+pub returns-in-Ok : goal.returns-in-Ok
 unfolding starting start_by
-returns-in-Go c =
-    rw (← c.start.ensures, c.in-Go.is, c.start-in-Go.ensures)
+returns-in-Ok c =
+    rw (← c.start.ensures, c.in-Ok.is, c.start-in-Ok.ensures)

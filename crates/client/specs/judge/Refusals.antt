@@ -19,10 +19,7 @@ use Rattle.timers.specs.Tickets.{used_up, armed_with}
 use Rattle.client.specs.declared.records.State.{State}
 use Rattle.client.specs.declared.records.Client.{Client}
 use Rattle.client.specs.declared.records.TimerKind.{TimerKind}
-use Rattle.client.specs.declared.judge.Verdict.{Verdict}
-use Rattle.client.specs.declared.judge.Verdict.TheVariants.{Refuse, Go}
-use Rattle.client.specs.declared.judge.StartVerdict.{StartVerdict}
-use Rattle.client.specs.declared.judge.StartVerdict.TheVariants.{Refuse as RefuseStart, Go as GoStart}
+use Rattle.client.specs.judge.Verdict.{Verdict, Refuse, Go, StartVerdict, Refuse as RefuseStart, Go as GoStart}
 use Rattle.client.specs.records.States.{may_start, is_queued, is_sending, is_active}
 use Rattle.client.specs.records.Rules.{sound}
 use Rattle.client.specs.records.Named.{named_timer, named_by}

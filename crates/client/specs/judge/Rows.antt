@@ -11,15 +11,14 @@ use Rattle.fragments.specs.Fragment.{body_length}
 use Rattle.fragments.specs.Put.{put_of}
 use Rattle.outgoing.specs.Sending.{sends_last}
 use Rattle.pdu.specs.declared.Header.{Header}
-use Rattle.timers.specs.declared.Timer.{Timer}
+use Rattle.timers.specs.Timer.{Timer}
 use Rattle.timers.specs.Tickets.{off}
 use Rattle.client.specs.declared.records.Client.{Client}
 use Rattle.client.specs.declared.records.TimerKind.{TimerKind}
 use Rattle.client.specs.declared.records.TimerKind.TheVariants.{Wait, Ack, Cancel as CancelKind}
 use Rattle.client.specs.declared.judge.Row.{Row}
 use Rattle.client.specs.declared.judge.Row.TheVariants.{Transmit, Ping, SendAck, Cancel, Response, Fault, Reject, Working, Resend, GiveUp, Fack, CancelAck}
-use Rattle.client.specs.declared.judge.Verdict.{Verdict}
-use Rattle.client.specs.declared.judge.Verdict.TheVariants.{Refuse, Go}
+use Rattle.client.specs.judge.Verdict.{Verdict, Refuse, Go}
 use Rattle.client.specs.records.States.{is_active, is_dispatched}
 
 -- A cell has its row in the states that have it, elsewhere none: 15.

@@ -1,6 +1,6 @@
 -- Which timer an event names, and the states that have its row.
 use Rattle.std.specs.Prelude.{Bool}
-use Rattle.timers.specs.declared.Timer.{Timer}
+use Rattle.timers.specs.Timer.{Timer}
 use Rattle.client.specs.declared.records.State.{State}
 use Rattle.client.specs.declared.records.TimerKind.{TimerKind}
 use Rattle.client.specs.declared.records.TimerKind.TheVariants.{Wait, Ack, Cancel}

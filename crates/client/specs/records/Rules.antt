@@ -5,7 +5,7 @@ use Rattle.words.specs.Sizes.{retry_limit}
 use Rattle.outgoing.specs.declared.Outgoing.{Outgoing}
 use Rattle.outgoing.specs.Sending.{bounded, has_message, has_nothing}
 use Rattle.incoming.specs.Slots.{sound as incoming_sound}
-use Rattle.timers.specs.declared.Timer.{Timer}
+use Rattle.timers.specs.Timer.{Timer}
 use Rattle.timers.specs.Tickets.{timer_sound}
 use Rattle.client.specs.declared.records.State.{State}
 use Rattle.client.specs.declared.records.State.TheVariants.{Queued, SendFrags, Dispatched, ReceiveFrags, AckPending, Complete, Fault}

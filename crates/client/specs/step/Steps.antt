@@ -5,7 +5,7 @@ use Rattle.calls.specs.declared.Call.{Call}
 use Rattle.calls.specs.declared.Notice.{Notice}
 use Rattle.calls.specs.declared.Notice.TheVariants.{Nothing as Untold, Last, Count, Fault as FaultNotice, Reject as RejectNotice, Cause}
 use Rattle.fragments.specs.declared.Fragment.{Fragment}
-use Rattle.fragments.specs.declared.Stored.TheVariants.{At}
+use Rattle.fragments.specs.Stored.{At}
 use Rattle.fragments.specs.Put.{put_into}
 use Rattle.incoming.specs.declared.Incoming.{Incoming}
 use Rattle.outgoing.specs.Sending.{started_message, after_send, after_ping, acknowledged_to, rewound}

@@ -2,10 +2,10 @@
 use Rattle.fragments.specs.Judgement.{above_last}
 use Rattle.fragments.proofs.above_last.Goals as goal
 
-pub returns-in-Unknown : goal.returns-in-Unknown
+pub returns-in-None : goal.returns-in-None
 unfolding above_last
-returns-in-Unknown c = rw c.in-Unknown.is
+returns-in-None c = rw c.in-None.is
 
-pub returns-in-At : goal.returns-in-At
+pub returns-in-Some : goal.returns-in-Some
 unfolding above_last
-returns-in-At c = rw c.in-At.is
+returns-in-Some c = rw c.in-Some.is

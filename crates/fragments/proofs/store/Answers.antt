@@ -2,10 +2,10 @@
 use Rattle.fragments.specs.Put.{storing}
 use Rattle.fragments.proofs.store.Goals as goal
 
-pub returns-in-Nothing : goal.returns-in-Nothing
+pub returns-in-None : goal.returns-in-None
 unfolding storing
-returns-in-Nothing c = rw c.in-Nothing.is
+returns-in-None c = rw c.in-None.is
 
-pub returns-in-At : goal.returns-in-At
+pub returns-in-Some : goal.returns-in-Some
 unfolding storing
-returns-in-At c = rw (c.in-At.is, c.fill.ensures)
+returns-in-Some c = rw (c.in-Some.is, c.fill.ensures)

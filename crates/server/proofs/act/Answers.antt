@@ -2,10 +2,10 @@
 use Rattle.server.proofs.Returns.{refused-step, taken_step}
 use Rattle.server.proofs.act.Goals as goal
 
-pub returns-in-Go : goal.returns-in-Go
-returns-in-Go c =
-    taken_step _ _ _ _ _ _ _ _ _ c.in-Go.is c.step.ensures
+pub returns-in-Ok : goal.returns-in-Ok
+returns-in-Ok c =
+    taken_step _ _ _ _ _ _ _ _ _ c.in-Ok.is c.step.ensures
     c.no_header-h.ensures c.send.ensures
 
-pub returns-in-Refuse : goal.returns-in-Refuse
-returns-in-Refuse c = refused-step _ _ _ _ _ _ c.in-Refuse.is c.refused.ensures
+pub returns-in-Err : goal.returns-in-Err
+returns-in-Err c = refused-step _ _ _ _ _ _ c.in-Err.is c.refused.ensures

@@ -13,7 +13,7 @@ use Rattle.server.specs.declared.records.State.TheVariants.{Idle as IdleState, C
 use Rattle.server.specs.declared.records.Server.{Server}
 use Rattle.server.specs.declared.judge.Order.{Order}
 use Rattle.server.specs.declared.judge.Order.TheVariants.{Below, Equal, Newer}
-use Rattle.server.specs.declared.judge.Verdict.TheVariants.{Refuse}
+use Rattle.server.specs.judge.Verdict.{Refuse}
 use Rattle.server.specs.judge.Rows.{timer_cell}
 use Rattle.server.specs.judge.Refusals.{pdu_verdict}
 use Rattle.server.specs.judge.Parts.{RequestIn}

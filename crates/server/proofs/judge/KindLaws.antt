@@ -28,8 +28,7 @@ use Rattle.server.specs.declared.records.Server.{Server}
 use Rattle.server.specs.declared.judge.Order.{Order}
 use Rattle.server.specs.declared.judge.Order.TheVariants.{Below, Equal, Newer}
 use Rattle.server.specs.declared.judge.Row.TheVariants.{Begin, Put, Working, Acknowledge}
-use Rattle.server.specs.declared.judge.Verdict.{Verdict}
-use Rattle.server.specs.declared.judge.Verdict.TheVariants.{Refuse, Go}
+use Rattle.server.specs.judge.Verdict.{Verdict, Refuse, Go}
 use Rattle.server.specs.records.States.{is_running, is_replying, is_held}
 use Rattle.server.specs.records.Rules.{sound}
 use Rattle.server.specs.judge.Rows.{is_for_server, says, order_for, replay_row, request_newer, request_again, request_idle, request_equal, request_cell, ping_equal, ping_cell, where_replied, acknowledgement_cell, ack_cell, cancel_equal, cancel_cell, request_put, arrival_cell}

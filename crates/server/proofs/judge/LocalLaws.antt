@@ -15,7 +15,7 @@ use Rattle.server.specs.declared.records.State.TheVariants.{Held}
 use Rattle.server.specs.declared.records.Server.{Server}
 use Rattle.server.specs.declared.judge.Row.{Row}
 use Rattle.server.specs.declared.judge.Row.TheVariants.{TransmitMore, TransmitRepeatable, TransmitHeld, FaultRepeatable, FaultHeld, Spend}
-use Rattle.server.specs.declared.judge.Verdict.TheVariants.{Refuse, Go}
+use Rattle.server.specs.judge.Verdict.{Refuse, Go}
 use Rattle.server.specs.records.States.{is_running, is_replying}
 use Rattle.server.specs.records.Rules.{sound}
 use Rattle.server.specs.records.Repeatable.{runs_again}

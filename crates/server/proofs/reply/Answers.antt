@@ -2,17 +2,17 @@
 use Rattle.server.specs.Machine.{reply_by, replying}
 use Rattle.server.proofs.reply.Goals as goal
 
-pub returns-in-Refuse : goal.returns-in-Refuse
+pub returns-in-Err : goal.returns-in-Err
 unfolding replying reply_by
-returns-in-Refuse c =
-    rw (← c.reply.ensures, c.in-Refuse.is, ← c.refused.ensures)
+returns-in-Err c =
+    rw (← c.reply.ensures, c.in-Err.is, ← c.refused.ensures)
 
-pub returns-in-Go : goal.returns-in-Go
+pub returns-in-Ok : goal.returns-in-Ok
 unfolding replying reply_by
-returns-in-Go c =
+returns-in-Ok c =
     rw (
       ← c.reply.ensures,
-      c.in-Go.is,
+      c.in-Ok.is,
       ← c.no_header.ensures,
       ← c.step.ensures,
       ← c.done.ensures,

@@ -1,19 +1,19 @@
 -- Parts of the judgement, as the code is cut.
-use Rattle.std.specs.Prelude.{ℕ, Bool, false, not, List, ◌≡◌}
+use Rattle.std.specs.Prelude.{ℕ, Bool, Result, false, not, List, ◌≡◌}
 use Rattle.words.specs.Choice.{choose, both, either}
-use Rattle.answers.specs.declared.Answer.{Answer}
+use Rattle.answers.specs.Answer.{Answer}
+use Rattle.answers.specs.declared.Refusal.{Refusal}
 use Rattle.answers.specs.declared.Refusal.TheVariants.{TicketsUsedUp}
 use Rattle.answers.specs.Table.{answer_of, behind_answer}
 use Rattle.fragments.specs.Fragment.{is_last, wrong_fragment}
 use Rattle.fragments.specs.Judgement.{contradicts}
 use Rattle.pdu.specs.declared.Header.{Header}
-use Rattle.reader.specs.declared.Reading.{Reading}
+use Rattle.reader.specs.Reading.{Reading}
 use Rattle.server.specs.declared.records.State.{State}
 use Rattle.server.specs.declared.records.Server.{Server}
 use Rattle.server.specs.declared.judge.Order.{Order}
 use Rattle.server.specs.declared.judge.Row.{Row}
-use Rattle.server.specs.declared.judge.Verdict.{Verdict}
-use Rattle.server.specs.declared.judge.Verdict.TheVariants.{Refuse, Go}
+use Rattle.server.specs.judge.Verdict.{Verdict, Refuse, Go}
 use Rattle.server.specs.judge.Rows.{order_for, arms}
 use Rattle.server.specs.judge.Refusals.{is_maybe_or_broadcast, same_call, activity_verdict, entry_refusals}
 
@@ -41,3 +41,8 @@ entry_answer s slots out = answer_of (entry_refusals s slots out)
 -- A datagram behind its entry, by what reading it gave: those of the reader, 9, those of the PDU.
 abbrev pub read_verdict : Server → Reading → List ℕ → Verdict
 read_verdict s read body = behind_answer Refuse (activity_verdict s read.header read.little body) read.answer
+
+-- A verdict with the header of the PDU that arrived, which what is sent for it echoes.
+abbrev pub with_header : Header → Verdict → Result (Row × Header) Refusal
+with_header h (Go row) = Go (row, h)
+with_header h (Refuse r) = Refuse r

@@ -25,8 +25,7 @@ use Rattle.server.specs.declared.records.Server.{Server}
 use Rattle.server.specs.declared.judge.Order.{Order}
 use Rattle.server.specs.declared.judge.Order.TheVariants.{Below, Equal, Newer}
 use Rattle.server.specs.declared.judge.Row.TheVariants.{Reply}
-use Rattle.server.specs.declared.judge.Verdict.{Verdict}
-use Rattle.server.specs.declared.judge.Verdict.TheVariants.{Refuse, Go}
+use Rattle.server.specs.judge.Verdict.{Verdict, Refuse, Go}
 use Rattle.server.specs.records.States.{is_running, is_replying}
 use Rattle.server.specs.records.Rules.{sound}
 use Rattle.server.specs.judge.Rows.{is_row, says, order_for, is_for_server, arrival_cell, transmit_row, fault_row, timer_cell, arms, arms_timer}

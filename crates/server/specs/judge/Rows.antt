@@ -27,8 +27,7 @@ use Rattle.server.specs.declared.judge.Order.{Order}
 use Rattle.server.specs.declared.judge.Order.TheVariants.{Below, Equal, Newer}
 use Rattle.server.specs.declared.judge.Row.{Row}
 use Rattle.server.specs.declared.judge.Row.TheVariants.{Reply as ReplyRow, TransmitMore, TransmitRepeatable, TransmitHeld, FaultRepeatable, FaultHeld, ResendData, ResendFault, Spend, Begin, Put, Working, Nocall, Rewind, RepeatFault, Acknowledge, HearCancel, AcceptCancel, DeclineCancel}
-use Rattle.server.specs.declared.judge.Verdict.{Verdict}
-use Rattle.server.specs.declared.judge.Verdict.TheVariants.{Refuse, Go}
+use Rattle.server.specs.judge.Verdict.{Verdict, Refuse, Go}
 use Rattle.server.specs.records.States.{is_fresh}
 use Rattle.server.specs.records.Repeatable.{runs_again}
 

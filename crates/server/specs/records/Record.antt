@@ -6,8 +6,7 @@ use Rattle.outgoing.specs.declared.Outgoing.{Outgoing}
 use Rattle.outgoing.specs.Sending.{no_message}
 use Rattle.incoming.specs.declared.Incoming.{Incoming}
 use Rattle.incoming.specs.Slots.{cleared}
-use Rattle.timers.specs.declared.Timer.{Timer}
-use Rattle.timers.specs.declared.Timer.TheVariants.{Off}
+use Rattle.timers.specs.Timer.{Timer, Off}
 use Rattle.timers.specs.Tickets.{next_ticket, armed_afresh}
 use Rattle.server.specs.declared.records.Idle.TheVariants.{Fresh}
 use Rattle.server.specs.declared.records.Reply.{Reply}

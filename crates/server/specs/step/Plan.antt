@@ -1,6 +1,6 @@
 -- What a row is to do, before anything is written.
 use Rattle.calls.specs.declared.Notice.TheVariants.{Nothing as Untold}
-use Rattle.fragments.specs.declared.Stored.TheVariants.{Nothing as Unstored}
+use Rattle.fragments.specs.Stored.{Nothing as Unstored}
 use Rattle.server.specs.declared.records.Server.{Server}
 use Rattle.server.specs.declared.step.Send.{Send}
 use Rattle.server.specs.declared.step.Plan.{Plan}

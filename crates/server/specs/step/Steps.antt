@@ -6,7 +6,7 @@ use Rattle.calls.specs.declared.Notice.{Notice}
 use Rattle.calls.specs.declared.Notice.TheVariants.{Nothing as Untold, Dispatch, Cancel}
 use Rattle.flags.specs.Flags.{idempotent, has_flag}
 use Rattle.fragments.specs.declared.Fragment.{Fragment}
-use Rattle.fragments.specs.declared.Stored.TheVariants.{Nothing as Unstored, At}
+use Rattle.fragments.specs.Stored.{Nothing as Unstored, At}
 use Rattle.fragments.specs.Put.{put_into}
 use Rattle.outgoing.specs.Sending.{replied, after_send, acknowledged_to, rewound}
 use Rattle.pdu.specs.declared.Header.{Header}

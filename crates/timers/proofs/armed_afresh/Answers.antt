@@ -1,6 +1,6 @@
 -- `timers::armed_afresh` meets its contract.
 use mathlib.Core.Path.{ap}
-use Rattle.timers.specs.declared.Timer.TheVariants.{Armed}
+use Rattle.timers.specs.Timer.{Armed}
 use Rattle.timers.specs.Tickets.{armed_afresh}
 use Rattle.timers.proofs.armed_afresh.Goals as goal
 

@@ -2,10 +2,10 @@
 use Rattle.timers.specs.Tickets.{armed_with}
 use Rattle.timers.proofs.is_armed_with.Goals as goal
 
-pub returns-in-Off : goal.returns-in-Off
+pub returns-in-None : goal.returns-in-None
 unfolding armed_with
-returns-in-Off c = rw c.in-Off.is
+returns-in-None c = rw c.in-None.is
 
-pub returns-in-Armed : goal.returns-in-Armed
+pub returns-in-Some : goal.returns-in-Some
 unfolding armed_with
-returns-in-Armed c = rw c.in-Armed.is
+returns-in-Some c = rw c.in-Some.is

@@ -2,10 +2,10 @@
 use Rattle.timers.specs.Tickets.{tickets_if_off}
 use Rattle.timers.proofs.tickets_if_off.Goals as goal
 
-pub returns-in-Off : goal.returns-in-Off
+pub returns-in-None : goal.returns-in-None
 unfolding tickets_if_off
-returns-in-Off c = rw (c.in-Off.is, c.next_ticket.ensures)
+returns-in-None c = rw (c.in-None.is, c.next_ticket.ensures)
 
-pub returns-in-Armed : goal.returns-in-Armed
+pub returns-in-Some : goal.returns-in-Some
 unfolding tickets_if_off
-returns-in-Armed c = rw c.in-Armed.is
+returns-in-Some c = rw c.in-Some.is

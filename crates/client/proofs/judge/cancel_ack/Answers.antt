@@ -7,7 +7,7 @@ use Rattle.answers.specs.declared.Refusal.TheVariants.{OldCall, MalformedBody, N
 use Rattle.pdu.specs.declared.Header.{Header}
 use Rattle.bodies.specs.Cancel.{cancel_ack_malformed, cancel_number_in}
 use Rattle.client.specs.declared.records.Client.{Client}
-use Rattle.client.specs.declared.judge.Verdict.TheVariants.{Refuse, Go}
+use Rattle.client.specs.judge.Verdict.{Refuse, Go}
 use Rattle.client.specs.declared.judge.Row.TheVariants.{CancelAck}
 use Rattle.client.specs.judge.Rows.{cell_in, is_row, is_current, is_for_client, arrival_cell, arms, arms_timer}
 use Rattle.client.specs.judge.Refusals.{is_response, is_old, is_malformed, is_contradiction, pdu_refusals, pdu_verdict}

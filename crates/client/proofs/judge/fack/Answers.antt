@@ -8,7 +8,7 @@ use Rattle.pdu.specs.declared.Header.{Header}
 use Rattle.bodies.specs.Fack.{fack_malformed}
 use Rattle.facks.specs.Mask.{acknowledged_by, acknowledges_more}
 use Rattle.client.specs.declared.records.Client.{Client}
-use Rattle.client.specs.declared.judge.Verdict.TheVariants.{Refuse, Go}
+use Rattle.client.specs.judge.Verdict.{Refuse, Go}
 use Rattle.client.specs.records.States.{is_active}
 use Rattle.client.specs.declared.judge.Row.TheVariants.{Fack}
 use Rattle.client.specs.judge.Rows.{cell_in, is_row, is_for_client, arrival_cell, arms, arms_timer}

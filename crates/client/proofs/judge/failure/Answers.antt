@@ -7,7 +7,7 @@ use Rattle.answers.specs.declared.Refusal.TheVariants.{OldCall, MalformedBody, N
 use Rattle.pdu.specs.declared.Header.{Header}
 use Rattle.bodies.specs.Status.{status_malformed, status_in}
 use Rattle.client.specs.declared.records.Client.{Client}
-use Rattle.client.specs.declared.judge.Verdict.TheVariants.{Refuse, Go}
+use Rattle.client.specs.judge.Verdict.{Refuse, Go}
 use Rattle.client.specs.records.States.{is_active}
 use Rattle.client.specs.declared.judge.Row.TheVariants.{Fault, Reject}
 use Rattle.client.specs.judge.Rows.{cell_in, is_row, is_for_client, arrival_cell, arms, arms_timer}

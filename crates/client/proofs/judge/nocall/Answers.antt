@@ -7,7 +7,7 @@ use Rattle.answers.specs.Table.{first_of}
 use Rattle.answers.specs.declared.Refusal.TheVariants.{OldCall, NoRow}
 use Rattle.pdu.specs.declared.Header.{Header}
 use Rattle.client.specs.declared.records.Client.{Client}
-use Rattle.client.specs.declared.judge.Verdict.TheVariants.{Refuse, Go}
+use Rattle.client.specs.judge.Verdict.{Refuse, Go}
 use Rattle.client.specs.records.States.{is_dispatched}
 use Rattle.client.specs.judge.Rows.{cell_in, is_row, nocall_row, is_for_client, arrival_cell, arms, arms_timer}
 use Rattle.client.specs.judge.Refusals.{is_response, is_old, is_malformed, is_contradiction, pdu_refusals, pdu_verdict}

@@ -5,7 +5,7 @@ use Rattle.answers.specs.Table.{first_of}
 use Rattle.answers.specs.declared.Refusal.TheVariants.{WrongSide}
 use Rattle.pdu.specs.declared.Header.{Header}
 use Rattle.client.specs.declared.records.Client.{Client}
-use Rattle.client.specs.declared.judge.Verdict.TheVariants.{Refuse}
+use Rattle.client.specs.judge.Verdict.{Refuse}
 use Rattle.client.specs.judge.Rows.{is_for_client}
 use Rattle.client.specs.judge.Refusals.{pdu_refusals, pdu_verdict}
 use Rattle.client.proofs.judge.pdu.Goals as goal

@@ -11,7 +11,7 @@ use Rattle.fragments.specs.Judgement.{held, contradicts}
 use Rattle.fragments.specs.Put.{put_of}
 use Rattle.timers.specs.Tickets.{used_up}
 use Rattle.client.specs.declared.records.Client.{Client}
-use Rattle.client.specs.declared.judge.Verdict.TheVariants.{Refuse, Go}
+use Rattle.client.specs.judge.Verdict.{Refuse, Go}
 use Rattle.client.specs.records.States.{is_active}
 use Rattle.client.specs.declared.judge.Row.TheVariants.{Response}
 use Rattle.client.specs.judge.Rows.{cell_in, is_row, is_for_client, arrival_cell, arms, arms_timer}

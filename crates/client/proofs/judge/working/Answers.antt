@@ -7,7 +7,7 @@ use Rattle.answers.specs.declared.Refusal.TheVariants.{OldCall, NoRow, TicketsUs
 use Rattle.pdu.specs.declared.Header.{Header}
 use Rattle.timers.specs.Tickets.{used_up}
 use Rattle.client.specs.declared.records.Client.{Client}
-use Rattle.client.specs.declared.judge.Verdict.TheVariants.{Refuse, Go}
+use Rattle.client.specs.judge.Verdict.{Refuse, Go}
 use Rattle.client.specs.records.States.{is_dispatched}
 use Rattle.client.specs.declared.judge.Row.TheVariants.{Working}
 use Rattle.client.specs.judge.Rows.{cell_in, is_row, is_for_client, arrival_cell, arms, arms_timer}
