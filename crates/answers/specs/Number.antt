@@ -2,7 +2,7 @@
 use Rattle.std.specs.Prelude.{ℕ}
 use Rattle.answers.specs.declared.Refusal.{Refusal}
 use Rattle.answers.specs.declared.Refusal.TheVariants.{WrongLength, BrokenRecord, ShortDatagram, WrongVersion, UnknownType, UnknownRepresentation, Authenticated, WrongBodyLength, OtherActivity, WrongSide, MaybeOrBroadcast, WrongFragment, OldCall, MalformedBody, NoRow, Repeated, Contradiction, LateTimer, NumbersUsedUp, TicketsUsedUp}
-use Rattle.answers.specs.Answer.{Answer, Done, Refused, Ok}
+use Rattle.answers.specs.Answer.{Answer, Refused, Ok}
 
 abbrev pub refusal_number : Refusal → ℕ
 refusal_number WrongLength = 1

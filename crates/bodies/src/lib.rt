@@ -1,5 +1,5 @@
 // The bodies of fack, fault, reject, cancel and cancel_ack.
-#![tactic(auto)]
+#![tactic(auto, unfolding(crate::specs::Fack::fack_malformed, crate::specs::Fack::fack_of, crate::specs::Fack::fack_reading, crate::specs::Fack::fack_result, crate::specs::Fack::fack_bytes, crate::specs::Status::status_malformed, crate::specs::Status::status_reading, crate::specs::Status::status_result, crate::specs::Cancel::cancel_malformed, crate::specs::Cancel::cancel_reading, crate::specs::Cancel::cancel_result, crate::specs::Cancel::cancel_bytes, crate::specs::Cancel::cancel_ack_malformed, crate::specs::Cancel::cancel_ack_reading, crate::specs::Cancel::cancel_ack_result, crate::specs::Cancel::acknowledging, crate::specs::Cancel::cancel_ack_bytes, answers::specs::Answer::if_done, words::specs::Choice::choose, words::specs::Choice::either, words::specs::Choice::mark_of, words::specs::Place::placed, words::specs::Place::put_at))]
 
 ghost use Rattle.std.specs.Prelude.{◌≡◌};
 ghost use Rattle.bodies.specs.Fack.{fack_malformed, fack_of, fack_result, fack_bytes, fack_fields};
@@ -8,7 +8,7 @@ ghost use Rattle.bodies.specs.Cancel.{cancel_malformed, cancel_number_in, cancel
 ghost use Rattle.bodies.specs.Cancel.{cancel_ack_malformed, cancel_ack_result, cancel_ack_bytes};
 
 use answers::Refusal;
-use words::PDU_SIZE;
+use words::{PDU_SIZE, ReadAt};
 
 // A fack's body, with its first mask.
 #[derive(Clone, Copy)]
@@ -33,16 +33,9 @@ pub struct CancelAck {
 pub fn is_fack_malformed(body: &[u8], little: bool) -> bool
     ensures { result ≡ fack_malformed little body.now }
 {
-    let size = body.len();
-    if size < 16 {
-        return true;
-    }
-    let version = words::byte_at(body, 0);
-    if version != 0 {
-        return true;
-    }
-    let count = words::number16(body, 14, little);
-    size != 16 + 4 * (count as usize)
+    body.len() < 16
+        || words::byte_at(body, 0) != 0
+        || body.len() != 16 + 4 * usize::from(u16::read_at(body, 14, little))
 }
 
 // The fields of a fack's body.
@@ -51,17 +44,16 @@ fn fack_of(body: &[u8], little: bool) -> Fack
 {
     Fack {
         pad: words::byte_at(body, 1),
-        window: words::number16(body, 2, little),
-        tsdu: words::number32(body, 4, little),
-        size: words::number32(body, 8, little),
-        serial: words::number16(body, 12, little),
-        words: words::number16(body, 14, little),
-        mask: words::number32(body, 16, little),
+        window: u16::read_at(body, 2, little),
+        tsdu: u32::read_at(body, 4, little),
+        size: u32::read_at(body, 8, little),
+        serial: u16::read_at(body, 12, little),
+        words: u16::read_at(body, 14, little),
+        mask: u32::read_at(body, 16, little),
     }
 }
 
 // Reads a fack's body in the sender's order.
-#[tactic(auto, unfolding(crate::specs::Fack::fack_result, crate::specs::Fack::fack_reading, answers::specs::Answer::if_done, words::specs::Choice::choose))]
 pub fn read_fack(body: &[u8], little: bool) -> Result<Fack, Refusal>
     ensures { result ≡ fack_result little body.now }
 {
@@ -75,31 +67,15 @@ pub fn read_fack(body: &[u8], little: bool) -> Result<Fack, Refusal>
 pub fn write_fack(serial: u16, mask: u32) -> [u8; 20]
     ensures { result ≡ fack_bytes (fack_fields serial mask) }
 {
-    let answered = words::split16(serial);
-    let held = words::split32(mask);
-    let size = words::split32(PDU_SIZE as u32);
-    [
-        0,
-        0,
-        43,
-        0,
-        size[0],
-        size[1],
-        size[2],
-        size[3],
-        size[0],
-        size[1],
-        size[2],
-        size[3],
-        answered[0],
-        answered[1],
-        1,
-        0,
-        held[0],
-        held[1],
-        held[2],
-        held[3],
-    ]
+    let size = (PDU_SIZE as u32).to_le_bytes();
+    let mut body = [0; 20];
+    words::put(&mut body, 2, &43u16.to_le_bytes());
+    words::put(&mut body, 4, &size);
+    words::put(&mut body, 8, &size);
+    words::put(&mut body, 12, &serial.to_le_bytes());
+    words::put(&mut body, 14, &1u16.to_le_bytes());
+    words::put(&mut body, 16, &mask.to_le_bytes());
+    body
 }
 
 // Whether the body of a fault or reject is malformed: under 4 bytes.
@@ -113,11 +89,10 @@ pub fn is_status_malformed(body: &[u8]) -> bool
 pub fn status(body: &[u8], little: bool) -> u32
     ensures { result ≡ status_in little body.now }
 {
-    words::number32(body, 0, little)
+    u32::read_at(body, 0, little)
 }
 
 // Reads the status of a fault or reject in the sender's order.
-#[tactic(auto, unfolding(crate::specs::Status::status_result, crate::specs::Status::status_reading, answers::specs::Answer::if_done, words::specs::Choice::choose))]
 pub fn read_status(body: &[u8], little: bool) -> Result<u32, Refusal>
     ensures { result ≡ status_result little body.now }
 {
@@ -131,29 +106,24 @@ pub fn read_status(body: &[u8], little: bool) -> Result<u32, Refusal>
 pub fn write_status(status: u32) -> [u8; 4]
     ensures { result ≡ status_bytes status }
 {
-    words::split32(status)
+    status.to_le_bytes()
 }
 
 // Whether a cancel's body is malformed: not 8 bytes, or another version than 0.
 pub fn is_cancel_malformed(body: &[u8], little: bool) -> bool
     ensures { result ≡ cancel_malformed little body.now }
 {
-    if body.len() != 8 {
-        return true;
-    }
-    let version = words::number32(body, 0, little);
-    version != 0
+    body.len() != 8 || u32::read_at(body, 0, little) != 0
 }
 
 // The number in the body of a cancel or cancel_ack, behind the version.
 pub fn cancel_number(body: &[u8], little: bool) -> u32
     ensures { result ≡ cancel_number_in little body.now }
 {
-    words::number32(body, 4, little)
+    u32::read_at(body, 4, little)
 }
 
 // Reads a cancel's body in the sender's order.
-#[tactic(auto, unfolding(crate::specs::Cancel::cancel_result, crate::specs::Cancel::cancel_reading, answers::specs::Answer::if_done, words::specs::Choice::choose))]
 pub fn read_cancel(body: &[u8], little: bool) -> Result<u32, Refusal>
     ensures { result ≡ cancel_result little body.now }
 {
@@ -167,27 +137,18 @@ pub fn read_cancel(body: &[u8], little: bool) -> Result<u32, Refusal>
 pub fn write_cancel(number: u32) -> [u8; 8]
     ensures { result ≡ cancel_bytes number }
 {
-    let n = words::split32(number);
-    [0, 0, 0, 0, n[0], n[1], n[2], n[3]]
+    let [a, b, c, d] = number.to_le_bytes();
+    [0, 0, 0, 0, a, b, c, d]
 }
 
 // Whether a cancel_ack's body is malformed: not 12 bytes, another version than 0, or accepts above 1.
 pub fn is_cancel_ack_malformed(body: &[u8], little: bool) -> bool
     ensures { result ≡ cancel_ack_malformed little body.now }
 {
-    if body.len() != 12 {
-        return true;
-    }
-    let version = words::number32(body, 0, little);
-    if version != 0 {
-        return true;
-    }
-    let accepts = words::number32(body, 8, little);
-    accepts > 1
+    body.len() != 12 || u32::read_at(body, 0, little) != 0 || u32::read_at(body, 8, little) > 1
 }
 
 // Reads a cancel_ack's body in the sender's order.
-#[tactic(auto, unfolding(crate::specs::Cancel::cancel_ack_result, crate::specs::Cancel::cancel_ack_reading, crate::specs::Cancel::acknowledging, answers::specs::Answer::if_done, words::specs::Choice::choose))]
 pub fn read_cancel_ack(body: &[u8], little: bool) -> Result<CancelAck, Refusal>
     ensures { result ≡ cancel_ack_result little body.now }
 {
@@ -196,7 +157,7 @@ pub fn read_cancel_ack(body: &[u8], little: bool) -> Result<CancelAck, Refusal>
     }
     Ok(CancelAck {
         number: cancel_number(body, little),
-        accepts: words::number32(body, 8, little) == 1,
+        accepts: u32::read_at(body, 8, little) == 1,
     })
 }
 
@@ -204,19 +165,6 @@ pub fn read_cancel_ack(body: &[u8], little: bool) -> Result<CancelAck, Refusal>
 pub fn write_cancel_ack(number: u32, accepts: bool) -> [u8; 12]
     ensures { result ≡ cancel_ack_bytes number accepts }
 {
-    let n = words::split32(number);
-    [
-        0,
-        0,
-        0,
-        0,
-        n[0],
-        n[1],
-        n[2],
-        n[3],
-        words::mark(accepts),
-        0,
-        0,
-        0,
-    ]
+    let [a, b, c, d] = number.to_le_bytes();
+    [0, 0, 0, 0, a, b, c, d, u8::from(accepts), 0, 0, 0]
 }

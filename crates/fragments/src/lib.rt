@@ -24,21 +24,21 @@ pub fn is_lent_right(slots: usize, out: usize) -> bool
 pub fn is_last(flags1: u8) -> bool
     ensures { result ≡ is_last flags1 }
 {
-    flags::is_last(flags1) || !flags::is_fragment(flags1)
+    flags::has(flags1, flags::LAST_FRAGMENT) || !flags::has(flags1, flags::FRAGMENT)
 }
 
 // Whether what is put is answered by a fack: a fragment whose sender did not ask for none.
 fn wants_fack(flags1: u8) -> bool
     ensures { result ≡ wants_fack flags1 }
 {
-    !flags::has_no_fack(flags1) && flags::is_fragment(flags1)
+    !flags::has(flags1, flags::NO_FACK) && flags::has(flags1, flags::FRAGMENT)
 }
 
 // Whether a fragment number is above 31, or other than 0 where fragment is clear.
 pub fn is_wrong(flags1: u8, number: u16) -> bool
     ensures { result ≡ wrong_fragment flags1 number }
 {
-    number > LAST_NUMBER || (!flags::is_fragment(flags1) && number != 0)
+    number > LAST_NUMBER || (!flags::has(flags1, flags::FRAGMENT) && number != 0)
 }
 
 // The length of a body as a record keeps it.

@@ -1,14 +1,14 @@
 // The connectionless PDU: its header, and the header's fields as they stand in a datagram.
-#![tactic(auto)]
+#![tactic(auto, unfolding(crate::specs::Header::header_of, crate::specs::Header::blank, crate::specs::Header::header_in, words::specs::Choice::choose))]
 
-ghost use Rattle.std.specs.Prelude.{◌≡◌, true, false, ◌+◌, ◌≤◌, length};
+ghost use Rattle.std.specs.Prelude.{◌≡◌, ◌≤◌, length};
 ghost use Rattle.words.specs.Sizes.{header_size};
 ghost use Rattle.pdu.specs.Header.{uuid_at, header_of, blank, header_in};
 
 mod kind;
 
 pub use kind::Kind;
-use words::HEADER_SIZE;
+use words::{HEADER_SIZE, ReadAt};
 
 // The header, but for version, representation and body length, which the writer sets itself. UUIDs are in the
 // little-endian form.
@@ -31,38 +31,17 @@ pub struct Header {
     pub authentication: u8,
 }
 
-// A UUID of a little-endian sender.
-fn uuid_little(u: &[u8]) -> [u8; 16]
-    requires { length u.now ≡ 16 }
-    ensures { result ≡ uuid_at true u.now 0 }
-{
-    [
-        u[0], u[1], u[2], u[3], u[4], u[5], u[6], u[7], u[8], u[9], u[10], u[11], u[12], u[13],
-        u[14], u[15],
-    ]
-}
-
-// A UUID of a big-endian sender, turned into the little-endian form.
-fn uuid_big(big: &[u8]) -> [u8; 16]
-    requires { length big.now ≡ 16 }
-    ensures { result ≡ uuid_at false big.now 0 }
-{
-    [
-        big[3], big[2], big[1], big[0], big[5], big[4], big[7], big[6], big[8], big[9], big[10],
-        big[11], big[12], big[13], big[14], big[15],
-    ]
-}
-
-// The UUID that stands at `at`.
+// The UUID that stands at `at`, of a big-endian sender turned into the little-endian form.
 fn uuid(s: &[u8], at: usize, little: bool) -> [u8; 16]
-    requires { at + 16 ≤ length s.now }
     ensures { result ≡ uuid_at little s.now at }
 {
-    let u = &s[at..at + 16];
-    if little {
-        return uuid_little(u);
+    let mut uuid = words::part(s, at);
+    if !little {
+        uuid[..4].reverse();
+        uuid[4..6].reverse();
+        uuid[6..8].reverse();
     }
-    uuid_big(u)
+    uuid
 }
 
 // The header's fields, in the sender's order.
@@ -74,17 +53,17 @@ fn header_of(s: &[u8], little: bool) -> Header
         kind: s[1],
         flags1: s[2],
         flags2: s[3],
-        serial: words::join16(s[79], s[7]),
+        serial: u16::from_le_bytes([s[79], s[7]]),
         object: uuid(s, 8, little),
         interface: uuid(s, 24, little),
         activity: uuid(s, 40, little),
-        boot: words::number32(s, 56, little),
-        version: words::number32(s, 60, little),
-        number: words::number32(s, 64, little),
-        operation: words::number16(s, 68, little),
-        ihint: words::number16(s, 70, little),
-        ahint: words::number16(s, 72, little),
-        fragment: words::number16(s, 76, little),
+        boot: u32::read_at(s, 56, little),
+        version: u32::read_at(s, 60, little),
+        number: u32::read_at(s, 64, little),
+        operation: u16::read_at(s, 68, little),
+        ihint: u16::read_at(s, 70, little),
+        ahint: u16::read_at(s, 72, little),
+        fragment: u16::read_at(s, 76, little),
         authentication: s[78],
     }
 }

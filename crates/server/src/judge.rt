@@ -189,14 +189,14 @@ fn replay_row(reply: Reply) -> Row
 fn is_maybe_or_broadcast(flags1: u8) -> bool
     ensures { result ≡ is_maybe_or_broadcast flags1 }
 {
-    flags::is_maybe(flags1) || flags::is_broadcast(flags1)
+    flags::has(flags1, flags::MAYBE) || flags::has(flags1, flags::BROADCAST)
 }
 
 // Whether a request is of the call: the idempotent bit, object, interface, version and operation.
 fn is_same_call(call: Call, h: Header) -> bool
     ensures { result ≡ same_call call h }
 {
-    call.idempotent == flags::is_idempotent(h.flags1)
+    call.idempotent == flags::has(h.flags1, flags::IDEMPOTENT)
         && words::same_uuid(call.object, h.object)
         && words::same_uuid(call.interface, h.interface)
         && call.version == h.version
@@ -235,7 +235,7 @@ fn request_newer(s: Server, h: Header, body: &[u8]) -> Verdict
 fn request_idle(idle: Idle, s: Server, h: Header, body: &[u8]) -> Verdict
     ensures { result ≡ request_left s h body.now Order.Equal (State.Idle idle) }
 {
-    if idle != Idle::Repeatable || !flags::is_idempotent(h.flags1) {
+    if idle != Idle::Repeatable || !flags::has(h.flags1, flags::IDEMPOTENT) {
         return Err(Refusal::OldCall);
     }
     if !is_same_call(s.call, h) {

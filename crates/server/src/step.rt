@@ -124,7 +124,7 @@ fn call_of(h: Header) -> Call
         ..
     } = h;
     Call {
-        idempotent: flags::is_idempotent(h.flags1),
+        idempotent: flags::has(h.flags1, flags::IDEMPOTENT),
         object,
         interface,
         version,

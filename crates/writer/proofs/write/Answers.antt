@@ -14,13 +14,8 @@ overflow_cast-body c =
     let a = c.args in
     omega (arith, writable_here a.h a.body.now a.out.now a.out.now _ c.judge.ensures c.in_ok-judge.was)
 
-pub put_header-requires : goal.put_header-requires
-put_header-requires c =
-    let a = c.args in
-    omega (arith, writable_here a.h a.body.now a.out.now a.out.now _ c.judge.ensures c.in_ok-judge.was)
-
 pub returns : goal.returns
 returns c =
     let a = c.args in
     write_accepted a.h a.body.now a.out.now _ _ c.judge.ensures c.in_ok-judge.was (record { object = search rules; interface = search rules; activity = search rules })
-    (rw (c.put.ensures, c.put_header.ensures))
+    (rw (c.put.ensures, c.write_header.ensures))
