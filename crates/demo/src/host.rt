@@ -1,0 +1,123 @@
+// What the hosts of both sides do alike.
+use crate::datagram::Pdu;
+use crate::network::Network;
+use crate::transcript::{Armed, Told};
+use answers::Answer;
+use calls::{Notice, Sent};
+use std::alloc::{AllocError, Global};
+use std::fmt::{self, Display};
+use std::io;
+use words::{PDU_SIZE, SLOTS_SIZE, WINDOW_SIZE};
+
+#[derive(Clone, Copy, Debug, PartialEq, Eq)]
+pub(crate) enum Side {
+    Client,
+    Server,
+}
+
+impl Display for Side {
+    fn fmt<W: fmt::Write>(&self, f: &mut fmt::Formatter<W>) -> fmt::Result {
+        f.pad(match self {
+            Side::Client => "client",
+            Side::Server => "server",
+        })
+    }
+}
+
+// The memory that a host lends, for the library has none of its own: the message that its side sends, the
+// slot buffer for what arrives, and the PDU buffer for what is sent.
+#[derive(Drop)]
+pub(crate) struct Memory {
+    pub message: Vec<u8>,
+    pub slots: Vec<u8>,
+    pub pdu: Vec<u8>,
+}
+
+impl Memory {
+    // The message's bytes are such that a fragment in a wrong place would be noticed.
+    pub(crate) fn new(alloc: Global, length: u32, seed: u8) -> Result<Memory, AllocError> {
+        let mut message = vec![in alloc; 0; length as usize]?;
+        lines::fill(&mut message, seed);
+        Ok(Memory {
+            message,
+            slots: vec![in alloc; 0; SLOTS_SIZE]?,
+            pdu: vec![in alloc; 0; PDU_SIZE]?,
+        })
+    }
+}
+
+// What an event gave back beside the record.
+#[derive(Clone, Copy)]
+pub(crate) struct Given {
+    pub answer: Answer,
+    pub sent: Sent,
+    pub notice: Notice,
+}
+
+// A host: a record of the library, a timer for each that the record arms, and the memory that it lends.
+pub(crate) trait Host {
+    // What happens at this side.
+    type Event: Display;
+
+    const SIDE: Side;
+
+    fn memory(&self) -> &Memory;
+
+    // The event of that number, called of the library. The record is kept whatever the answer was: a
+    // refusal gives it back as it was.
+    fn call(&mut self, event: &Self::Event, number: u64) -> Given;
+
+    // The name of the record's state.
+    fn state(&self) -> &'static str;
+
+    // The timer that the record has armed.
+    fn armed(&self) -> Armed;
+
+    // Why the event did what it did, told after it.
+    fn reason(&self, event: &Self::Event, given: Given) -> &'static str;
+
+    // The part of the slot buffer that is this fragment of the message that came, where it can be taken.
+    fn hand_up(&self, fragment: u16) -> &[u8];
+
+    // The message that came, put together of the parts handed up. A stub that does not need it in one piece
+    // reads the parts where they lie.
+    fn handed_up(&self, alloc: Global) -> Result<Vec<u8>, AllocError> {
+        let mut message = Vec::new(alloc);
+        for fragment in 0..WINDOW_SIZE {
+            message.extend_from_slice(self.hand_up(fragment))?;
+        }
+        Ok(message)
+    }
+}
+
+// The event of that number at a host, and its line of the transcript. What was sent goes to the network at
+// once: the next event writes over the PDU buffer.
+pub(crate) fn turn<H: Host>(
+    rt: &(impl Print + AllocGlobal),
+    host: &mut H,
+    event: &H::Event,
+    number: u64,
+    network: &mut Network,
+) -> io::Result<()> {
+    let alloc = rt.alloc();
+    let given = host.call(event, number);
+    let sends = match given.sent {
+        Sent::Nothing => format!(in alloc; "-")?,
+        Sent::Pdu(_) => {
+            let pdu = calls::sent_bytes(given.sent, &host.memory().pdu);
+            let fate = network.send(alloc, H::SIDE, pdu)?;
+            let shown = Pdu::read(pdu).to_string(alloc)?;
+            format!(in alloc; "{shown:<15}{fate}")?
+        }
+    };
+    let side = H::SIDE;
+    let event_shown = event.to_string(alloc)?;
+    let answer = answers::number(given.answer);
+    let tells = Told(given.notice).to_string(alloc)?;
+    let state = host.state();
+    let armed = host.armed().to_string(alloc)?;
+    let reason = host.reason(event, given);
+    println!(rt;
+        "{number:<4}{side:<7}{event_shown:<18}{answer:<7}{sends:<21}{tells:<9}{state:<16}{armed:<10}{reason}"
+    )
+}
