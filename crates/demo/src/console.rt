@@ -1,5 +1,6 @@
 // The console's host: what it keeps, which event it calls, and what it does with what comes back.
 use crate::clock::Alarm;
+use crate::datagram::Pdu;
 use crate::host::{Given, Host, Memory, Side};
 use crate::transcript::{Armed, Compared};
 use crate::{clock, reasons, transcript};
@@ -37,9 +38,9 @@ impl ClientEvent {
 impl fmt::Display for ClientEvent {
     fn fmt<W: fmt::Write>(&self, f: &mut fmt::Formatter<W>) -> fmt::Result {
         match self {
-            ClientEvent::Start => f.pad("start"),
-            ClientEvent::Transmit => f.pad("transmit"),
-            ClientEvent::Arrive(datagram) => transcript::write_arrival(f, datagram),
+            ClientEvent::Start => f.write_str("start"),
+            ClientEvent::Transmit => f.write_str("transmit"),
+            ClientEvent::Arrive(datagram) => write!(f, "<- {}", Pdu::read(datagram)),
             ClientEvent::Wait(ticket) => write!(f, "WAIT ticket   {ticket}"),
             ClientEvent::Ack(ticket) => write!(f, "ACK ticket    {ticket}"),
         }
@@ -151,17 +152,16 @@ impl Host for Console {
     }
 
     fn armed(&self) -> Armed {
-        let wait = Armed {
-            name: "WAIT",
-            timer: self.client.wait,
-        };
         if timers::is_off(self.client.wait) {
             Armed {
                 name: "ACK",
                 timer: self.client.ack,
             }
         } else {
-            wait
+            Armed {
+                name: "WAIT",
+                timer: self.client.wait,
+            }
         }
     }
 

@@ -1,5 +1,6 @@
 // The controller's host: what it keeps, which event it calls, and what it does with what comes back.
 use crate::clock::Alarm;
+use crate::datagram::Pdu;
 use crate::host::{Given, Host, Memory, Side};
 use crate::transcript::{Armed, Compared};
 use crate::{clock, console, reasons, transcript};
@@ -36,9 +37,9 @@ impl ServerEvent {
 impl fmt::Display for ServerEvent {
     fn fmt<W: fmt::Write>(&self, f: &mut fmt::Formatter<W>) -> fmt::Result {
         match self {
-            ServerEvent::Arrive(datagram) => transcript::write_arrival(f, datagram),
-            ServerEvent::Reply => f.pad("reply"),
-            ServerEvent::Transmit => f.pad("transmit"),
+            ServerEvent::Arrive(datagram) => write!(f, "<- {}", Pdu::read(datagram)),
+            ServerEvent::Reply => f.write_str("reply"),
+            ServerEvent::Transmit => f.write_str("transmit"),
             ServerEvent::Resend(ticket) => write!(f, "RESEND ticket {ticket}"),
         }
     }

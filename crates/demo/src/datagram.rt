@@ -54,18 +54,18 @@ impl fmt::Display for Pdu {
     fn fmt<W: fmt::Write>(&self, f: &mut fmt::Formatter<W>) -> fmt::Result {
         match self {
             Pdu::Request(fragment) => write!(f, "request   {fragment}"),
-            Pdu::Ping => f.pad("ping"),
+            Pdu::Ping => f.write_str("ping"),
             Pdu::Response(fragment) => write!(f, "response  {fragment}"),
-            Pdu::Fault => f.pad("fault"),
-            Pdu::Working => f.pad("working"),
-            Pdu::Nocall => f.pad("nocall"),
-            Pdu::Reject => f.pad("reject"),
-            Pdu::Ack => f.pad("ack"),
-            Pdu::Cancel => f.pad("cancel"),
+            Pdu::Fault => f.write_str("fault"),
+            Pdu::Working => f.write_str("working"),
+            Pdu::Nocall => f.write_str("nocall"),
+            Pdu::Reject => f.write_str("reject"),
+            Pdu::Ack => f.write_str("ack"),
+            Pdu::Cancel => f.write_str("cancel"),
             Pdu::Fack(Some(last), mask) => write!(f, "fack      {last:<2}{mask}"),
             Pdu::Fack(None, mask) => write!(f, "fack      - {mask}"),
-            Pdu::CancelAck => f.pad("cancel_ack"),
-            Pdu::Unreadable => f.pad("unreadable"),
+            Pdu::CancelAck => f.write_str("cancel_ack"),
+            Pdu::Unreadable => f.write_str("unreadable"),
         }
     }
 }

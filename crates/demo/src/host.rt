@@ -9,6 +9,7 @@ use std::fmt::{self, Display};
 use std::io;
 use words::{PDU_SIZE, SLOTS_SIZE, WINDOW_SIZE};
 
+// The side of the call at which something happens.
 #[derive(Clone, Copy, Debug, PartialEq, Eq)]
 pub(crate) enum Side {
     Client,
@@ -44,6 +45,14 @@ impl Memory {
             pdu: vec![in alloc; 0; PDU_SIZE]?,
         })
     }
+
+    // The PDU that an event sent.
+    fn sent(&self, sent: Sent) -> Option<&[u8]> {
+        match sent {
+            Sent::Nothing => None,
+            Sent::Pdu(_) => Some(calls::sent_bytes(sent, &self.pdu)),
+        }
+    }
 }
 
 // What an event gave back beside the record.
@@ -61,6 +70,7 @@ pub(crate) trait Host {
 
     const SIDE: Side;
 
+    // The memory that this host lends.
     fn memory(&self) -> &Memory;
 
     // The event of that number, called of the library. The record is kept whatever the answer was: a
@@ -101,23 +111,23 @@ pub(crate) fn turn<H: Host>(
 ) -> io::Result<()> {
     let alloc = rt.alloc();
     let given = host.call(event, number);
-    let sends = match given.sent {
-        Sent::Nothing => format!(in alloc; "-")?,
-        Sent::Pdu(_) => {
-            let pdu = calls::sent_bytes(given.sent, &host.memory().pdu);
+    let sends = match host.memory().sent(given.sent) {
+        None => "-".to_string(alloc)?,
+        Some(pdu) => {
             let fate = network.send(alloc, H::SIDE, pdu)?;
-            let shown = Pdu::read(pdu).to_string(alloc)?;
-            format!(in alloc; "{shown:<15}{fate}")?
+            let pdu = Pdu::read(pdu).to_string(alloc)?;
+            format!(in alloc; "{pdu:<15}{fate}")?
         }
     };
+    // What is written in several parts is a text first: only a whole text fills its column.
     let side = H::SIDE;
-    let event_shown = event.to_string(alloc)?;
+    let why = host.reason(event, given);
+    let event = event.to_string(alloc)?;
     let answer = answers::number(given.answer);
     let tells = Told(given.notice).to_string(alloc)?;
     let state = host.state();
     let armed = host.armed().to_string(alloc)?;
-    let reason = host.reason(event, given);
     println!(rt;
-        "{number:<4}{side:<7}{event_shown:<18}{answer:<7}{sends:<21}{tells:<9}{state:<16}{armed:<10}{reason}"
+        "{number:<4}{side:<7}{event:<18}{answer:<7}{sends:<21}{tells:<9}{state:<16}{armed:<10}{why}"
     )
 }

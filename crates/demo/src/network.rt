@@ -44,7 +44,7 @@ impl Fate {
 
 impl fmt::Display for Fate {
     fn fmt<W: fmt::Write>(&self, f: &mut fmt::Formatter<W>) -> fmt::Result {
-        f.pad(match self {
+        f.write_str(match self {
             Fate::Lost => "lost",
             Fate::Delivered => "",
             Fate::Twice => "twice",

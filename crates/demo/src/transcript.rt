@@ -1,5 +1,4 @@
 // The transcript's words: how it shows what the library gives.
-use crate::datagram::Pdu;
 use calls::Notice;
 use client::State as ClientState;
 use server::{Idle, State as ServerState};
@@ -20,15 +19,6 @@ no. side   event             answer sends                tells    state         
     )
 }
 
-// Which PDU arrives.
-pub(crate) fn write_arrival<W: fmt::Write>(
-    f: &mut fmt::Formatter<W>,
-    datagram: &[u8],
-) -> fmt::Result {
-    let pdu = Pdu::read(datagram);
-    write!(f, "<- {pdu}")
-}
-
 // What the stub is told.
 #[derive(Clone, Copy)]
 pub(crate) struct Told(pub Notice);
@@ -36,14 +26,14 @@ pub(crate) struct Told(pub Notice);
 impl fmt::Display for Told {
     fn fmt<W: fmt::Write>(&self, f: &mut fmt::Formatter<W>) -> fmt::Result {
         match self.0 {
-            Notice::Nothing => f.pad("-"),
-            Notice::Last => f.pad("last"),
-            Notice::Dispatch => f.pad("dispatch"),
+            Notice::Nothing => f.write_str("-"),
+            Notice::Last => f.write_str("last"),
+            Notice::Dispatch => f.write_str("dispatch"),
             Notice::Count(count) => write!(f, "count {count}"),
-            Notice::Fault(_) => f.pad("fault"),
-            Notice::Reject(_) => f.pad("reject"),
-            Notice::Cause(_) => f.pad("failed"),
-            Notice::Cancel => f.pad("cancel"),
+            Notice::Fault(_) => f.write_str("fault"),
+            Notice::Reject(_) => f.write_str("reject"),
+            Notice::Cause(_) => f.write_str("failed"),
+            Notice::Cancel => f.write_str("cancel"),
         }
     }
 }
@@ -58,12 +48,13 @@ pub(crate) struct Armed {
 impl fmt::Display for Armed {
     fn fmt<W: fmt::Write>(&self, f: &mut fmt::Formatter<W>) -> fmt::Result {
         match self.timer {
-            Timer::Off => f.pad("-"),
+            Timer::Off => f.write_str("-"),
             Timer::Armed(ticket) => write!(f, "{:<7}{ticket}", self.name),
         }
     }
 }
 
+// The name of the client's state.
 pub(crate) fn client_state(state: ClientState) -> &'static str {
     match state {
         ClientState::Queued => "QUEUED",
@@ -76,6 +67,7 @@ pub(crate) fn client_state(state: ClientState) -> &'static str {
     }
 }
 
+// The name of the server's state.
 pub(crate) fn server_state(state: ServerState) -> &'static str {
     match state {
         ServerState::Idle(Idle::Fresh) => "IDLE fresh",
