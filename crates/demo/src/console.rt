@@ -2,12 +2,12 @@
 use crate::clock::Alarm;
 use crate::datagram::Pdu;
 use crate::host::{Given, Host, Memory, Side};
-use crate::transcript::{Armed, Compared};
+use crate::transcript::Armed;
 use crate::{clock, reasons, transcript};
 use calls::{Call, Notice};
 use client::{Client, Outcome, TimerKind};
 use std::alloc::{AllocError, Global};
-use std::{fmt, io};
+use std::fmt;
 
 const REQUEST_SIZE: u32 = 3500;
 
@@ -112,22 +112,16 @@ impl Console {
             Notice::Nothing => {}
         }
     }
-
-    // Prints what was handed up of the reply that was sent.
-    pub(crate) fn report(&self, rt: &(impl Print + AllocGlobal), sent: &[u8]) -> io::Result<()> {
-        let taken = self.handed_up(rt.alloc())?;
-        let compared = Compared {
-            taken: &taken,
-            sent,
-        };
-        println!(rt; "reply:   {compared}; completions: {}", self.completed)
-    }
 }
 
 impl Host for Console {
     type Event = ClientEvent;
 
     const SIDE: Side = Side::Client;
+
+    const COMES: &'static str = "reply:";
+
+    const TOLD: &'static str = "completions";
 
     fn memory(&self) -> &Memory {
         &self.memory
@@ -167,6 +161,10 @@ impl Host for Console {
 
     fn reason(&self, event: &ClientEvent, given: Given) -> &'static str {
         reasons::of_client(event, given, self.client.state)
+    }
+
+    fn times_told(&self) -> u32 {
+        self.completed
     }
 
     fn hand_up(&self, fragment: u16) -> &[u8] {

@@ -2,12 +2,12 @@
 use crate::clock::Alarm;
 use crate::datagram::Pdu;
 use crate::host::{Given, Host, Memory, Side};
-use crate::transcript::{Armed, Compared};
+use crate::transcript::Armed;
 use crate::{clock, console, reasons, transcript};
 use calls::Notice;
 use server::{Outcome, Server};
 use std::alloc::{AllocError, Global};
-use std::{fmt, io};
+use std::fmt;
 
 const REPLY_SIZE: u32 = 4500;
 
@@ -95,22 +95,16 @@ impl Controller {
             Notice::Nothing => {}
         }
     }
-
-    // Prints what was handed up of the request that was sent.
-    pub(crate) fn report(&self, rt: &(impl Print + AllocGlobal), sent: &[u8]) -> io::Result<()> {
-        let taken = self.handed_up(rt.alloc())?;
-        let compared = Compared {
-            taken: &taken,
-            sent,
-        };
-        println!(rt; "request: {compared}; dispatches: {}", self.dispatched)
-    }
 }
 
 impl Host for Controller {
     type Event = ServerEvent;
 
     const SIDE: Side = Side::Server;
+
+    const COMES: &'static str = "request:";
+
+    const TOLD: &'static str = "dispatches";
 
     fn memory(&self) -> &Memory {
         &self.memory
@@ -141,6 +135,10 @@ impl Host for Controller {
 
     fn reason(&self, event: &ServerEvent, given: Given) -> &'static str {
         reasons::of_server(event, given, self.server.state)
+    }
+
+    fn times_told(&self) -> u32 {
+        self.dispatched
     }
 
     fn hand_up(&self, fragment: u16) -> &[u8] {

@@ -68,7 +68,14 @@ pub(crate) trait Host {
     // What happens at this side.
     type Event: Display;
 
+    // Which side it is.
     const SIDE: Side;
+
+    // What comes to it.
+    const COMES: &'static str;
+
+    // What its stub is told when all of that can be taken.
+    const TOLD: &'static str;
 
     // The memory that this host lends.
     fn memory(&self) -> &Memory;
@@ -85,6 +92,9 @@ pub(crate) trait Host {
 
     // Why the event did what it did, told after it.
     fn reason(&self, event: &Self::Event, given: Given) -> &'static str;
+
+    // How often the stub was told so.
+    fn times_told(&self) -> u32;
 
     // The part of the slot buffer that is this fragment of the message that came, where it can be taken.
     fn hand_up(&self, fragment: u16) -> &[u8];
@@ -129,5 +139,27 @@ pub(crate) fn turn<H: Host>(
     let armed = host.armed().to_string(alloc)?;
     println!(rt;
         "{number:<4}{side:<7}{event:<18}{answer:<7}{sends:<21}{tells:<9}{state:<16}{armed:<10}{why}"
+    )
+}
+
+// What a host handed up, against what the other sent, and how often its stub was told to take it.
+pub(crate) fn report<H: Host>(
+    rt: &(impl Print + AllocGlobal),
+    host: &H,
+    sent: &[u8],
+) -> io::Result<()> {
+    let taken = host.handed_up(rt.alloc())?;
+    let verdict = if taken.as_slice() == sent {
+        "equal"
+    } else {
+        "DIFFERENT"
+    };
+    println!(rt;
+        "{:<9}{} of {} bytes handed up, {verdict}; {}: {}",
+        H::COMES,
+        taken.len(),
+        sent.len(),
+        H::TOLD,
+        host.times_told()
     )
 }

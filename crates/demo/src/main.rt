@@ -40,6 +40,6 @@ fn main(rt: HostRuntime) -> io::Result<()> {
         }
     }
     println!(rt; "")?;
-    controller.report(&rt, &console.memory.message)?;
-    console.report(&rt, &controller.memory.message)
+    host::report(&rt, &controller, &console.memory.message)?;
+    host::report(&rt, &console, &controller.memory.message)
 }

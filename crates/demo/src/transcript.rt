@@ -79,26 +79,3 @@ pub(crate) fn server_state(state: ServerState) -> &'static str {
         ServerState::Held(_) => "HELD",
     }
 }
-
-// What one side handed up, against what the other sent.
-#[derive(Clone, Copy)]
-pub(crate) struct Compared<'a> {
-    pub taken: &'a [u8],
-    pub sent: &'a [u8],
-}
-
-impl fmt::Display for Compared<'_> {
-    fn fmt<W: fmt::Write>(&self, f: &mut fmt::Formatter<W>) -> fmt::Result {
-        let verdict = if self.taken == self.sent {
-            "equal"
-        } else {
-            "DIFFERENT"
-        };
-        write!(
-            f,
-            "{} of {} bytes handed up, {verdict}",
-            self.taken.len(),
-            self.sent.len()
-        )
-    }
-}
