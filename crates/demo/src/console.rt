@@ -1,35 +1,61 @@
 // The console's host: what it keeps, which event it calls, and what it does with what comes back.
 use crate::clock::Alarm;
-use crate::network::Wire;
-use crate::{clock, network, transcript};
+use crate::datagram::Pdu;
+use crate::host::{Given, Host, Memory, Side};
+use crate::transcript::Armed;
+use crate::{clock, reasons, transcript};
 use calls::{Call, Notice};
 use client::{Client, Outcome, TimerKind};
-use words::{MESSAGE_SIZE, WINDOW_SIZE};
+use std::alloc::{AllocError, Global};
+use std::fmt;
 
-pub(crate) const REQUEST_SIZE: usize = 3500;
+const REQUEST_SIZE: u32 = 3500;
 
 // The activity of the console and the controller: a UUID in the little-endian form.
 pub(crate) const ACTIVITY: [u8; 16] = [7; 16];
 
-// What happens at the console. Wait and Ack are its timers, running out.
-#[derive(Clone, Copy)]
+// What happens at the console, with the datagram that arrives, or with the ticket with which the timer was
+// started that runs out: Wait and Ack are its timers.
+#[derive(Drop)]
 pub(crate) enum ClientEvent {
     Start,
     Transmit,
-    Arrive,
-    Wait,
-    Ack,
+    Arrive(Vec<u8>),
+    Wait(u64),
+    Ack(u64),
+}
+
+impl ClientEvent {
+    // The ticket that a timer hands in.
+    pub(crate) fn ticket(&self) -> Option<u64> {
+        match self {
+            ClientEvent::Wait(ticket) | ClientEvent::Ack(ticket) => Some(*ticket),
+            _ => None,
+        }
+    }
+}
+
+impl fmt::Display for ClientEvent {
+    fn fmt<W: fmt::Write>(&self, f: &mut fmt::Formatter<W>) -> fmt::Result {
+        match self {
+            ClientEvent::Start => f.write_str("start"),
+            ClientEvent::Transmit => f.write_str("transmit"),
+            ClientEvent::Arrive(datagram) => write!(f, "<- {}", Pdu::read(datagram)),
+            ClientEvent::Wait(ticket) => write!(f, "WAIT ticket   {ticket}"),
+            ClientEvent::Ack(ticket) => write!(f, "ACK ticket    {ticket}"),
+        }
+    }
 }
 
 // The record, a timer for each that the record arms here (CANCEL is not: this console cancels no call),
-// the PDU buffer as a wire, and how often a reply was complete.
-#[derive(Clone, Copy)]
+// the memory that is lent, and how often a reply was complete.
+#[derive(Drop)]
 pub(crate) struct Console {
     pub client: Client,
-    pub wait: Alarm,
-    pub ack: Alarm,
-    pub wire: Wire,
-    pub completed: u32,
+    pub wait: Option<Alarm>,
+    pub ack: Option<Alarm>,
+    pub memory: Memory,
+    completed: u32,
 }
 
 // The operation that the console calls.
@@ -43,125 +69,105 @@ fn operation() -> Call {
     }
 }
 
-// The event, called of the library. The request is lent at each transmit, the slot buffer for what
-// arrives, and the PDU buffer wherever something may be sent. A timer hands in its ticket.
-fn call_event(
-    event: ClientEvent,
-    ticket: u64,
-    client: Client,
-    request: &[u8],
-    datagram: &[u8],
-    slots: &mut [u8],
-    pdu: &mut [u8],
-) -> Outcome {
-    match event {
-        ClientEvent::Start => client::start(client, operation(), REQUEST_SIZE as u32),
-        ClientEvent::Transmit => client::transmit(client, request, pdu),
-        ClientEvent::Arrive => client::arrive(client, datagram, slots, pdu),
-        ClientEvent::Wait => client::timer(client, TimerKind::Wait, ticket, pdu),
-        ClientEvent::Ack => client::timer(client, TimerKind::Ack, ticket, pdu),
-    }
-}
-
-// What a notice tells the stub: here, how often a reply was complete.
-fn completed_after(completed: u32, notice: Notice) -> u32 {
-    match notice {
-        Notice::Nothing => completed,
-        // So many fragments can be taken already.
-        Notice::Count(_) => completed,
-        // The whole reply can be taken.
-        Notice::Last => std::num::wrapping_add_u32(completed, 1),
-        // The call has failed: the server says so, or did not answer. It may have been executed.
-        Notice::Fault(_) => completed,
-        Notice::Reject(_) => completed,
-        Notice::Cause(_) => completed,
-        // Only a server tells these.
-        Notice::Dispatch => completed,
-        Notice::Cancel => completed,
-    }
-}
-
-// The reply, put together of the parts handed up, and its length. A stub that does not need it in one
-// piece reads the parts where they lie.
-fn take_reply(client: Client, slots: &[u8], reply: &mut [u8]) -> usize {
-    let mut length = 0;
-    let mut f: u16 = 0;
-    while f < WINDOW_SIZE {
-        length = lines::put_text(reply, length, client::hand_up(client, f, slots));
-        f += 1;
-    }
-    length
-}
-
 impl Console {
     // A fresh client of the activity.
-    pub(crate) fn fresh() -> Console {
-        Console {
+    pub(crate) fn fresh(alloc: Global) -> Result<Console, AllocError> {
+        Ok(Console {
             client: client::fresh(ACTIVITY, 0),
-            wait: clock::STOPPED,
-            ack: clock::STOPPED,
-            wire: network::QUIET,
+            wait: None,
+            ack: None,
+            memory: Memory::new(alloc, REQUEST_SIZE, 1)?,
             completed: 0,
-        }
+        })
     }
 
-    // The ticket with which the timer was started that runs out; 0 where the event is no timer.
-    fn ticket(self, event: ClientEvent) -> u64 {
+    // The event, called of the library. The request is lent at each transmit, the slot buffer for what
+    // arrives, and the PDU buffer wherever something may be sent. A timer hands in its ticket.
+    fn call_event(&mut self, event: &ClientEvent) -> Outcome {
+        let client = self.client;
+        let memory = &mut self.memory;
+        let pdu = &mut memory.pdu;
         match event {
-            ClientEvent::Start => 0,
-            ClientEvent::Transmit => 0,
-            ClientEvent::Arrive => 0,
-            ClientEvent::Wait => self.wait.ticket,
-            ClientEvent::Ack => self.ack.ticket,
+            ClientEvent::Start => client::start(client, operation(), REQUEST_SIZE),
+            ClientEvent::Transmit => client::transmit(client, &memory.message, pdu),
+            ClientEvent::Arrive(datagram) => {
+                client::arrive(client, datagram, &mut memory.slots, pdu)
+            }
+            ClientEvent::Wait(ticket) => client::timer(client, TimerKind::Wait, *ticket, pdu),
+            ClientEvent::Ack(ticket) => client::timer(client, TimerKind::Ack, *ticket, pdu),
         }
     }
 
-    // After the event of that number. The record is kept whatever the answer was: a refusal gives it
-    // back as it was.
-    fn after(self, ticket: u64, number: u64, outcome: Outcome) -> Console {
-        let client = outcome.machine;
-        let notice = outcome.notice;
-        let sent = outcome.sent;
-        let wait = client.wait;
-        let ack = client.ack;
-        Console {
-            client,
-            wait: clock::after_event(self.wait, ticket, wait, number),
-            ack: clock::after_event(self.ack, ticket, ack, number),
-            wire: network::after_sender(self.wire, sent),
-            completed: completed_after(self.completed, notice),
+    // What a notice tells the stub: here, how often a reply was complete.
+    fn tell(&mut self, notice: Notice) {
+        match notice {
+            // The whole reply can be taken.
+            Notice::Last => self.completed = self.completed.wrapping_add(1),
+            // So many fragments can be taken already.
+            Notice::Count(_) => {}
+            // The call has failed: the server says so, or did not answer. It may have been executed.
+            Notice::Fault(_) | Notice::Reject(_) | Notice::Cause(_) => {}
+            // Only a server tells these.
+            Notice::Dispatch | Notice::Cancel => {}
+            Notice::Nothing => {}
+        }
+    }
+}
+
+impl Host for Console {
+    type Event = ClientEvent;
+
+    const SIDE: Side = Side::Client;
+
+    const COMES: &'static str = "reply:";
+
+    const TOLD: &'static str = "completions";
+
+    fn memory(&self) -> &Memory {
+        &self.memory
+    }
+
+    fn call(&mut self, event: &ClientEvent, number: u64) -> Given {
+        let outcome = self.call_event(event);
+        let ticket = event.ticket();
+        self.client = outcome.machine;
+        self.wait = clock::after_event(self.wait, ticket, self.client.wait, number);
+        self.ack = clock::after_event(self.ack, ticket, self.client.ack, number);
+        self.tell(outcome.notice);
+        Given {
+            answer: outcome.answer,
+            sent: outcome.sent,
+            notice: outcome.notice,
         }
     }
 
-    // The event of that number, and its line of the transcript. The datagram is what arrives.
-    pub(crate) fn turn(
-        self,
-        event: ClientEvent,
-        number: u64,
-        request: &[u8],
-        datagram: &[u8],
-        slots: &mut [u8],
-        pdu: &mut [u8],
-    ) -> Console {
-        let ticket = self.ticket(event);
-        let outcome = call_event(event, ticket, self.client, request, datagram, slots, pdu);
-        let after = self.after(ticket, number, outcome);
-        let copies = after.wire.copies;
-        transcript::print_client(number, event, ticket, datagram, outcome, copies, pdu);
-        after
+    fn state(&self) -> &'static str {
+        transcript::client_state(self.client.state)
     }
 
-    // Prints what was handed up of the reply that was sent.
-    pub(crate) fn report(self, sent: &[u8], slots: &[u8]) {
-        let mut reply = [0u8; MESSAGE_SIZE as usize];
-        let length = take_reply(self.client, slots, &mut reply);
-        let taken = words::first(&reply, length);
-        transcript::print_report(
-            b"reply:   ",
-            taken,
-            sent,
-            b"; completions: ",
-            self.completed,
-        );
+    fn armed(&self) -> Armed {
+        if self.client.wait.is_none() {
+            Armed {
+                name: "ACK",
+                timer: self.client.ack,
+            }
+        } else {
+            Armed {
+                name: "WAIT",
+                timer: self.client.wait,
+            }
+        }
+    }
+
+    fn reason(&self, event: &ClientEvent, given: Given) -> &'static str {
+        reasons::of_client(event, given, self.client.state)
+    }
+
+    fn times_told(&self) -> u32 {
+        self.completed
+    }
+
+    fn hand_up(&self, fragment: u16) -> &[u8] {
+        client::hand_up(self.client, fragment, &self.memory.slots)
     }
 }

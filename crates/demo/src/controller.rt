@@ -1,148 +1,147 @@
 // The controller's host: what it keeps, which event it calls, and what it does with what comes back.
 use crate::clock::Alarm;
-use crate::network::Wire;
-use crate::{clock, console, network, transcript};
+use crate::datagram::Pdu;
+use crate::host::{Given, Host, Memory, Side};
+use crate::transcript::Armed;
+use crate::{clock, console, reasons, transcript};
 use calls::Notice;
 use server::{Outcome, Server};
-use words::{MESSAGE_SIZE, WINDOW_SIZE};
+use std::alloc::{AllocError, Global};
+use std::fmt;
 
-pub(crate) const REPLY_SIZE: usize = 4500;
+const REPLY_SIZE: u32 = 4500;
 
 // The boot value: another one each time that the controller starts.
 const BOOT: u32 = 1;
 
-// What happens at the controller. Resend is its timer, running out.
-#[derive(Clone, Copy)]
+// What happens at the controller, with the datagram that arrives, or with the ticket with which the timer was
+// started that runs out: Resend is its timer.
+#[derive(Drop)]
 pub(crate) enum ServerEvent {
-    Arrive,
+    Arrive(Vec<u8>),
     Reply,
     Transmit,
-    Resend,
+    Resend(u64),
 }
 
-// The record, a timer for the one that the record has, the PDU buffer as a wire, and how often a call
-// was dispatched.
-#[derive(Clone, Copy)]
+impl ServerEvent {
+    // The ticket that a timer hands in.
+    pub(crate) fn ticket(&self) -> Option<u64> {
+        match self {
+            ServerEvent::Resend(ticket) => Some(*ticket),
+            _ => None,
+        }
+    }
+}
+
+impl fmt::Display for ServerEvent {
+    fn fmt<W: fmt::Write>(&self, f: &mut fmt::Formatter<W>) -> fmt::Result {
+        match self {
+            ServerEvent::Arrive(datagram) => write!(f, "<- {}", Pdu::read(datagram)),
+            ServerEvent::Reply => f.write_str("reply"),
+            ServerEvent::Transmit => f.write_str("transmit"),
+            ServerEvent::Resend(ticket) => write!(f, "RESEND ticket {ticket}"),
+        }
+    }
+}
+
+// The record, a timer for the one that the record has, the memory that is lent, and how often a call was
+// dispatched.
+#[derive(Drop)]
 pub(crate) struct Controller {
     pub server: Server,
-    pub resend: Alarm,
-    pub wire: Wire,
-    pub dispatched: u32,
-}
-
-// The event, called of the library. The reply is lent at each transmit, the slot buffer for what
-// arrives, and the PDU buffer wherever something may be sent. A timer hands in its ticket.
-fn call_event(
-    event: ServerEvent,
-    ticket: u64,
-    server: Server,
-    reply: &[u8],
-    datagram: &[u8],
-    slots: &mut [u8],
-    pdu: &mut [u8],
-) -> Outcome {
-    match event {
-        ServerEvent::Arrive => server::arrive(server, datagram, slots, pdu),
-        ServerEvent::Reply => server::reply(server, REPLY_SIZE as u32),
-        ServerEvent::Transmit => server::transmit(server, reply, pdu),
-        ServerEvent::Resend => server::timer(server, ticket, pdu),
-    }
-}
-
-// What a notice tells the stub: here, how often it is to execute a call.
-fn dispatched_after(dispatched: u32, notice: Notice) -> u32 {
-    match notice {
-        Notice::Nothing => dispatched,
-        // The whole request can be taken, and is to be executed: here and nowhere else.
-        Notice::Dispatch => std::num::wrapping_add_u32(dispatched, 1),
-        // The console wants the call to end: a stub that can stop replies, or faults, as soon as it has.
-        Notice::Cancel => dispatched,
-        // Only a client tells these.
-        Notice::Count(_) => dispatched,
-        Notice::Last => dispatched,
-        Notice::Fault(_) => dispatched,
-        Notice::Reject(_) => dispatched,
-        Notice::Cause(_) => dispatched,
-    }
-}
-
-// The request, put together of the parts handed up, and its length. A stub that does not need it in
-// one piece reads the parts where they lie.
-fn take_request(server: Server, slots: &[u8], request: &mut [u8]) -> usize {
-    let mut length = 0;
-    let mut f: u16 = 0;
-    while f < WINDOW_SIZE {
-        length = lines::put_text(request, length, server::hand_up(server, f, slots));
-        f += 1;
-    }
-    length
+    pub resend: Option<Alarm>,
+    pub memory: Memory,
+    dispatched: u32,
 }
 
 impl Controller {
     // A fresh server of the console's activity, with its boot value.
-    pub(crate) fn fresh() -> Controller {
-        Controller {
+    pub(crate) fn fresh(alloc: Global) -> Result<Controller, AllocError> {
+        Ok(Controller {
             server: server::fresh(console::ACTIVITY, BOOT, 0),
-            resend: clock::STOPPED,
-            wire: network::QUIET,
+            resend: None,
+            memory: Memory::new(alloc, REPLY_SIZE, 2)?,
             dispatched: 0,
-        }
+        })
     }
 
-    // The ticket with which the timer was started that runs out; 0 where the event is no timer.
-    fn ticket(self, event: ServerEvent) -> u64 {
+    // The event, called of the library. The reply is lent at each transmit, the slot buffer for what
+    // arrives, and the PDU buffer wherever something may be sent. A timer hands in its ticket.
+    fn call_event(&mut self, event: &ServerEvent) -> Outcome {
+        let server = self.server;
+        let memory = &mut self.memory;
+        let pdu = &mut memory.pdu;
         match event {
-            ServerEvent::Arrive => 0,
-            ServerEvent::Reply => 0,
-            ServerEvent::Transmit => 0,
-            ServerEvent::Resend => self.resend.ticket,
+            ServerEvent::Arrive(datagram) => {
+                server::arrive(server, datagram, &mut memory.slots, pdu)
+            }
+            ServerEvent::Reply => server::reply(server, REPLY_SIZE),
+            ServerEvent::Transmit => server::transmit(server, &memory.message, pdu),
+            ServerEvent::Resend(ticket) => server::timer(server, *ticket, pdu),
         }
     }
 
-    // After the event of that number. The record is kept whatever the answer was: a refusal gives it
-    // back as it was.
-    fn after(self, ticket: u64, number: u64, outcome: Outcome) -> Controller {
-        let server = outcome.machine;
-        let notice = outcome.notice;
-        let sent = outcome.sent;
-        let resend = server.resend;
-        Controller {
-            server,
-            resend: clock::after_event(self.resend, ticket, resend, number),
-            wire: network::after_sender(self.wire, sent),
-            dispatched: dispatched_after(self.dispatched, notice),
+    // What a notice tells the stub: here, how often it is to execute a call.
+    fn tell(&mut self, notice: Notice) {
+        match notice {
+            // The whole request can be taken, and is to be executed: here and nowhere else.
+            Notice::Dispatch => self.dispatched = self.dispatched.wrapping_add(1),
+            // The console wants the call to end: a stub that can stop replies, or faults, as soon as it has.
+            Notice::Cancel => {}
+            // Only a client tells these.
+            Notice::Last | Notice::Count(_) => {}
+            Notice::Fault(_) | Notice::Reject(_) | Notice::Cause(_) => {}
+            Notice::Nothing => {}
+        }
+    }
+}
+
+impl Host for Controller {
+    type Event = ServerEvent;
+
+    const SIDE: Side = Side::Server;
+
+    const COMES: &'static str = "request:";
+
+    const TOLD: &'static str = "dispatches";
+
+    fn memory(&self) -> &Memory {
+        &self.memory
+    }
+
+    fn call(&mut self, event: &ServerEvent, number: u64) -> Given {
+        let outcome = self.call_event(event);
+        self.server = outcome.machine;
+        self.resend = clock::after_event(self.resend, event.ticket(), self.server.resend, number);
+        self.tell(outcome.notice);
+        Given {
+            answer: outcome.answer,
+            sent: outcome.sent,
+            notice: outcome.notice,
         }
     }
 
-    // The event of that number, and its line of the transcript. The datagram is what arrives.
-    pub(crate) fn turn(
-        self,
-        event: ServerEvent,
-        number: u64,
-        reply: &[u8],
-        datagram: &[u8],
-        slots: &mut [u8],
-        pdu: &mut [u8],
-    ) -> Controller {
-        let ticket = self.ticket(event);
-        let outcome = call_event(event, ticket, self.server, reply, datagram, slots, pdu);
-        let after = self.after(ticket, number, outcome);
-        let copies = after.wire.copies;
-        transcript::print_server(number, event, ticket, datagram, outcome, copies, pdu);
-        after
+    fn state(&self) -> &'static str {
+        transcript::server_state(self.server.state)
     }
 
-    // Prints what was handed up of the request that was sent.
-    pub(crate) fn report(self, sent: &[u8], slots: &[u8]) {
-        let mut request = [0u8; MESSAGE_SIZE as usize];
-        let length = take_request(self.server, slots, &mut request);
-        let taken = words::first(&request, length);
-        transcript::print_report(
-            b"\nrequest: ",
-            taken,
-            sent,
-            b"; dispatches: ",
-            self.dispatched,
-        );
+    fn armed(&self) -> Armed {
+        Armed {
+            name: "RESEND",
+            timer: self.server.resend,
+        }
+    }
+
+    fn reason(&self, event: &ServerEvent, given: Given) -> &'static str {
+        reasons::of_server(event, given, self.server.state)
+    }
+
+    fn times_told(&self) -> u32 {
+        self.dispatched
+    }
+
+    fn hand_up(&self, fragment: u16) -> &[u8] {
+        server::hand_up(self.server, fragment, &self.memory.slots)
     }
 }

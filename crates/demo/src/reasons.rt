@@ -1,167 +1,89 @@
-// Why an event did what it did, in a few words: the end of each line of the transcript.
+// Why an event did what it did, in a few words: the end of each line of the transcript. The state is that
+// after the event.
 use crate::console::ClientEvent;
 use crate::controller::ServerEvent;
-use crate::transcript::print;
-use answers::{Answer, Refusal};
+use crate::datagram::Pdu;
+use crate::host::Given;
+use answers::Refusal;
 use calls::Notice;
 use client::State as ClientState;
 use server::State as ServerState;
 
-// A PDU that the client took, by its type.
-fn print_client_took(kind: u8, notice: Notice, state: ClientState) {
-    match kind {
-        2 => print_response_taken(notice),
-        4 => print(b"the call runs: wait on"),
-        5 => print_nocall_taken(state),
-        9 => print(b"so much is there: note it"),
-        _ => print(b"the call has failed"),
+// Why the client did what it did.
+pub(crate) fn of_client(event: &ClientEvent, given: Given, state: ClientState) -> &'static str {
+    if let Err(refusal) = given.answer {
+        return refused(refusal, event.ticket());
+    }
+    match (event, state) {
+        (ClientEvent::Start, _) => "a call begins",
+        (ClientEvent::Transmit, ClientState::SendFrags) => "a fragment of the request",
+        (ClientEvent::Transmit, _) => "all sent: wait for a reply",
+        (ClientEvent::Arrive(datagram), _) => {
+            client_took(Pdu::read(datagram), given.notice, state)
+        }
+        (ClientEvent::Wait(_), ClientState::Fault) => "asked too often: give up",
+        (ClientEvent::Wait(_), _) => "no answer in time: ask",
+        (ClientEvent::Ack(_), _) => "say that the reply is there",
     }
 }
 
-fn print_response_taken(notice: Notice) {
-    match notice {
-        Notice::Last => print(b"the reply is whole"),
-        _ => print(b"put in its place"),
+// Of a PDU that the client took.
+fn client_took(pdu: Pdu, notice: Notice, state: ClientState) -> &'static str {
+    match (pdu, state) {
+        (Pdu::Response(_), _) if matches!(notice, Notice::Last) => "the reply is whole",
+        (Pdu::Response(_), _) => "put in its place",
+        (Pdu::Working, _) => "the call runs: wait on",
+        (Pdu::Nocall, ClientState::SendFrags) => "not whole there: send again",
+        (Pdu::Nocall, _) => "sent too often: give up",
+        (Pdu::Fack(_, _), _) => "so much is there: note it",
+        _ => "the call has failed",
     }
 }
 
-fn print_nocall_taken(state: ClientState) {
-    match state {
-        ClientState::SendFrags => print(b"not whole there: send again"),
-        _ => print(b"sent too often: give up"),
+// Why the server did what it did.
+pub(crate) fn of_server(event: &ServerEvent, given: Given, state: ServerState) -> &'static str {
+    if let Err(refusal) = given.answer {
+        return match (refusal, event) {
+            (Refusal::OldCall, ServerEvent::Arrive(_)) => "spent: never executed again",
+            _ => refused(refusal, event.ticket()),
+        };
+    }
+    match (event, state) {
+        (ServerEvent::Arrive(datagram), _) => {
+            server_took(Pdu::read(datagram), given.notice, state)
+        }
+        (ServerEvent::Reply, _) => "the stub answers",
+        (ServerEvent::Transmit, ServerState::Replying) => "a fragment of the reply",
+        (ServerEvent::Transmit, ServerState::Held(_)) => "all sent: held for the ack",
+        (ServerEvent::Transmit, _) => "all sent",
+        (ServerEvent::Resend(_), ServerState::Idle(_)) => "sent too often: call spent",
+        (ServerEvent::Resend(_), _) => "no ack in time: send again",
     }
 }
 
-fn print_client_transmitted(state: ClientState) {
-    match state {
-        ClientState::SendFrags => print(b"a fragment of the request"),
-        _ => print(b"all sent: wait for a reply"),
+// Of a PDU that the server took.
+fn server_took(pdu: Pdu, notice: Notice, state: ServerState) -> &'static str {
+    match (pdu, state) {
+        (Pdu::Request(_), _) if matches!(notice, Notice::Dispatch) => "whole: execute it, once",
+        (Pdu::Request(_), ServerState::Running) => "runs: not executed again",
+        (Pdu::Ping, ServerState::Running) => "the call runs: say so",
+        (Pdu::Request(_) | Pdu::Ping, ServerState::Replying) => "ran already: reply again",
+        (Pdu::Request(_) | Pdu::Ping, ServerState::Held(_)) => "ran already: fault again",
+        (Pdu::Request(_), _) => "put in its place",
+        (Pdu::Ping, _) => "request not whole: say so",
+        (Pdu::Ack, _) => "the reply is there: spent",
+        _ => "so much is there: note it",
     }
 }
 
-fn print_waited(state: ClientState) {
-    match state {
-        ClientState::Fault => print(b"asked too often: give up"),
-        _ => print(b"no answer in time: ask"),
-    }
-}
-
-// Why the client did what it did: `kind` is the type of the PDU that arrived, the state that after it.
-pub(crate) fn print_client(
-    event: ClientEvent,
-    kind: u8,
-    answer: Answer,
-    notice: Notice,
-    state: ClientState,
-) {
-    match answer {
-        Ok(()) => match event {
-            ClientEvent::Start => print(b"a call begins"),
-            ClientEvent::Transmit => print_client_transmitted(state),
-            ClientEvent::Arrive => print_client_took(kind, notice, state),
-            ClientEvent::Wait => print_waited(state),
-            ClientEvent::Ack => print(b"say that the reply is there"),
-        },
-        Err(refusal) => print_client_refused(event, refusal),
-    }
-}
-
-fn print_client_refused(event: ClientEvent, refusal: Refusal) {
-    match event {
-        ClientEvent::Wait => print_timer_refused(refusal),
-        ClientEvent::Ack => print_timer_refused(refusal),
-        _ => print_refused(refusal),
-    }
-}
-
-// A PDU that the server took, by its type.
-fn print_server_took(kind: u8, notice: Notice, state: ServerState) {
-    match kind {
-        0 => print_request_taken(notice, state),
-        1 => print_ping_taken(state),
-        7 => print(b"the reply is there: spent"),
-        _ => print(b"so much is there: note it"),
-    }
-}
-
-fn print_request_taken(notice: Notice, state: ServerState) {
-    match notice {
-        Notice::Dispatch => print(b"whole: execute it, once"),
-        _ => match state {
-            ServerState::Running => print(b"runs: not executed again"),
-            ServerState::Replying => print(b"ran already: reply again"),
-            ServerState::Held(_) => print(b"ran already: fault again"),
-            _ => print(b"put in its place"),
-        },
-    }
-}
-
-fn print_ping_taken(state: ServerState) {
-    match state {
-        ServerState::Running => print(b"the call runs: say so"),
-        ServerState::Replying => print(b"ran already: reply again"),
-        ServerState::Held(_) => print(b"ran already: fault again"),
-        _ => print(b"request not whole: say so"),
-    }
-}
-
-fn print_server_transmitted(state: ServerState) {
-    match state {
-        ServerState::Replying => print(b"a fragment of the reply"),
-        ServerState::Held(_) => print(b"all sent: held for the ack"),
-        _ => print(b"all sent"),
-    }
-}
-
-fn print_resent(state: ServerState) {
-    match state {
-        ServerState::Idle(_) => print(b"sent too often: call spent"),
-        _ => print(b"no ack in time: send again"),
-    }
-}
-
-// Why the server did what it did: `kind` is the type of the PDU that arrived, the state that after it.
-pub(crate) fn print_server(
-    event: ServerEvent,
-    kind: u8,
-    answer: Answer,
-    notice: Notice,
-    state: ServerState,
-) {
-    match answer {
-        Ok(()) => match event {
-            ServerEvent::Arrive => print_server_took(kind, notice, state),
-            ServerEvent::Reply => print(b"the stub answers"),
-            ServerEvent::Transmit => print_server_transmitted(state),
-            ServerEvent::Resend => print_resent(state),
-        },
-        Err(refusal) => print_server_refused(event, refusal),
-    }
-}
-
-fn print_server_refused(event: ServerEvent, refusal: Refusal) {
-    match event {
-        ServerEvent::Resend => print_timer_refused(refusal),
-        _ => match refusal {
-            Refusal::OldCall => print(b"spent: never executed again"),
-            _ => print_refused(refusal),
-        },
-    }
-}
-
-// A timer that was not stopped in time, at either side: another ticket is armed, or none can be.
-fn print_timer_refused(refusal: Refusal) {
-    match refusal {
-        Refusal::LateTimer => print(b"late timer: nothing happens"),
-        _ => print(b"not waiting: nothing to do"),
-    }
-}
-
-// What else is refused, at either side.
-fn print_refused(refusal: Refusal) {
-    match refusal {
-        Refusal::Repeated => print(b"repeated: not written over"),
-        Refusal::NoRow => print(b"not waited for: dropped"),
-        _ => print(b"refused: nothing changes"),
+// Of what is refused at either side. A timer that was not stopped in time hands in its ticket: another one
+// is armed, or none can be.
+fn refused(refusal: Refusal, ticket: Option<u64>) -> &'static str {
+    match (refusal, ticket) {
+        (Refusal::LateTimer, Some(_)) => "late timer: nothing happens",
+        (_, Some(_)) => "not waiting: nothing to do",
+        (Refusal::Repeated, None) => "repeated: not written over",
+        (Refusal::NoRow, None) => "not waited for: dropped",
+        (_, None) => "refused: nothing changes",
     }
 }

@@ -1,73 +1,61 @@
 // What happens next. A PDU on a wire is delivered first, and then the request that comes again; then a
 // side does what its state asks for; and when nothing else can happen, a timer runs out.
-use crate::clock::Alarm;
 use crate::console::{ClientEvent, Console};
 use crate::controller::{Controller, ServerEvent};
-use crate::network;
-use crate::network::Straggler;
-use client::State as ClientState;
-use server::State as ServerState;
+use crate::host::Side;
+use crate::network::Network;
+use std::alloc::AllocError;
 
-// An event at one of the two sides, the request that comes again, or nothing any more.
-#[derive(Clone, Copy)]
+// An event at one of the two sides.
+#[derive(Drop)]
 pub(crate) enum Next {
     Client(ClientEvent),
     Server(ServerEvent),
-    Straggler,
-    Over,
 }
 
 // The timer that runs out: ACK is short; of WAIT and RESEND it is the one that was started first.
-fn timer(ack: Alarm, wait: Alarm, resend: Alarm) -> Next {
-    if ack.ticket != 0 {
-        return Next::Client(ClientEvent::Ack);
+fn timer(console: &Console, controller: &Controller) -> Option<Next> {
+    if let Some(ack) = console.ack {
+        return Some(Next::Client(ClientEvent::Ack(ack.ticket)));
     }
-    if resend.since < wait.since {
-        return Next::Server(ServerEvent::Resend);
+    if let Some(wait) = console.wait
+        && controller
+            .resend
+            .is_none_or(|resend| wait.since < resend.since)
+    {
+        return Some(Next::Client(ClientEvent::Wait(wait.ticket)));
     }
-    if wait.ticket != 0 {
-        return Next::Client(ClientEvent::Wait);
-    }
-    Next::Over
+    controller
+        .resend
+        .map(|resend| Next::Server(ServerEvent::Resend(resend.ticket)))
 }
 
 // What the state of a side asks for, or the timer that runs out.
-fn work(client: ClientState, server: ServerState, ack: Alarm, wait: Alarm, resend: Alarm) -> Next {
-    if client::is_queued(client) {
-        return Next::Client(ClientEvent::Start);
+fn work(console: &Console, controller: &Controller) -> Option<Next> {
+    match (console.client.state, controller.server.state) {
+        (client::State::Queued, _) => Some(Next::Client(ClientEvent::Start)),
+        (client::State::SendFrags, _) => Some(Next::Client(ClientEvent::Transmit)),
+        // The call was executed at the notice; here it is only answered.
+        (_, server::State::Running) => Some(Next::Server(ServerEvent::Reply)),
+        (_, server::State::Replying) => Some(Next::Server(ServerEvent::Transmit)),
+        _ => timer(console, controller),
     }
-    if client::is_sending(client) {
-        return Next::Client(ClientEvent::Transmit);
-    }
-    // The call was executed at the notice; here it is only answered.
-    if server::is_running(server) {
-        return Next::Server(ServerEvent::Reply);
-    }
-    if server::is_replying(server) {
-        return Next::Server(ServerEvent::Transmit);
-    }
-    timer(ack, wait, resend)
 }
 
-pub(crate) fn next_event(console: Console, controller: Controller, straggler: Straggler) -> Next {
-    if controller.wire.copies > 0 {
-        return Next::Client(ClientEvent::Arrive);
+// None where nothing is left to happen.
+pub(crate) fn next_event(
+    console: &Console,
+    controller: &Controller,
+    network: &mut Network,
+) -> Result<Option<Next>, AllocError> {
+    if let Some(pdu) = network.deliver(Side::Client) {
+        return Ok(Some(Next::Client(ClientEvent::Arrive(pdu))));
     }
-    if console.wire.copies > 0 {
-        return Next::Server(ServerEvent::Arrive);
+    if let Some(pdu) = network.deliver(Side::Server) {
+        return Ok(Some(Next::Server(ServerEvent::Arrive(pdu))));
     }
-    let client = console.client;
-    let server = controller.server;
-    let client_state = client.state;
-    let server_state = server.state;
-    if network::comes_again(straggler, server_state, server.resends) {
-        return Next::Straggler;
+    if let Some(pdu) = network.late_request(&controller.server)? {
+        return Ok(Some(Next::Server(ServerEvent::Arrive(pdu))));
     }
-    work(
-        client_state,
-        server_state,
-        console.ack,
-        console.wait,
-        controller.resend,
-    )
+    Ok(work(console, controller))
 }

@@ -16,10 +16,6 @@ pub byte_put : (b used : ℕ) (out : List ℕ) → used < length out → put_byt
 unfolding put_byte
 byte_put b used out h = search tests
 
-pub byte_left : (b used : ℕ) (out : List ℕ) → length out ≤ used → put_byte b (line used out) ≡ line used out
-unfolding put_byte
-byte_left b used out h = search tests
-
 one : (b used : ℕ) (out : List ℕ) → used < length out → set out used b ≡ placed used (b ∷ []) out
 unfolding put_at
 one b used out h = rw (placed_fits used (b ∷ []) out (omega arith), add-one used) (set_split out used b h)

@@ -1,4 +1,4 @@
-// Text put into a buffer, and the bytes of a test message: what the program `demo` needs.
+// Text put into a buffer, and the bytes of a test message.
 #![tactic(auto)]
 
 mod message;

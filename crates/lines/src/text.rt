@@ -5,6 +5,7 @@ ghost use Rattle.lines.specs.Line.{line, put_byte, written};
 ghost use Rattle.lines.specs.Text.{decimal as decimal_text};
 
 // The byte, where there is room for it.
+#[tactic(auto, unfolding(crate::specs::Line::put_byte, words::specs::Choice::choose))]
 fn put_byte(out: &mut [u8], used: usize, byte: u8) -> usize
     ensures { line result out.new ≡ put_byte byte (line used out.old) }
 {
@@ -20,10 +21,8 @@ pub fn put_text(out: &mut [u8], used: usize, text: &[u8]) -> usize
     ensures { line result out.new ≡ written text.now (line used out.old) }
 {
     let mut end = used;
-    let mut i = 0;
-    while i < text.len() {
-        end = put_byte(out, end, text[i]);
-        i += 1;
+    for &byte in text {
+        end = put_byte(out, end, byte);
     }
     end
 }

@@ -1,5 +1,4 @@
 -- `lines::message::fill` meets its contract: after i turns the first i bytes are the message's, and the others as they were.
-use Prim.Native.Nat.{◌≤◌, ◌-◌}
 use mathlib.Core.List.{◌++◌}
 use mathlib.Core.Path.{◌≡◌}
 use lib.ListN.{length, drop}
@@ -8,7 +7,4 @@ use Rattle.lines.proofs.message.fill.Given as goal
 
 abbrev pub invariant-loop-i : goal.invariant-loop-i
 invariant-loop-i l =
-    (l.i ≤ length l.initial.message) × (length l.message ≡ length l.initial.message) × (l.message ≡ message_of l.i l.seed ++ drop l.i l.initial.message)
-
-abbrev pub decreases-loop-i : goal.decreases-loop-i
-decreases-loop-i l = length l.initial.message - l.i
+    (length l.message ≡ length l.initial.message) × (l.message ≡ message_of l.i l.seed ++ drop l.i l.initial.message)
