@@ -1,5 +1,5 @@
 // The reader: any datagram, of any length.
-#![tactic(auto)]
+#![tactic(auto, unfolding(crate::specs::Reading::order_is, crate::specs::Reading::reader_refusals, pdu::specs::Header::body_of, answers::specs::Table::first_of, words::specs::Choice::choose, words::specs::Choice::both, words::specs::Choice::either))]
 
 ghost use Rattle.std.specs.Prelude.{◌≡◌};
 ghost use Rattle.pdu.specs.Header.{body_of};
@@ -7,8 +7,8 @@ ghost use Rattle.answers.specs.Table.{answer_of};
 ghost use Rattle.reader.specs.Reading.{order_is, reader_refusals, read_result};
 
 use answers::{Answer, Refusal};
-use pdu::Header;
-use words::{BODY_SIZE, HEADER_SIZE};
+use pdu::{Header, Kind};
+use words::{BODY_SIZE, HEADER_SIZE, ReadAt};
 
 // A datagram that was read: whether the sender's order is little-endian, and the header.
 #[derive(Clone, Copy)]
@@ -21,39 +21,28 @@ pub struct Received {
 fn order_is(d: &[u8], mark: u8) -> bool
     ensures { result ≡ order_is mark d.now }
 {
-    let a = words::byte_at(d, 4);
-    let b = words::byte_at(d, 5);
-    let c = words::byte_at(d, 6);
-    words::both(a == mark, words::both(b == 0, c == 0))
+    words::byte_at(d, 4) == mark && words::byte_at(d, 5) == 0 && words::byte_at(d, 6) == 0
 }
 
 // The first of refusals 3 to 8 that a datagram meets, its byte order told.
 fn judge(d: &[u8], little: bool, big: bool) -> Answer
     ensures { result ≡ answer_of (reader_refusals d.now little big) }
 {
-    let size = d.len();
-    if size < HEADER_SIZE {
+    if d.len() < HEADER_SIZE {
         return Err(Refusal::ShortDatagram);
     }
-    let version = words::byte_at(d, 0);
-    if version != 4 {
+    if words::byte_at(d, 0) != 4 {
         return Err(Refusal::WrongVersion);
     }
-    let kind = words::byte_at(d, 1);
-    if kind > 10 {
-        return Err(Refusal::UnknownType);
-    }
-    let known = words::either(little, big);
-    if !known {
+    Kind::try_from(words::byte_at(d, 1))?;
+    if !(little || big) {
         return Err(Refusal::UnknownRepresentation);
     }
-    let authentication = words::byte_at(d, 78);
-    if authentication != 0 {
+    if words::byte_at(d, 78) != 0 {
         return Err(Refusal::Authenticated);
     }
-    let behind = words::number16(d, 74, little) as usize;
-    let wrong = words::either(behind > BODY_SIZE, size != HEADER_SIZE + behind);
-    if wrong {
+    let behind = usize::from(u16::read_at(d, 74, little));
+    if behind > BODY_SIZE || d.len() != HEADER_SIZE + behind {
         return Err(Refusal::WrongBodyLength);
     }
     Ok(())
@@ -76,8 +65,5 @@ pub fn read(d: &[u8]) -> Result<Received, Refusal>
 pub fn body(d: &[u8]) -> &[u8]
     ensures { result.now ≡ body_of d.now }
 {
-    if d.len() < HEADER_SIZE {
-        return &d[..0];
-    }
-    &d[HEADER_SIZE..]
+    words::behind(d, HEADER_SIZE)
 }
