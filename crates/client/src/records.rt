@@ -14,7 +14,7 @@ use outgoing::Outgoing;
 use timers::Timer;
 use words::RETRY_LIMIT;
 
-#[derive(Clone, Copy, Debug, PartialEq, Eq)]
+#[derive(Clone, Copy, PartialEq, Eq, Debug)]
 pub enum State {
     Queued,
     SendFrags,
@@ -26,7 +26,7 @@ pub enum State {
 }
 
 // The client's timers.
-#[derive(Clone, Copy, Debug, PartialEq, Eq)]
+#[derive(Clone, Copy, PartialEq, Eq, Debug)]
 pub enum TimerKind {
     Wait,
     Ack,

@@ -78,21 +78,23 @@ fn transmitted(last: bool, c: Client) -> Client
 fn pinged(c: Client, waits: u8) -> Client
     ensures { result ≡ pinged_record c waits }
 {
-    Client {
+    let next = Client {
         outgoing: outgoing::after_ping(c.outgoing),
         waits,
-        ..records::to_waiting(c, c.state)
-    }
+        ..c
+    };
+    records::to_waiting(next, c.state)
 }
 
 // The record after a local cancel: CANCEL is armed if it is not, and the cancel number is as told.
 fn cancelled(c: Client, number: u32) -> Client
     ensures { result ≡ cancelled_record c number }
 {
-    Client {
+    let next = Client {
         cancels: number,
-        ..records::arm_cancel(c)
-    }
+        ..c
+    };
+    records::arm_cancel(next)
 }
 
 // State and timers after a response.
@@ -143,9 +145,9 @@ fn fack_for(wanted: bool, serial: u16, count: u16) -> Send
 fn response(c: Client, p: Fragment) -> Plan
     ensures { result ≡ response_plan c p }
 {
-    let next = put_record(p.complete, c.call.idempotent, c);
+    let next = received(c, fragments::put_into(c.incoming, p));
     calls::Plan {
-        machine: received(next, fragments::put_into(c.incoming, p)),
+        machine: put_record(p.complete, c.call.idempotent, next),
         send: fack_for(p.facked, p.serial, p.count),
         notice: put_notice(p.complete, p.count),
         store: Some(p.number),
@@ -156,11 +158,12 @@ fn response(c: Client, p: Fragment) -> Plan
 fn resent(c: Client, resends: u8) -> Client
     ensures { result ≡ resent_record c resends }
 {
-    Client {
+    let next = Client {
         outgoing: outgoing::rewind(c.outgoing),
         resends,
-        ..records::to_sending(c)
-    }
+        ..c
+    };
+    records::to_sending(next)
 }
 
 // The record after a fack of that many fragments.
