@@ -5,8 +5,8 @@
 ghost use Rattle.std.specs.Prelude.{◌≡◌};
 ghost use Rattle.words.specs.Choice.{choose, either};
 ghost use Rattle.timers.specs.Tickets.{used_up};
-ghost use Rattle.server.specs.records.States.{is_replying, is_held};
-ghost use Rattle.server.specs.judge.Rows.{order_for, replay_row, ping_equal, running_cancel, cancel_equal, request_put as request_fragment, resend_held};
+ghost use Rattle.server.specs.records.States.{is_fresh, is_replying, is_held};
+ghost use Rattle.server.specs.judge.Rows.{order_of, replay_row, ping_equal, running_cancel, cancel_equal, request_put as request_fragment, resend_held};
 ghost use Rattle.server.specs.judge.Refusals.{reply_verdict, transmit_verdict, fault_verdict, timer_verdict, is_maybe_or_broadcast, same_call, pdu_verdict, activity_verdict, arrival_verdict};
 ghost use Rattle.server.specs.judge.Parts.{ticketed, request_left, request_verdict, ping_verdict, ack_verdict, cancel_verdict, fack_verdict, contradicts_call, entry_answer, with_header};
 ghost use Rattle.reader.specs.Reading.{reading};
@@ -163,12 +163,12 @@ pub fn timer(s: Server, ticket: u64, out: usize) -> Verdict
 }
 
 // The number of an arriving PDU against the server's; to a fresh server every number is newer.
-fn order_for(s: Server, h: Header) -> Order
-    ensures { result ≡ order_for s h }
+fn order_for(s: Server, number: u32) -> Order
+    ensures { result ≡ order_of (is_fresh s.state) s.number number }
 {
-    if records::is_fresh(s.state) || s.number < h.number {
+    if records::is_fresh(s.state) || s.number < number {
         Order::Newer
-    } else if s.number == h.number {
+    } else if s.number == number {
         Order::Equal
     } else {
         Order::Below
@@ -283,7 +283,7 @@ fn request_equal(s: Server, h: Header, body: &[u8]) -> Verdict
 }
 
 // A request: 11, 12, and by its number 13, 15, 16, 17.
-#[tactic(auto, using(crate::proofs::judge::KindLaws::below_lines), unfolding(crate::specs::judge::Parts::request_verdict, words::specs::Choice::choose))]
+#[tactic(auto, using(crate::proofs::judge::KindLaws::below_lines), unfolding(crate::specs::judge::Rows::order_for, crate::specs::judge::Parts::request_verdict, words::specs::Choice::choose))]
 fn request(s: Server, h: Header, body: &[u8]) -> Verdict
     ensures { result ≡ request_verdict s h body.now }
 {
@@ -293,7 +293,7 @@ fn request(s: Server, h: Header, body: &[u8]) -> Verdict
     if fragments::is_wrong(h.flags1, h.fragment) {
         return Err(Refusal::WrongFragment);
     }
-    match order_for(s, h) {
+    match order_for(s, h.number) {
         Order::Below => Err(Refusal::OldCall),
         Order::Equal => request_equal(s, h, body),
         Order::Newer => request_newer(s, h, body),
@@ -316,7 +316,7 @@ fn ping_equal(state: State) -> Verdict
 fn ping(s: Server, h: Header) -> Verdict
     ensures { result ≡ ping_verdict s h }
 {
-    match order_for(s, h) {
+    match order_for(s, h.number) {
         Order::Below => Err(Refusal::OldCall),
         Order::Equal => ping_equal(s.state),
         Order::Newer => Ok(Row::Nocall),
@@ -331,11 +331,11 @@ fn is_replied(state: State) -> bool
 }
 
 // An ack: 13, 15. It is of use where a reply was given, and the call is not idempotent.
-#[tactic(auto, using(crate::proofs::judge::KindLaws::replied_lines), unfolding(crate::specs::judge::Parts::ack_verdict, crate::specs::judge::Rows::acknowledgement_cell, crate::specs::judge::Rows::ack_cell, words::specs::Choice::choose))]
+#[tactic(auto, using(crate::proofs::judge::KindLaws::replied_lines), unfolding(crate::specs::judge::Rows::order_for, crate::specs::judge::Parts::ack_verdict, crate::specs::judge::Rows::acknowledgement_cell, crate::specs::judge::Rows::ack_cell, words::specs::Choice::choose))]
 fn ack(s: Server, h: Header) -> Verdict
     ensures { result ≡ ack_verdict s h }
 {
-    match order_for(s, h) {
+    match order_for(s, h.number) {
         Order::Below => Err(Refusal::OldCall),
         Order::Equal if is_replied(s.state) && !s.call.idempotent => Ok(Row::Spend),
         Order::Equal | Order::Newer => Err(Refusal::NoRow),
@@ -368,7 +368,7 @@ fn cancel_equal(state: State, seen: u32, number: u32) -> Verdict
 fn cancel(s: Server, read: Received, body: &[u8]) -> Verdict
     ensures { result ≡ cancel_verdict s read.header read.little body.now }
 {
-    let order = order_for(s, read.header);
+    let order = order_for(s, read.header.number);
     if order == Order::Below {
         return Err(Refusal::OldCall);
     }
@@ -380,11 +380,11 @@ fn cancel(s: Server, read: Received, body: &[u8]) -> Verdict
 }
 
 // A fack: 13, 14, 15, 17.
-#[tactic(auto, using(crate::proofs::judge::KindLaws::replied_lines), unfolding(crate::specs::judge::Parts::fack_verdict, crate::specs::judge::Parts::row_left, crate::specs::judge::Rows::acknowledgement_cell, crate::specs::judge::Rows::says, answers::specs::Table::first_of, answers::specs::Number::refusal_number, facks::specs::Mask::acknowledges_more, words::specs::Choice::choose, words::specs::Choice::either))]
+#[tactic(auto, using(crate::proofs::judge::KindLaws::replied_lines), unfolding(crate::specs::judge::Rows::order_for, crate::specs::judge::Parts::fack_verdict, crate::specs::judge::Parts::row_left, crate::specs::judge::Rows::acknowledgement_cell, crate::specs::judge::Rows::says, answers::specs::Table::first_of, answers::specs::Number::refusal_number, facks::specs::Mask::acknowledges_more, words::specs::Choice::choose, words::specs::Choice::either))]
 fn fack(s: Server, read: Received, body: &[u8]) -> Verdict
     ensures { result ≡ fack_verdict s read.header read.little body.now }
 {
-    let order = order_for(s, read.header);
+    let order = order_for(s, read.header.number);
     if order == Order::Below {
         return Err(Refusal::OldCall);
     }
