@@ -343,10 +343,11 @@ fn pdu(c: Client, read: Received, body: &[u8]) -> Verdict
 }
 
 // 9 to 20, of a datagram that was read: one of another activity is 9.
+#[tactic(auto, using(crate::proofs::ActivityLaws::activity_lines, words::proofs::SameLaws::same_is), unfolding(words::specs::Choice::choose))]
 fn own_activity(c: Client, read: Received, body: &[u8]) -> Verdict
     ensures { result ≡ activity_verdict c read.header read.little body.now }
 {
-    if !words::same_uuid(c.activity, read.header.activity) {
+    if c.activity != read.header.activity {
         return Err(Refusal::OtherActivity);
     }
     pdu(c, read, body)

@@ -193,12 +193,13 @@ fn is_maybe_or_broadcast(flags1: u8) -> bool
 }
 
 // Whether a request is of the call: the idempotent bit, object, interface, version and operation.
+#[tactic(auto, using(words::proofs::SameLaws::same_is), unfolding(crate::specs::judge::Refusals::agree, crate::specs::judge::Refusals::same_call, words::specs::Choice::choose, words::specs::Choice::both))]
 fn is_same_call(call: Call, h: Header) -> bool
     ensures { result ≡ same_call call h }
 {
     call.idempotent == flags::has(h.flags1, flags::IDEMPOTENT)
-        && words::same_uuid(call.object, h.object)
-        && words::same_uuid(call.interface, h.interface)
+        && call.object == h.object
+        && call.interface == h.interface
         && call.version == h.version
         && call.operation == h.operation
 }
@@ -417,11 +418,11 @@ fn pdu(s: Server, read: Received, body: &[u8]) -> Verdict
 }
 
 // 9 to 17, of a datagram that was read: one of another activity is 9.
-#[tactic(auto, using(crate::proofs::judge::KindLaws::activity_lines), unfolding(words::specs::Choice::choose))]
+#[tactic(auto, using(crate::proofs::judge::KindLaws::activity_lines, words::proofs::SameLaws::same_is), unfolding(words::specs::Choice::choose))]
 fn own_activity(s: Server, read: Received, body: &[u8]) -> Verdict
     ensures { result ≡ activity_verdict s read.header read.little body.now }
 {
-    if !words::same_uuid(s.activity, read.header.activity) {
+    if s.activity != read.header.activity {
         return Err(Refusal::OtherActivity);
     }
     pdu(s, read, body)

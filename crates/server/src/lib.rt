@@ -27,7 +27,9 @@ fn reply_header(kind: Kind, flags1: u8, fragment: u16, s: Server) -> Header
     ensures { result ≡ reply_header (kind_number kind) flags1 fragment s }
 {
     let serial = s.outgoing.serial;
-    calls::header(kind, flags1, serial, s.activity, s.boot, s.number, s.call, fragment)
+    calls::header(
+        kind, flags1, serial, s.activity, s.boot, s.number, s.call, fragment,
+    )
 }
 
 // The data of the PDU answered, as a call's.
@@ -35,7 +37,9 @@ fn echoed(h: Header) -> Call
     ensures { result ≡ echoed_call h }
 {
     let Header {
-        object, interface, ..
+        object,
+        interface,
+        ..
     } = h;
     Call {
         idempotent: false,
@@ -51,7 +55,16 @@ fn echo_header(kind: Kind, fragment: u16, s: Server, h: Header) -> Header
     ensures { result ≡ echo_header (kind_number kind) fragment s h }
 {
     let serial = s.outgoing.serial;
-    calls::header(kind, 0, serial, s.activity, s.boot, h.number, echoed(h), fragment)
+    calls::header(
+        kind,
+        0,
+        serial,
+        s.activity,
+        s.boot,
+        h.number,
+        echoed(h),
+        fragment,
+    )
 }
 
 // Sends the response's fragment f, whose bytes are lent.
@@ -66,7 +79,11 @@ fn send_response(f: u16, s: Server, lent: &[u8], out: &mut [u8]) -> Sent
 fn send_fault(status: u32, s: Server, out: &mut [u8]) -> Sent
     ensures { Posted (fault_sent status s out.old) result out.new }
 {
-    calls::post(reply_header(Kind::Fault, 0, 0, s), &bodies::write_status(status), out)
+    calls::post(
+        reply_header(Kind::Fault, 0, 0, s),
+        &bodies::write_status(status),
+        out,
+    )
 }
 
 // Sends a PDU that has no body, for the PDU answered.
@@ -81,7 +98,11 @@ fn send_fack(serial: u16, count: u16, s: Server, h: Header, out: &mut [u8]) -> S
     ensures { Posted (fack_sent serial count s h out.old) result out.new }
 {
     let body = bodies::write_fack(serial, facks::mask(s.incoming, count));
-    calls::post(echo_header(Kind::Fack, facks::number(count), s, h), &body, out)
+    calls::post(
+        echo_header(Kind::Fack, facks::number(count), s, h),
+        &body,
+        out,
+    )
 }
 
 // Sends a cancel_ack for the cancel of that number.
@@ -143,7 +164,12 @@ pub fn transmit(s: Server, message: &[u8], out: &mut [u8]) -> Outcome
     ensures { Stepped (transmitting s message.now out.old) result out.new }
 {
     let verdict = judge::transmit(s, message.len(), out.len());
-    act(verdict, s, outgoing::fragment(message, s.outgoing.sent), out)
+    act(
+        verdict,
+        s,
+        outgoing::fragment(message, s.outgoing.sent),
+        out,
+    )
 }
 
 // The RESEND timer with that ticket.
@@ -174,7 +200,13 @@ pub fn arrive(s: Server, datagram: &[u8], slots: &mut [u8], out: &mut [u8]) -> O
 {
     match judge::arrival(s, slots.len(), out.len(), datagram) {
         Err(refusal) => calls::refused(s, refusal),
-        Ok((row, h)) => store_and_send(step::step(row, s, h), h, reader::body(datagram), slots, out),
+        Ok((row, h)) => store_and_send(
+            step::step(row, s, h),
+            h,
+            reader::body(datagram),
+            slots,
+            out,
+        ),
     }
 }
 
