@@ -7,7 +7,6 @@ use native.Mathlib.Numerals.{add-one}
 use native.Mathlib.Nat.{le_of_lt}
 use native.Mathlib.Omega.{arith}
 use lib.ListN.{length, get_or, set, take, length-set}
-use Rattle.std.specs.List.{list_all, range_with_len}
 use lib.Dec.{eqb}
 use borrow.Author.Tests.{eqb-true, eqb-false}
 use Rattle.std.proofs.lemmas.List.{ext_get_or, get_or-set_same, get_or-set_other}
@@ -18,7 +17,7 @@ use Rattle.words.specs.Place.{put_at, placed}
 use Rattle.words.proofs.Place.{put-behind, placed_fits, length-put_at, placed-front}
 use Rattle.incoming.specs.declared.Slot.{Slot}
 use Rattle.incoming.specs.Slots.{missing}
-use Rattle.record_bytes.specs.Held.{slot_bytes, slots_bytes, slot_in, slots_below, slots_in, slot_readable, readable_below, slots_readable}
+use Rattle.record_bytes.specs.Held.{slot_bytes, slots_bytes, slot_in, slots_below, slots_in, slot_readable, readable_below}
 
 pub length-slots : (xs : List Slot) → length (slots_bytes xs) ≡ 4 * length xs
 length-slots [] = refl
@@ -87,29 +86,12 @@ slots_each s xs size each =
     let below : f < window_size = omega (arith, h, size) in
     each f below ∙ sym (slot_below s window_size f below (omega arith)))
 
--- Slots are readable where each is.
-both_none : (a : Bool) → both a true ≡ a
-unfolding both choose
-both_none true = refl
-both_none false = refl
-
-both_more : (a b c : Bool) → both a (b && c) ≡ both (both a b) c
-unfolding both choose
-both_more true true c = refl
-both_more true false c = refl
-both_more false b c = refl
-
-readable_from : (s : List ℕ) (n f : ℕ)
-    → both (readable_below s f) (list_all (slot_readable s) (range_with_len f n)) ≡ readable_below s (f + n)
-unfolding readable_below
-readable_from s zero f =
-    let here : f ≡ f + 0 = omega arith in
-    both_none (readable_below s f) ∙ ap (readable_below s) here
-readable_from s (suc n) f =
-    let next : suc f + n ≡ f + suc n = omega arith in
-    both_more (readable_below s f) (slot_readable s f) _
-    ∙ rw (add-one f) (readable_from s n (suc f) ∙ ap (readable_below s) next)
-
-pub readable_each : (s : List ℕ) → list_all (slot_readable s) (range_with_len 0 window_size) ≡ slots_readable s
-unfolding slots_readable readable_below both choose
-readable_each s = readable_from s window_size 0
+-- One more that is readable.
+pub readable_more : (s : List ℕ) (f : ℕ) (all one : Bool) → all ≡ readable_below s f → one ≡ slot_readable s f
+    → (all && one) ≡ readable_below s (f + 1)
+unfolding readable_below both choose
+readable_more s f all one p q = and_both all one ∙ rw (add-one f, p, q)
+  where
+    and_both : (a b : Bool) → (a && b) ≡ both a b
+    and_both true b = refl
+    and_both false b = refl

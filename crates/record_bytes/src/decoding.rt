@@ -54,11 +54,15 @@ fn is_slot_readable(s: &[u8; SIZE], f: usize) -> bool
     u32::from_le_bytes(part(s, 144 + 4 * f)) < 131072
 }
 
-// Whether each slot is readable.
+// Whether each slot is readable. The loop has no early end: so several slots are tested at once.
 fn are_slots_readable(s: &[u8; SIZE]) -> bool
     ensures { result ≡ slots_readable (drop 144 s.now) }
 {
-    (0..WINDOW_SIZE as usize).all(|f| is_slot_readable(s, f))
+    let mut all = true;
+    for f in 0..WINDOW_SIZE as usize {
+        all &= is_slot_readable(s, f);
+    }
+    all
 }
 
 // Whether the known last is unknown, or fits a byte.

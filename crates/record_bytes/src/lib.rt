@@ -105,20 +105,21 @@ fn length_where(held: bool, length: u16) -> u16
 }
 
 // The four bytes of a slot; a missing fragment has length 0.
-fn slot_bytes(slot: Slot) -> [u8; 4]
-    ensures { result ≡ slot_bytes slot.held slot.length }
+fn slot_bytes(held: bool, length: u16) -> [u8; 4]
+    ensures { result ≡ slot_bytes held length }
 {
-    let [low, high] = length_where(slot.held, slot.length).to_le_bytes();
-    [low, high, u8::from(slot.held), 0]
+    let [low, high] = length_where(held, length).to_le_bytes();
+    [low, high, u8::from(held), 0]
 }
 
 // The 128 bytes of the slots.
-fn slots_bytes(slots: &[Slot; WINDOW_SIZE as usize]) -> [u8; 128]
-    ensures { result ≡ slots_bytes slots.now }
+fn slots_bytes(slots: [Slot; WINDOW_SIZE as usize]) -> [u8; 128]
+    ensures { result ≡ slots_bytes slots }
 {
     let mut bytes = [0; 128];
     for f in 0..slots.len() {
-        words::put(&mut bytes, 4 * f, &slot_bytes(slots[f]));
+        let slot = slots[f];
+        words::put(&mut bytes, 4 * f, &slot_bytes(slot.held, slot.length));
     }
     bytes
 }
@@ -189,5 +190,6 @@ pub fn encode(f: Fields, out: &mut [u8])
     words::put(out, 96, &f.activity);
     words::put(out, 112, &f.call.object);
     words::put(out, 128, &f.call.interface);
-    words::put(out, 144, &slots_bytes(&f.incoming.slots));
+    let slots = f.incoming.slots;
+    words::put(out, 144, &slots_bytes(slots));
 }

@@ -17,11 +17,11 @@ loop-f-init c = (refl, placed-nothing (replicate 128 0))
 pub loop-f-preserved : goal.loop-f-preserved
 loop-f-preserved c =
     let l = c.loop-f in
-    (search rules, bytes_more c.args.slots.now l.f _ l.bytes _ _ (replicate 128 0) (omega arith) (omega arith) l.invariant.1 c.slot_bytes.ensures c.put.ensures)
+    (search rules, bytes_more c.args.slots l.f _ l.bytes _ _ (replicate 128 0) (omega arith) (omega arith) l.invariant.1 c.slot_bytes.ensures c.put.ensures)
 
 pub returns : goal.returns
 returns c =
     let l = c.loop-f in
-    let slots = c.args.slots.now in
+    let slots = c.args.slots in
     let all : take l.f slots ≡ slots = take_all l.f slots (omega arith) in
     l.invariant.1 ∙ ap (λ (xs : List Slot). placed 0 (slots_bytes xs) (replicate 128 0)) all ∙ placed_all (slots_bytes slots) (replicate 128 0) (omega (arith, length-slots slots))

@@ -1,17 +1,23 @@
--- `record_bytes::decoding::are_slots_readable` meets its contract.
-use mathlib.Core.Path.{refl, ◌∙◌}
-use borrow.Author.Rules.{rules}
-use borrow.Author.Tests.{tests}
+-- `record_bytes::decoding::are_slots_readable` meets its contract. Before each turn it is known whether the slots below
+-- f are readable.
+use mathlib.Core.Path.{◌≡◌, refl, ap, ◌∙◌}
+use native.Mathlib.Omega.{arith}
 use lib.ListN.{drop}
-use Rattle.std.proofs.lemmas.Iterator.{YieldsList-from_range}
-use Rattle.std.proofs.lemmas.Iterator.Search.{all_from_yields_List}
-use Rattle.record_bytes.specs.Held.{slot_readable}
-use Rattle.record_bytes.proofs.HeldLaws.{readable_each}
+use Rattle.words.specs.Sizes.{window_size}
+use Rattle.record_bytes.specs.Held.{readable_below, slots_readable}
+use Rattle.record_bytes.proofs.HeldLaws.{readable_more}
 use Rattle.record_bytes.proofs.decoding.are_slots_readable.Goals as goal
 
+pub loop-f-init : goal.loop-f-init
+unfolding readable_below
+loop-f-init c = refl
+
+pub loop-f-preserved : goal.loop-f-preserved
+loop-f-preserved c =
+    readable_more (drop 144 c.args.s.now) c.loop-f.f _ _ c.loop-f.invariant c.is_slot_readable-all.ensures
+
 pub returns : goal.returns
+unfolding slots_readable
 returns c =
-    let s = drop 144 c.args.s.now in
-    all_from_yields_List (slot_readable s) _ _ _ c.all.ensures.ran
-    (YieldsList-from_range 0 32 32 refl refl) (λ x b q k. search (rules, tests))
-    ∙ readable_each s
+    let end : c.loop-f.f ≡ window_size = omega arith in
+    c.loop-f.invariant ∙ ap (readable_below (drop 144 c.args.s.now)) end
