@@ -441,8 +441,8 @@ fn entry(s: Server, slots: usize, out: usize) -> Answer
     Ok(())
 }
 
-// An arriving datagram, by the lengths of what is lent: 1, 2, those of the reader, 9, those of the PDU. With its row comes
-// the header of the PDU, which what is sent for it echoes.
+// An arriving datagram, by the lengths of what is lent: 1, 2, those of the reader, 9, those of the PDU. With its row
+// comes the header of the PDU, which what is sent for it echoes.
 pub fn arrival(s: Server, slots: usize, out: usize, d: &[u8]) -> Result<(Row, Header), Refusal>
     ensures { result ≡ with_header (reading d.now).header (arrival_verdict s slots out d.now) }
 {
