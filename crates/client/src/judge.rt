@@ -14,7 +14,6 @@ use crate::records;
 use crate::records::{Client, TimerKind};
 use answers::Refusal;
 use fragments::Fragment;
-use pdu::Kind;
 use reader::Received;
 use timers::Timer;
 use words::{MESSAGE_SIZE, PDU_SIZE, RETRY_LIMIT};
@@ -237,7 +236,7 @@ fn failure(c: Client, read: Received, body: &[u8]) -> Verdict
     if !records::is_active(c.state) {
         return Err(Refusal::NoRow);
     }
-    if read.header.kind == u8::from(Kind::Fault) {
+    if read.header.kind == 3 {
         Ok(Row::Fault(status))
     } else {
         Ok(Row::Reject(status))
@@ -327,17 +326,28 @@ fn cancel_ack(c: Client, read: Received, body: &[u8]) -> Verdict
     Ok(Row::CancelAck)
 }
 
+// 12 to 20, of what the server answers a call with: types 2 to 6.
+fn of_call(c: Client, read: Received, body: &[u8]) -> Verdict
+    requires { (2 ≤ read.header.kind) × (read.header.kind ≤ 6) }
+    ensures { result ≡ pdu_verdict c read.header read.little body.now }
+{
+    match read.header.kind {
+        2 => response(c, read, body),
+        4 => working(c, read, body),
+        5 => nocall(c, read, body),
+        _ => failure(c, read, body),
+    }
+}
+
 // 10 to 20, of a header and a body that were read, by the type: the client takes 2 to 6, 9 and 10.
+// The type stays a number here, matched by ranges: document 01 names that form.
 fn pdu(c: Client, read: Received, body: &[u8]) -> Verdict
     ensures { result ≡ pdu_verdict c read.header read.little body.now }
 {
-    match Kind::try_from(read.header.kind) {
-        Ok(Kind::Response) => response(c, read, body),
-        Ok(Kind::Fault | Kind::Reject) => failure(c, read, body),
-        Ok(Kind::Working) => working(c, read, body),
-        Ok(Kind::Nocall) => nocall(c, read, body),
-        Ok(Kind::Fack) => fack(c, read, body),
-        Ok(Kind::CancelAck) => cancel_ack(c, read, body),
+    match read.header.kind {
+        2..=6 => of_call(c, read, body),
+        9 => fack(c, read, body),
+        10 => cancel_ack(c, read, body),
         _ => Err(Refusal::WrongSide),
     }
 }

@@ -2,7 +2,7 @@
 // that the step needs. Nothing is written here.
 #![tactic(auto, unfolding(answers::specs::Table::first_of, answers::specs::Answer::if_done, answers::specs::Number::refusal_number, bodies::specs::Cancel::cancel_result, bodies::specs::Cancel::cancel_reading, crate::specs::judge::Rows::order_by, crate::specs::judge::Rows::order_of, crate::specs::judge::Rows::order_for, crate::specs::judge::Rows::replay_row, crate::specs::judge::Rows::ping_equal, crate::specs::judge::Rows::ping_cell, crate::specs::judge::Rows::running_cancel, crate::specs::judge::Rows::cancel_equal, crate::specs::judge::Rows::request_put, crate::specs::judge::Rows::arms, crate::specs::judge::Rows::resend_held, crate::specs::judge::Rows::transmit_row, crate::specs::judge::Rows::fault_row, crate::specs::judge::Rows::resend_row, crate::specs::judge::Rows::timer_cell, crate::specs::judge::Rows::is_row, crate::specs::judge::Rows::arms_timer, crate::specs::judge::Rows::says, crate::specs::judge::Rows::cancel_cell, crate::specs::judge::Refusals::reply_refusals, crate::specs::judge::Refusals::reply_verdict, crate::specs::judge::Refusals::transmit_refusals, crate::specs::judge::Refusals::transmit_verdict, crate::specs::judge::Refusals::fault_refusals, crate::specs::judge::Refusals::fault_verdict, crate::specs::judge::Refusals::timer_refusals, crate::specs::judge::Refusals::timer_verdict, crate::specs::judge::Refusals::is_maybe_or_broadcast, crate::specs::judge::Refusals::agree, crate::specs::judge::Refusals::same_call, crate::specs::judge::Parts::row_left, crate::specs::judge::Parts::cancel_verdict, crate::specs::judge::Parts::ping_verdict, words::specs::Choice::choose, words::specs::Choice::both, words::specs::Choice::either))]
 
-ghost use Rattle.std.specs.Prelude.{◌≡◌};
+ghost use Rattle.std.specs.Prelude.{◌≡◌, eqb};
 ghost use Rattle.words.specs.Choice.{choose, either};
 ghost use Rattle.timers.specs.Tickets.{used_up};
 ghost use Rattle.server.specs.records.States.{is_fresh, is_replying, is_held};
@@ -17,7 +17,7 @@ use answers::{Answer, Refusal};
 use calls::Call;
 use fragments::Fragment;
 use incoming::Incoming;
-use pdu::{Header, Kind};
+use pdu::Header;
 use reader::Received;
 use words::{MESSAGE_SIZE, PDU_SIZE, RETRY_LIMIT};
 
@@ -402,17 +402,26 @@ fn fack(s: Server, read: Received, body: &[u8]) -> Verdict
     Ok(Row::Acknowledge(count))
 }
 
+// 11 to 17, of what the client calls with: types 0 and 1.
+fn request_or_ping(s: Server, h: Header, body: &[u8]) -> Verdict
+    ensures { result ≡ choose (eqb h.kind 0) (request_verdict s h body.now) (ping_verdict s h) }
+{
+    match h.kind {
+        0 => request(s, h, body),
+        _ => ping(s, h),
+    }
+}
+
 // 10 to 17, of a header and a body that were read, by the type: the server takes 0, 1, 7, 8 and 9.
-#[tactic(auto, using(crate::proofs::judge::KindLaws::called_lines, crate::proofs::judge::KindLaws::ack_lines, crate::proofs::judge::KindLaws::cancel_lines, crate::proofs::judge::KindLaws::fack_lines, crate::proofs::judge::KindLaws::foreign_lines, crate::proofs::judge::KindLaws::above_lines), unfolding(crate::specs::judge::Rows::is_for_server, words::specs::Choice::choose, words::specs::Choice::either))]
+// The type stays a number here, matched by ranges: document 01 names that form.
 fn pdu(s: Server, read: Received, body: &[u8]) -> Verdict
     ensures { result ≡ pdu_verdict s read.header read.little body.now }
 {
-    match Kind::try_from(read.header.kind) {
-        Ok(Kind::Request) => request(s, read.header, body),
-        Ok(Kind::Ping) => ping(s, read.header),
-        Ok(Kind::Ack) => ack(s, read.header),
-        Ok(Kind::Cancel) => cancel(s, read, body),
-        Ok(Kind::Fack) => fack(s, read, body),
+    match read.header.kind {
+        0..=1 => request_or_ping(s, read.header, body),
+        7 => ack(s, read.header),
+        8 => cancel(s, read, body),
+        9 => fack(s, read, body),
         _ => Err(Refusal::WrongSide),
     }
 }

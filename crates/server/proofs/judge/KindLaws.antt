@@ -1,8 +1,7 @@
 -- What is left of the table once the type of a PDU, the order of its number and the state are known.
-use Prim.Native.Nat.{ℕ, zero, suc, ◌≤◌, ◌<◌}
+use Prim.Native.Nat.{ℕ, zero, suc, ◌≤◌}
 use native.Mathlib.Omega.{arith}
 use lib.Dec.{eqb}
-use borrow.Author.Tests.{ne_eqb}
 use mathlib.Core.Bool.{Bool, true, false, not}
 use mathlib.Core.List.{List, [], ◌∷◌, ◌++◌}
 use mathlib.Core.Path.{◌≡◌, refl, sym, ap, ◌∙◌}
@@ -187,19 +186,6 @@ module _ (s : Server) (h : Header) (little : Bool) (body : List ℕ) where
   pub foreign_lines : is_for_server h.kind ≡ false → pdu_verdict s h little body ≡ Refuse WrongSide
   unfolding pdu_verdict pdu_refusals first_of choose
   foreign_lines e = rw e
-
-  -- No number above 10 is the server's.
-  pub above_lines : 10 < h.kind → pdu_verdict s h little body ≡ Refuse WrongSide
-  unfolding is_for_server either choose
-  above_lines above =
-      foreign_lines
-      (rw (
-        ne_eqb h.kind 0 (λ e. omega arith),
-        ne_eqb h.kind 1 (λ e. omega arith),
-        ne_eqb h.kind 7 (λ e. omega arith),
-        ne_eqb h.kind 8 (λ e. omega arith),
-        ne_eqb h.kind 9 (λ e. omega arith),
-      ) refl)
 
 -- A datagram that was read: one of another activity is 9.
 pub activity_lines : (s : Server) (h : Header) (little : Bool) (body : List ℕ) → activity_verdict s h little body ≡
