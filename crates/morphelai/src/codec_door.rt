@@ -1,11 +1,12 @@
 // The exported reader and writer.
-ghost use Rattle.std.specs.Prelude.{◌≡◌, [], ◌∷◌};
-ghost use Rattle.words.specs.Place.{placed};
-ghost use Rattle.pdu.specs.Header.{header_bytes};
-ghost use Rattle.record_bytes.specs.Layout.{record_size};
-ghost use Rattle.morphelai.specs.CodecDoor.{Coded, order_byte, codec_read, written_result, codec_write};
+#![tactic(auto, unfolding(crate::specs::CodecDoor::order_byte, crate::specs::CodecDoor::header_out, crate::specs::CodecDoor::written_result, words::specs::Choice::choose))]
 
-use pdu::Header;
+ghost use Rattle.std.specs.Prelude.{◌≡◌};
+ghost use Rattle.record_bytes.specs.Layout.{record_size};
+ghost use Rattle.morphelai.specs.CodecDoor.{Coded, order_byte, header_out, codec_read, written_result, codec_write};
+
+use crate::result;
+use reader::Reading;
 use words::HEADER_SIZE;
 use writer::Written;
 
@@ -20,51 +21,44 @@ pub fn morphelai_record_size() -> usize
 fn order_byte(little: bool) -> u8
     ensures { result ≡ order_byte little }
 {
-    if little {
-        return 16;
-    }
-    0
+    if little { 16 } else { 0 }
 }
 
-// Lays a header down in its little-endian form, before a body of that length, with the sender's order at byte 4.
-fn lay(header: Header, length: u16, little: bool, out: &mut [u8])
-    ensures { out.new
-        ≡ placed 4 (order_byte little ∷ []) (placed 0 (header_bytes header length) out.old) }
+// Lays the header that was read down in its little-endian form, before a body of that length, with the
+// sender's order at byte 4; a refusal leaves the buffer as it was.
+fn lay(reading: Reading, length: u16, out: &mut [u8])
+    ensures { out.new ≡ header_out reading length out.old }
 {
-    let order = [order_byte(little)];
-    writer::write_header(header, length, out);
-    words::put(out, 4, &order);
+    if reading.answer.is_ok() {
+        writer::write_header(reading.header, length, out);
+        words::put(out, 4, &[order_byte(reading.little)]);
+    }
 }
 
 // Reads a datagram: the answer, and where it is 0 its header in the little-endian form.
+#[tactic(auto, using(crate::proofs::CodecLaws::header_out_low), unfolding(crate::specs::CodecDoor::refusing_codec, crate::specs::CodecDoor::codec_read, words::specs::Choice::choose))]
 pub fn morphelai_read(datagram: &[u8], out: &mut [u8]) -> u64
     ensures { Coded (codec_read datagram.now out.old) result out.new }
 {
     if out.len() != HEADER_SIZE {
         return 1;
     }
-    let length = reader::body(datagram).len();
+    let length = (reader::body(datagram).len() % 65536) as u16;
     let reading = reader::read(datagram);
-    let answer = reading.answer;
-    let header = reading.header;
-    let number = answers::number(answer);
-    if number == 0 {
-        lay(header, (length % 65536) as u16, reading.little, out);
-        return 0;
-    }
-    number as u64
+    lay(reading, length, out);
+    u64::from(answers::number(reading.answer))
 }
 
 // The answer of a write and the length of the PDU, in one number.
 fn written(w: Written) -> u64
     ensures { result ≡ written_result w }
 {
-    let answer = w.answer;
     let length = (w.length % 65536) as u16;
-    crate::result::pack(answers::number(answer), 0, length, 0)
+    result::pack(answers::number(w.answer), 0, length, 0)
 }
 
 // Writes the PDU of a header in its little-endian form and a body.
+#[tactic(auto, using(crate::proofs::CodecLaws::header_read), unfolding(crate::specs::CodecDoor::refusing_codec, crate::specs::CodecDoor::codec_written, crate::specs::CodecDoor::codec_write, words::specs::Choice::choose))]
 pub fn morphelai_write(header: &[u8], body: &[u8], out: &mut [u8]) -> u64
     ensures { Coded (codec_write header.now body.now out.old)
         result out.new }
@@ -72,6 +66,5 @@ pub fn morphelai_write(header: &[u8], body: &[u8], out: &mut [u8]) -> u64
     if header.len() != HEADER_SIZE {
         return 1;
     }
-    let w = writer::write(pdu::fields(header, true), body, out);
-    written(w)
+    written(writer::write(pdu::fields(header, true), body, out))
 }
