@@ -1,6 +1,3 @@
--- What the exported functions give and leave.
-pub mod Returns
-pub mod ClientReturns
-pub mod ServerReturns
+-- Laws of the door.
 pub mod CodecReturns
 pub mod Exact

@@ -1,11 +1,12 @@
 -- What each exported function of the client gives and leaves, over bytes: the event's own definition of the record
 -- that the bytes stand for.
-use Rattle.std.specs.Prelude.{ℕ, Bool, List, [], length, eqb, leb}
+use Rattle.std.specs.Prelude.{ℕ, Bool, Option, Some, None, List, [], length, eqb, leb}
 use Rattle.words.specs.Choice.{choose, both}
 use Rattle.words.specs.Place.{placed}
 use Rattle.calls.specs.declared.Call.{Call}
 use Rattle.calls.specs.Events.{Step, Arrival}
 use Rattle.record_bytes.specs.Parts.{uuid_in}
+use Rattle.client.specs.declared.records.TimerKind.{TimerKind}
 use Rattle.client.specs.declared.records.TimerKind.TheVariants.{Wait, Ack, Cancel}
 use Rattle.client.specs.declared.records.Client.{Client}
 use Rattle.client.specs.records.Record.{fresh}
@@ -85,6 +86,13 @@ client_timing c kind ticket bytes out =
     (choose (eqb kind 2) (client_stepped (timing c Ack ticket out) bytes)
     (choose (eqb kind 4) (client_stepped (timing c Cancel ticket out) bytes)
     (other_kind (sound c) bytes [] out)))
+
+-- The same kinds, as the code reads them.
+unfoldable pub timer_kind : ℕ → Option TimerKind
+timer_kind kind =
+    choose (eqb kind 1) (Some Wait)
+    (choose (eqb kind 2) (Some Ack)
+    (choose (eqb kind 4) (Some Cancel) None))
 
 -- morphelai_client_timer.
 unfoldable pub client_timer : List ℕ → ℕ → ℕ → List ℕ → Export

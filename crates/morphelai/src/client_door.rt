@@ -1,33 +1,20 @@
 // The client's exported functions.
-ghost use Rattle.std.specs.Prelude.{◌≡◌, []};
-ghost use Rattle.client.specs.Machine.{timing};
-ghost use Rattle.morphelai.specs.Export.{Exported};
-ghost use Rattle.morphelai.specs.ClientDoor.{client_result, client_kept, client_stepped, client_fresh, call_of, start_sized, client_start, client_transmit, client_arrive, client_timer, client_cancel, client_part};
+#![tactic(auto, unfolding(crate::specs::Result::result_of, crate::specs::Export::sized, crate::specs::Export::refusing, crate::specs::Export::other_kind, crate::specs::ClientDoor::client_result, crate::specs::ClientDoor::client_kept, crate::specs::ClientDoor::client_fresh, crate::specs::ClientDoor::call_of, crate::specs::ClientDoor::start_sized, crate::specs::ClientDoor::client_start, crate::specs::ClientDoor::client_transmit, crate::specs::ClientDoor::client_arrive, crate::specs::ClientDoor::timer_kind, crate::specs::ClientDoor::client_timing, crate::specs::ClientDoor::client_timer, crate::specs::ClientDoor::client_cancel, crate::specs::ClientDoor::client_part, words::specs::Choice::choose, words::specs::Choice::both))]
 
+ghost use Rattle.std.specs.Prelude.{◌≡◌, []};
+ghost use Rattle.morphelai.specs.Export.{Exported};
+ghost use Rattle.morphelai.specs.ClientDoor.{client_given, client_fresh, call_of, start_sized, client_start, client_transmit, client_arrive, timer_kind, client_timer, client_cancel, client_part};
+
+use crate::{record, result};
 use calls::Call;
 use client::{Client, Outcome, TimerKind};
 
-// What an event gives back.
-fn given(o: Outcome) -> u64
-    ensures { result ≡ client_result o }
+// What an event gives back, and the bytes of the next record where the answer is 0.
+fn given(o: Outcome, bytes: &mut [u8]) -> u64
+    ensures { Exported (client_given o bytes.old [] []) result bytes.new [] [] }
 {
-    let answer = o.answer;
-    let sent = o.sent;
-    let notice = o.notice;
-    crate::result::result(answer, notice, sent)
-}
-
-// The bytes of the next record, where the answer is 0.
-#[tactic(auto, using(crate::proofs::Returns::kept_new, crate::proofs::Returns::kept_old), unfolding(crate::specs::ClientDoor::client_kept))]
-fn keep(o: Outcome, bytes: &mut [u8])
-    ensures { bytes.new ≡ client_kept o bytes.old }
-{
-    let answer = o.answer;
-    let client = o.machine;
-    let number = answers::number(answer);
-    if number == 0 {
-        client_bytes::encode(client, bytes);
-    }
+    record::keep(o.answer, o.machine, bytes);
+    result::result(o.answer, o.notice, o.sent)
 }
 
 // Makes a fresh record of an activity, whose first ticket is one more than this.
@@ -35,24 +22,22 @@ pub fn morphelai_client_fresh(bytes: &mut [u8], activity: &[u8], tickets: u64) -
     ensures { Exported (client_fresh bytes.old activity.now tickets)
         result bytes.new [] [] }
 {
-    if words::both(bytes.len() == record_bytes::SIZE, activity.len() == 16) {
-        let fresh = client::fresh(record_bytes::uuid(activity, 0), tickets);
-        client_bytes::encode(fresh, bytes);
-        return 0;
+    if bytes.len() != record_bytes::SIZE || activity.len() != 16 {
+        return 1;
     }
-    1
+    let fresh = client::fresh(record_bytes::uuid(activity, 0), tickets);
+    client_bytes::encode(fresh, bytes);
+    0
 }
 
 // The call of a start.
 fn call_of(idempotent: bool, object: &[u8], interface: &[u8], version: u32, operation: u16) -> Call
     ensures { result ≡ call_of idempotent object.now interface.now version operation }
 {
-    let object = record_bytes::uuid(object, 0);
-    let interface = record_bytes::uuid(interface, 0);
     Call {
         idempotent,
-        object,
-        interface,
+        object: record_bytes::uuid(object, 0),
+        interface: record_bytes::uuid(interface, 0),
         version,
         operation,
     }
@@ -62,11 +47,10 @@ fn call_of(idempotent: bool, object: &[u8], interface: &[u8], version: u32, oper
 fn is_sized(bytes: &[u8], idempotent: u8, object: &[u8], interface: &[u8]) -> bool
     ensures { result ≡ start_sized bytes.now idempotent object.now interface.now }
 {
-    let uuids = words::both(object.len() == 16, interface.len() == 16);
-    words::both(
-        bytes.len() == record_bytes::SIZE,
-        words::both(idempotent <= 1, uuids),
-    )
+    bytes.len() == record_bytes::SIZE
+        && idempotent <= 1
+        && object.len() == 16
+        && interface.len() == 16
 }
 
 // Start: a call with a message of this length.
@@ -84,13 +68,14 @@ pub fn morphelai_client_start(
         version operation length)
         result bytes.new [] [] }
 {
-    if is_sized(bytes, idempotent, object, interface) {
-        let call = call_of(idempotent == 1, object, interface, version, operation);
-        let o = client::start(client_bytes::decode(bytes), call, length);
-        keep(o, bytes);
-        return given(o);
+    if !is_sized(bytes, idempotent, object, interface) {
+        return 1;
     }
-    1
+    let call = call_of(idempotent == 1, object, interface, version, operation);
+    given(
+        client::start(client_bytes::decode(bytes), call, length),
+        bytes,
+    )
 }
 
 // Transmit: the next fragment of the lent message.
@@ -98,12 +83,10 @@ pub fn morphelai_client_transmit(bytes: &mut [u8], message: &[u8], out: &mut [u8
     ensures { Exported (client_transmit bytes.old message.now out.old)
         result bytes.new [] out.new }
 {
-    if bytes.len() != record_bytes::SIZE {
+    let Some(client) = record::lent::<Client>(bytes) else {
         return 1;
-    }
-    let o = client::transmit(client_bytes::decode(bytes), message, out);
-    keep(o, bytes);
-    given(o)
+    };
+    given(client::transmit(client, message, out), bytes)
 }
 
 // An arriving datagram.
@@ -116,22 +99,22 @@ pub fn morphelai_client_arrive(
     ensures { Exported (client_arrive bytes.old datagram.now slots.old out.old)
         result bytes.new slots.new out.new }
 {
-    if bytes.len() != record_bytes::SIZE {
+    let Some(client) = record::lent::<Client>(bytes) else {
         return 1;
-    }
-    let o = client::arrive(client_bytes::decode(bytes), datagram, slots, out);
-    keep(o, bytes);
-    given(o)
+    };
+    given(client::arrive(client, datagram, slots, out), bytes)
 }
 
-// A timer of the client that ran out.
-fn run_out(c: Client, kind: TimerKind, ticket: u64, bytes: &mut [u8], out: &mut [u8]) -> u64
-    ensures { Exported (client_stepped (timing c kind ticket out.old) bytes.old)
-        result bytes.new [] out.new }
+// The client's timer of this kind.
+fn timer_kind(kind: u8) -> Option<TimerKind>
+    ensures { result ≡ timer_kind kind }
 {
-    let o = client::timer(c, kind, ticket, out);
-    keep(o, bytes);
-    given(o)
+    match kind {
+        1 => Some(TimerKind::Wait),
+        2 => Some(TimerKind::Ack),
+        4 => Some(TimerKind::Cancel),
+        _ => None,
+    }
 }
 
 // A timer of this kind that ran out, with its ticket: 1 is WAIT, 2 is ACK, 4 is CANCEL.
@@ -139,20 +122,13 @@ pub fn morphelai_client_timer(bytes: &mut [u8], kind: u8, ticket: u64, out: &mut
     ensures { Exported (client_timer bytes.old kind ticket out.old)
         result bytes.new [] out.new }
 {
-    if bytes.len() != record_bytes::SIZE {
+    let Some(client) = record::lent::<Client>(bytes) else {
         return 1;
-    }
-    let c = client_bytes::decode(bytes);
-    if kind == 1 {
-        return run_out(c, TimerKind::Wait, ticket, bytes, out);
-    }
-    if kind == 2 {
-        return run_out(c, TimerKind::Ack, ticket, bytes, out);
-    }
-    if kind == 4 {
-        return run_out(c, TimerKind::Cancel, ticket, bytes, out);
-    }
-    crate::result::other_timer(client::is_sound(c), out.len())
+    };
+    let Some(kind) = timer_kind(kind) else {
+        return result::other_timer(client::is_sound(client), out.len());
+    };
+    given(client::timer(client, kind, ticket, out), bytes)
 }
 
 // Local cancel: the client's user asks that the call be stopped; the call goes on.
@@ -160,21 +136,18 @@ pub fn morphelai_client_cancel(bytes: &mut [u8], out: &mut [u8]) -> u64
     ensures { Exported (client_cancel bytes.old out.old)
         result bytes.new [] out.new }
 {
-    if bytes.len() != record_bytes::SIZE {
+    let Some(client) = record::lent::<Client>(bytes) else {
         return 1;
-    }
-    let o = client::cancel(client_bytes::decode(bytes), out);
-    keep(o, bytes);
-    given(o)
+    };
+    given(client::cancel(client, out), bytes)
 }
 
 // How long the part of the slot buffer is that is fragment f of what was received.
 pub fn morphelai_client_part(bytes: &[u8], f: u16, slots: &[u8]) -> u64
     ensures { result ≡ client_part bytes.now f slots.now }
 {
-    if bytes.len() != record_bytes::SIZE {
-        return 0;
+    match record::lent::<Client>(bytes) {
+        Some(client) => client::hand_up(client, f, slots).len() as u64,
+        None => 0,
     }
-    let part = client::hand_up(client_bytes::decode(bytes), f, slots);
-    part.len() as u64
 }

@@ -1,10 +1,13 @@
 // The exported reader and writer.
+#![tactic(auto, unfolding(crate::specs::CodecDoor::order_byte, crate::specs::CodecDoor::written_number, words::specs::Choice::choose))]
+
 ghost use Rattle.std.specs.Prelude.{◌≡◌, [], ◌∷◌};
 ghost use Rattle.words.specs.Place.{placed};
 ghost use Rattle.pdu.specs.Header.{header_bytes};
 ghost use Rattle.record_bytes.specs.Layout.{record_size};
 ghost use Rattle.morphelai.specs.CodecDoor.{Coded, order_byte, codec_read, written_number, codec_write};
 
+use crate::result;
 use answers::Refusal;
 use pdu::Header;
 use words::HEADER_SIZE;
@@ -20,10 +23,7 @@ pub fn morphelai_record_size() -> usize
 fn order_byte(little: bool) -> u8
     ensures { result ≡ order_byte little }
 {
-    if little {
-        return 16;
-    }
-    0
+    if little { 16 } else { 0 }
 }
 
 // Lays a header down in its little-endian form, before a body of that length, with the sender's order at byte 4.
@@ -31,9 +31,8 @@ fn lay(header: Header, length: u16, little: bool, out: &mut [u8])
     ensures { out.new
         ≡ placed 4 (order_byte little ∷ []) (placed 0 (header_bytes header length) out.old) }
 {
-    let order = [order_byte(little)];
     writer::write_header(header, length, out);
-    words::put(out, 4, &order);
+    words::put(out, 4, &[order_byte(little)]);
 }
 
 // Reads a datagram: the answer, and where it is 0 its header in the little-endian form.
@@ -49,7 +48,7 @@ pub fn morphelai_read(datagram: &[u8], out: &mut [u8]) -> u64
             lay(read.header, (length % 65536) as u16, read.little, out);
             0
         }
-        Err(refusal) => answers::number(Err(refusal)) as u64,
+        Err(refusal) => u64::from(answers::number(Err(refusal))),
     }
 }
 
@@ -58,8 +57,8 @@ fn written(w: Result<usize, Refusal>) -> u64
     ensures { result ≡ written_number w }
 {
     match w {
-        Ok(length) => crate::result::pack(0, 0, (length % 65536) as u16, 0),
-        Err(refusal) => crate::result::pack(answers::number(Err(refusal)), 0, 0, 0),
+        Ok(length) => result::pack(0, 0, (length % 65536) as u16, 0),
+        Err(refusal) => result::pack(answers::number(Err(refusal)), 0, 0, 0),
     }
 }
 

@@ -3,6 +3,7 @@
 
 mod client_door;
 mod codec_door;
+mod record;
 mod result;
 mod server_door;
 

@@ -1,4 +1,6 @@
 // What an event gives back, in one number.
+#![tactic(auto, unfolding(crate::specs::Result::packed, crate::specs::Result::result_of, crate::specs::Export::other_timer, words::specs::Choice::choose))]
+
 ghost use Rattle.std.specs.Prelude.{◌≡◌};
 ghost use Rattle.morphelai.specs.Result.{notice_kind, notice_value, sent_length, packed, result_of};
 ghost use Rattle.morphelai.specs.Export.{other_timer};
@@ -7,6 +9,7 @@ use answers::Answer;
 use calls::{Notice, Sent};
 use words::PDU_SIZE;
 
+// The kind of a notice.
 fn notice_kind(notice: Notice) -> u8
     ensures { result ≡ notice_kind notice }
 {
@@ -22,37 +25,35 @@ fn notice_kind(notice: Notice) -> u8
     }
 }
 
+// The value of a notice, 0 where it has none.
 fn notice_value(notice: Notice) -> u32
     ensures { result ≡ notice_value notice }
 {
     match notice {
-        Notice::Nothing => 0,
-        Notice::Last => 0,
-        Notice::Count(n) => n as u32,
-        Notice::Fault(status) => status,
-        Notice::Reject(status) => status,
-        Notice::Cause(cause) => cause as u32,
-        Notice::Dispatch => 0,
-        Notice::Cancel => 0,
+        Notice::Count(n) => u32::from(n),
+        Notice::Fault(status) | Notice::Reject(status) => status,
+        Notice::Cause(cause) => u32::from(cause),
+        Notice::Nothing | Notice::Last | Notice::Dispatch | Notice::Cancel => 0,
     }
 }
 
+// How many bytes were sent.
 fn sent_length(sent: Sent) -> u16
     ensures { result ≡ sent_length sent }
 {
-    match sent {
-        None => 0,
-        Some(length) => (length % 65536) as u16,
-    }
+    (sent.unwrap_or(0) % 65536) as u16
 }
 
 // Answer, notice's kind, length of the PDU and notice's value as one number.
 pub fn pack(answer: u8, kind: u8, length: u16, value: u32) -> u64
     ensures { result ≡ packed answer kind length value }
 {
-    answer as u64 + 256 * (kind as u64 + 256 * (length as u64 + 65536 * (value as u64)))
+    let [low, high] = length.to_le_bytes();
+    let [first, second, third, fourth] = value.to_le_bytes();
+    u64::from_le_bytes([answer, kind, low, high, first, second, third, fourth])
 }
 
+// What an event gives back: its answer, its notice and how much it sent.
 pub fn result(answer: Answer, notice: Notice, sent: Sent) -> u64
     ensures { result ≡ result_of answer notice sent }
 {
@@ -69,10 +70,10 @@ pub fn other_timer(sound: bool, size: usize) -> u64
     ensures { result ≡ other_timer sound size }
 {
     if size != PDU_SIZE {
-        return 1;
+        1
+    } else if !sound {
+        2
+    } else {
+        15
     }
-    if !sound {
-        return 2;
-    }
-    15
 }
