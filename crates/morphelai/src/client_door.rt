@@ -10,6 +10,7 @@ use calls::Call;
 use client::{Client, Outcome, TimerKind};
 
 // What an event gives back, and the bytes of the next record where the answer is 0.
+#[inline]
 fn given(o: Outcome, bytes: &mut [u8]) -> u64
     ensures { Exported (client_given o bytes.old [] []) result bytes.new [] [] }
 {

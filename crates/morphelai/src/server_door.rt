@@ -9,6 +9,7 @@ use crate::{record, result};
 use server::{Outcome, Server};
 
 // What an event gives back, and the bytes of the next record where the answer is 0.
+#[inline]
 fn given(o: Outcome, bytes: &mut [u8]) -> u64
     ensures { Exported (server_given o bytes.old [] []) result bytes.new [] [] }
 {
