@@ -52,7 +52,7 @@ impl Record for Server {
     }
 }
 
-// The record that is lent, where it has its length.
+// The record that is lent, where it has its length. Inlined as `keep` is, so that no record is copied.
 #[inline]
 pub fn lent<R: Record>(bytes: &[u8]) -> Option<R>
     ensures { MatchOption result (sized bytes.now ≡ false)
