@@ -23,7 +23,7 @@ fn state_of(number: u8) -> State
     }
 }
 
-// The number of a state.
+// The number of a state: the layout's, whatever the order of the variants is.
 fn state_number(state: State) -> u8
     ensures { result ≡ state_number state }
 {
@@ -38,7 +38,7 @@ fn state_number(state: State) -> u8
     }
 }
 
-// The record of what stands in bytes.
+// The record of what stands in bytes. An array goes into a literal by a variable: else there is no proof.
 fn client_of(readable: bool, f: Fields) -> Client
     ensures { result ≡ client_of readable f }
 {
@@ -75,7 +75,7 @@ pub fn decode(s: &[u8]) -> Client
     client_of(is_readable(&d), d.fields)
 }
 
-// What the bytes of a record hold.
+// What the bytes of a record hold. An array goes into a literal by a variable: else there is no proof.
 fn fields_of(c: Client) -> Fields
     ensures { result ≡ fields_of c }
 {

@@ -9,7 +9,9 @@ use crate::{record, result};
 use calls::Call;
 use client::{Client, Outcome, TimerKind};
 
-// What an event gives back, and the bytes of the next record where the answer is 0.
+// What an event gives back, and the bytes of the next record where the answer is 0. Each side has an
+// Outcome of its own: a trait for its three parts would be longer than these two lines.
+#[inline]
 fn given(o: Outcome, bytes: &mut [u8]) -> u64
     ensures { Exported (client_given o bytes.old [] []) result bytes.new [] [] }
 {

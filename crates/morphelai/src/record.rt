@@ -52,7 +52,8 @@ impl Record for Server {
     }
 }
 
-// The record that is lent, where it has its length.
+// The record that is lent, where it has its length. Inlined as `keep` is, so that no record is copied.
+#[inline]
 pub fn lent<R: Record>(bytes: &[u8]) -> Option<R>
     ensures { MatchOption result (sized bytes.now ≡ false)
         (λ r. (sized bytes.now ≡ true) × (r ≡ R.record_in bytes.now)) }
@@ -64,6 +65,7 @@ pub fn lent<R: Record>(bytes: &[u8]) -> Option<R>
 }
 
 // The bytes of the next record, where the answer is 0.
+#[inline]
 pub fn keep<R: Record>(answer: Answer, next: R, bytes: &mut [u8])
     ensures { bytes.new ≡ kept_bytes answer (R.bytes_of next) bytes.old }
 {

@@ -1,4 +1,4 @@
-// What an event gives back, in one number.
+// What an event gives back, in one number: the C interface has it so (include/morphelai.h).
 #![tactic(auto, unfolding(crate::specs::Result::packed, crate::specs::Result::result_of, crate::specs::Export::other_timer, words::specs::Choice::choose))]
 
 ghost use Rattle.std.specs.Prelude.{◌≡◌};

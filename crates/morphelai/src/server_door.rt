@@ -8,7 +8,9 @@ ghost use Rattle.morphelai.specs.ServerDoor.{server_given, server_fresh, server_
 use crate::{record, result};
 use server::{Outcome, Server};
 
-// What an event gives back, and the bytes of the next record where the answer is 0.
+// What an event gives back, and the bytes of the next record where the answer is 0. Each side has an
+// Outcome of its own: a trait for its three parts would be longer than these two lines.
+#[inline]
 fn given(o: Outcome, bytes: &mut [u8]) -> u64
     ensures { Exported (server_given o bytes.old [] []) result bytes.new [] [] }
 {

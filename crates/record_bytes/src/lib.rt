@@ -38,7 +38,8 @@ pub struct Fields {
     pub tickets: u64,
     // The WAIT timer of a client, the RESEND timer of a server.
     pub timer: Timer,
-    // Whether the ACK timer of a client is armed; false at a server.
+    // Whether the ACK timer of a client is armed; false at a server. No Timer with its ticket, since at a
+    // server a status stands in the ticket's place: the layout is one for both sides (`fields_in`).
     pub armed: bool,
     // The ticket of a client's ACK timer, the status of a server's fault.
     pub word: u64,
@@ -48,7 +49,8 @@ pub struct Fields {
     pub cancels: u32,
 }
 
-// What the bytes of a record hold, with what a side needs to tell whether they are readable.
+// What the bytes of a record hold, with what a side needs to tell whether they are readable. No Option or
+// Result: bytes that are not readable stand for a record too, which each event refuses with 2 (`decoded_in`).
 #[derive(Clone, Copy)]
 pub struct Decoded {
     // Whether they are, but for what is the side's own.
@@ -112,7 +114,7 @@ fn slot_bytes(held: bool, length: u16) -> [u8; 4]
     [low, high, u8::from(held), 0]
 }
 
-// The 128 bytes of the slots.
+// The 128 bytes of the slots. They come by value: behind a reference this takes twice the instructions.
 fn slots_bytes(slots: [Slot; WINDOW_SIZE as usize]) -> [u8; 128]
     ensures { result ≡ slots_bytes slots }
 {

@@ -25,7 +25,7 @@ fn state_of(number: u8, status: u32) -> State
     }
 }
 
-// The number of a state.
+// The number of a state: the layout's, whatever the order of the variants is.
 fn state_number(state: State) -> u8
     ensures { result ≡ state_number state }
 {
@@ -51,7 +51,7 @@ fn status_of(state: State) -> u32
     }
 }
 
-// The record of what stands in bytes.
+// The record of what stands in bytes. An array goes into a literal by a variable: else there is no proof.
 fn server_of(readable: bool, status: u32, f: Fields) -> Server
     ensures { result ≡ server_of readable status f }
 {
@@ -94,7 +94,7 @@ pub fn decode(s: &[u8]) -> Server
     server_of(is_readable(&d), status, d.fields)
 }
 
-// What the bytes of a record hold.
+// What the bytes of a record hold. An array goes into a literal by a variable: else there is no proof.
 fn fields_of(s: Server) -> Fields
     ensures { result ≡ fields_of s }
 {
