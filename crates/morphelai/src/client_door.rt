@@ -3,21 +3,11 @@
 
 ghost use Rattle.std.specs.Prelude.{◌≡◌, []};
 ghost use Rattle.morphelai.specs.Export.{Exported};
-ghost use Rattle.morphelai.specs.ClientDoor.{client_given, client_fresh, call_of, start_sized, client_start, client_transmit, client_arrive, timer_kind, client_timer, client_cancel, client_part};
+ghost use Rattle.morphelai.specs.ClientDoor.{client_fresh, call_of, start_sized, client_start, client_transmit, client_arrive, timer_kind, client_timer, client_cancel, client_part};
 
 use crate::{record, result};
 use calls::Call;
-use client::{Client, Outcome, TimerKind};
-
-// What an event gives back, and the bytes of the next record where the answer is 0. Each side has an
-// Outcome of its own: a trait for its three parts would be longer than these two lines.
-#[inline]
-fn given(o: Outcome, bytes: &mut [u8]) -> u64
-    ensures { Exported (client_given o bytes.old [] []) result bytes.new [] [] }
-{
-    record::keep(o.answer, o.machine, bytes);
-    result::result(o.answer, o.notice, o.sent)
-}
+use client::{Client, TimerKind};
 
 // Makes a fresh record of an activity, whose first ticket is one more than this.
 pub fn morphelai_client_fresh(bytes: &mut [u8], activity: &[u8], tickets: u64) -> u64
@@ -74,7 +64,7 @@ pub fn morphelai_client_start(
         return 1;
     }
     let call = call_of(idempotent == 1, object, interface, version, operation);
-    given(
+    record::given(
         client::start(client_bytes::decode(bytes), call, length),
         bytes,
     )
@@ -88,7 +78,7 @@ pub fn morphelai_client_transmit(bytes: &mut [u8], message: &[u8], out: &mut [u8
     let Some(client) = record::lent::<Client>(bytes) else {
         return 1;
     };
-    given(client::transmit(client, message, out), bytes)
+    record::given(client::transmit(client, message, out), bytes)
 }
 
 // An arriving datagram.
@@ -104,7 +94,7 @@ pub fn morphelai_client_arrive(
     let Some(client) = record::lent::<Client>(bytes) else {
         return 1;
     };
-    given(client::arrive(client, datagram, slots, out), bytes)
+    record::given(client::arrive(client, datagram, slots, out), bytes)
 }
 
 // The client's timer of this kind.
@@ -130,7 +120,7 @@ pub fn morphelai_client_timer(bytes: &mut [u8], kind: u8, ticket: u64, out: &mut
     let Some(kind) = timer_kind(kind) else {
         return result::other_timer(client::is_sound(client), out.len());
     };
-    given(client::timer(client, kind, ticket, out), bytes)
+    record::given(client::timer(client, kind, ticket, out), bytes)
 }
 
 // Local cancel: the client's user asks that the call be stopped; the call goes on.
@@ -141,7 +131,7 @@ pub fn morphelai_client_cancel(bytes: &mut [u8], out: &mut [u8]) -> u64
     let Some(client) = record::lent::<Client>(bytes) else {
         return 1;
     };
-    given(client::cancel(client, out), bytes)
+    record::given(client::cancel(client, out), bytes)
 }
 
 // How long the part of the slot buffer is that is fragment f of what was received.

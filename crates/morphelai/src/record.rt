@@ -6,8 +6,11 @@ ghost use Rattle.words.specs.Place.{placed};
 ghost use Rattle.client_bytes.specs.Layout.{client_in, bytes_of_client};
 ghost use Rattle.server_bytes.specs.Layout.{server_in, bytes_of_server};
 ghost use Rattle.morphelai.specs.Export.{sized, kept_bytes};
+ghost use Rattle.morphelai.specs.Result.{result_of};
 
+use crate::result;
 use answers::Answer;
+use calls::Outcome;
 use client::Client;
 use server::Server;
 
@@ -72,4 +75,14 @@ pub fn keep<R: Record>(answer: Answer, next: R, bytes: &mut [u8])
     if answer.is_ok() {
         next.encode(bytes);
     }
+}
+
+// What an event gives back, and the bytes of the next record where the answer is 0.
+#[inline]
+pub fn given<R: Record>(o: Outcome<R>, bytes: &mut [u8]) -> u64
+    ensures told { result ≡ result_of o.answer o.notice o.sent }
+    ensures kept { bytes.new ≡ kept_bytes o.answer (R.bytes_of o.machine) bytes.old }
+{
+    keep(o.answer, o.machine, bytes);
+    result::result(o.answer, o.notice, o.sent)
 }

@@ -3,20 +3,10 @@
 
 ghost use Rattle.std.specs.Prelude.{◌≡◌, []};
 ghost use Rattle.morphelai.specs.Export.{Exported};
-ghost use Rattle.morphelai.specs.ServerDoor.{server_given, server_fresh, server_arrive, server_transmit, server_timer, server_reply, server_fault, server_part};
+ghost use Rattle.morphelai.specs.ServerDoor.{server_fresh, server_arrive, server_transmit, server_timer, server_reply, server_fault, server_part};
 
 use crate::{record, result};
-use server::{Outcome, Server};
-
-// What an event gives back, and the bytes of the next record where the answer is 0. Each side has an
-// Outcome of its own: a trait for its three parts would be longer than these two lines.
-#[inline]
-fn given(o: Outcome, bytes: &mut [u8]) -> u64
-    ensures { Exported (server_given o bytes.old [] []) result bytes.new [] [] }
-{
-    record::keep(o.answer, o.machine, bytes);
-    result::result(o.answer, o.notice, o.sent)
-}
+use server::Server;
 
 // Makes a fresh record of an activity, whose first ticket is one more than this.
 pub fn morphelai_server_fresh(bytes: &mut [u8], activity: &[u8], boot: u32, tickets: u64) -> u64
@@ -39,7 +29,7 @@ pub fn morphelai_server_transmit(bytes: &mut [u8], message: &[u8], out: &mut [u8
     let Some(server) = record::lent::<Server>(bytes) else {
         return 1;
     };
-    given(server::transmit(server, message, out), bytes)
+    record::given(server::transmit(server, message, out), bytes)
 }
 
 // An arriving datagram.
@@ -55,7 +45,7 @@ pub fn morphelai_server_arrive(
     let Some(server) = record::lent::<Server>(bytes) else {
         return 1;
     };
-    given(server::arrive(server, datagram, slots, out), bytes)
+    record::given(server::arrive(server, datagram, slots, out), bytes)
 }
 
 // The timer of this kind that ran out, with its ticket: 3 is RESEND.
@@ -69,7 +59,7 @@ pub fn morphelai_server_timer(bytes: &mut [u8], kind: u8, ticket: u64, out: &mut
     if kind != 3 {
         return result::other_timer(server::is_sound(server), out.len());
     }
-    given(server::timer(server, ticket, out), bytes)
+    record::given(server::timer(server, ticket, out), bytes)
 }
 
 // Reply: a message of this length for the call that is running.
@@ -79,7 +69,7 @@ pub fn morphelai_server_reply(bytes: &mut [u8], length: u32) -> u64
     let Some(server) = record::lent::<Server>(bytes) else {
         return 1;
     };
-    given(server::reply(server, length), bytes)
+    record::given(server::reply(server, length), bytes)
 }
 
 // Fault: the call that is running fails with this status.
@@ -90,7 +80,7 @@ pub fn morphelai_server_fault(bytes: &mut [u8], status: u32, out: &mut [u8]) -> 
     let Some(server) = record::lent::<Server>(bytes) else {
         return 1;
     };
-    given(server::fault(server, status, out), bytes)
+    record::given(server::fault(server, status, out), bytes)
 }
 
 // How long the part of the slot buffer is that is fragment f of what was received.
