@@ -13,7 +13,7 @@ use Rattle.words.specs.Sizes.{pdu_size, message_size}
 use Rattle.words.proofs.Tests.{both_true}
 use Rattle.answers.specs.declared.Refusal.{Refusal}
 use Rattle.answers.specs.declared.Refusal.TheVariants.{WrongLength, BrokenRecord, NoRow}
-use Rattle.answers.specs.Answer.{Answer, Done, Refused, Ok}
+use Rattle.answers.specs.Answer.{Answer, Refused, Ok}
 use Rattle.answers.specs.Number.{refusal_number, number_of}
 use Rattle.answers.specs.Table.{Line, ◌when◌, first_of, answer_of, behind_answer, rises_from}
 use Rattle.answers.proofs.NumberLaws.{refusal_numbered}

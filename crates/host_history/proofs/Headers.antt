@@ -7,7 +7,7 @@ use native.Mathlib.Omega.{arith}
 use lib.ListN.{length}
 use Rattle.words.specs.Number.{turned, part}
 use Rattle.words.specs.Sizes.{header_size}
-use Rattle.answers.specs.Answer.{Answer, Done, Refused, Ok}
+use Rattle.answers.specs.Answer.{Answer, Refused, Ok}
 use Rattle.answers.specs.Table.{answer_of}
 use Rattle.pdu.specs.declared.Header.{Header}
 use Rattle.bodies.specs.Cancel.{cancel_number_in}

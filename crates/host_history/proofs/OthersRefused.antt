@@ -8,7 +8,7 @@ use lib.Dec.{eqb}
 use lib.ListN.{length}
 use borrow.Author.Tests.{eqb-true}
 use Rattle.words.specs.Sizes.{header_size}
-use Rattle.answers.specs.Answer.{Answer, Done, Refused, Ok}
+use Rattle.answers.specs.Answer.{Answer, Refused, Ok}
 use Rattle.answers.specs.Number.{number_of}
 use Rattle.answers.specs.Table.{answer_of}
 use Rattle.pdu.specs.declared.Header.{Header}

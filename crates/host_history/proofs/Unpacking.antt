@@ -8,7 +8,7 @@ use Rattle.words.specs.Choice.{choose}
 use Rattle.words.specs.Sizes.{pdu_size}
 use Rattle.words.proofs.Tests.{choose_false}
 use Rattle.answers.specs.declared.Refusal.TheVariants.{WrongLength, BrokenRecord, ShortDatagram, WrongVersion, UnknownType, UnknownRepresentation, Authenticated, WrongBodyLength, OtherActivity, WrongSide, MaybeOrBroadcast, WrongFragment, OldCall, MalformedBody, NoRow, Repeated, Contradiction, LateTimer, NumbersUsedUp, TicketsUsedUp}
-use Rattle.answers.specs.Answer.{Answer, Done, Refused, Ok}
+use Rattle.answers.specs.Answer.{Answer, Refused, Ok}
 use Rattle.answers.specs.Number.{number_of}
 use Rattle.answers.proofs.NumberLaws.{refusal_numbered}
 use Rattle.calls.specs.declared.Notice.{Notice}
