@@ -6,8 +6,8 @@ ghost use Rattle.incoming.specs.Slots.{within, slot_sound, sound_from, last_soun
 
 use words::{BODY_SIZE, LAST_NUMBER, WINDOW_SIZE};
 
-// A fragment's place: held or missing, and its length where it is held. It is no Option of a length: `is_sound` and every
-// event of both machines answer records whose missing slots have any length, and an Option has no room for one.
+// A fragment's place: held or missing, and its length where it is held. It is no Option of a length: `is_sound` and
+// every event of both machines answer records whose missing slots have any length, and an Option has no room for one.
 #[derive(Clone, Copy)]
 pub struct Slot {
     pub held: bool,
