@@ -31,7 +31,8 @@ pub enum Notice {
     // The status of a fault or reject that came.
     Fault(u32),
     Reject(u32),
-    // A failure found here: 1 no response, 2 no call at the server, 3 no answer to a cancel.
+    // A failure found here: 1 no response, 2 no call at the server, 3 no answer to a cancel. It stays a number as in C:
+    // `notice_at` of host_history, by which the theorem over hosts reads a result, gives a cause of any value.
     Cause(u8),
     // A whole request is to be executed.
     Dispatch,
@@ -98,7 +99,7 @@ pub fn no_call() -> Call
     }
 }
 
-// The header of a sent PDU.
+// The header of a sent PDU. Its kind stays a number, since `sent_header` and the writer's refusal are of any.
 pub fn header(
     kind: Kind,
     flags1: u8,

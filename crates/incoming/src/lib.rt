@@ -2,12 +2,12 @@
 #![tactic(auto, unfolding(crate::specs::Slots::slot_sound, crate::specs::Slots::sound, crate::specs::Slots::contiguous, crate::specs::Slots::complete, crate::specs::Slots::progress_of, crate::specs::Slots::cleared, crate::specs::Slots::slots_with, crate::specs::Slots::last_with, crate::specs::Slots::stored, words::specs::Choice::both, words::specs::Choice::either, words::specs::Choice::choose))]
 
 ghost use Rattle.std.specs.Prelude.{◌≡◌};
-ghost use Rattle.incoming.specs.Slots.{within, held_sound, sound_from, last_sound, sound, contiguous_from, contiguous, all_to, progress_of, cleared, stored};
+ghost use Rattle.incoming.specs.Slots.{within, slot_sound, sound_from, last_sound, sound, contiguous_from, contiguous, all_to, progress_of, cleared, stored};
 
 use words::{BODY_SIZE, LAST_NUMBER, WINDOW_SIZE};
 
-// A fragment's place: held or missing, and its length where it is held. It is no Option of a length: a missing slot has
-// any length in `slot_sound`, which says of every record what both machines answer to it, and an Option has fewer values.
+// A fragment's place: held or missing, and its length where it is held. It is no Option of a length: `is_sound` and
+// every event of both machines answer records whose missing slots have any length, and an Option has no room for one.
 #[derive(Clone, Copy)]
 pub struct Slot {
     pub held: bool,
@@ -40,11 +40,11 @@ fn is_within(last: Last, i: usize) -> bool
     last.is_none_or(|number| i <= usize::from(number))
 }
 
-// Whether what is held at number i keeps the rules.
-fn held_is_sound(last: Last, i: usize, length: u16) -> bool
-    ensures { result ≡ held_sound last i length }
+// Whether a slot keeps the rules as number i's; one that is not held does.
+fn slot_is_sound(last: Last, i: usize, slot: Slot) -> bool
+    ensures { result ≡ slot_sound last i slot.held slot.length }
 {
-    usize::from(length) <= BODY_SIZE && is_within(last, i)
+    !slot.held || (usize::from(slot.length) <= BODY_SIZE && is_within(last, i))
 }
 
 fn last_is_sound(last: Last) -> bool
@@ -53,11 +53,15 @@ fn last_is_sound(last: Last) -> bool
     last.is_none_or(|number| number <= LAST_NUMBER)
 }
 
-// Whether every slot keeps the rules; one that is not held does.
+// Whether every slot keeps the rules. Slots are copied, four bytes each: of references LLVM makes a slower loop.
 fn slots_are_sound(slots: &Slots, last: Last) -> bool
     ensures { result ≡ sound_from last 0 slots.now }
 {
-    slots.iter().enumerate().all(|(i, slot)| !slot.held || held_is_sound(last, i, slot.length))
+    slots
+        .iter()
+        .copied()
+        .enumerate()
+        .all(|(i, slot)| slot_is_sound(last, i, slot))
 }
 
 // Whether a message received keeps the record rules.

@@ -23,7 +23,7 @@ pub struct Outgoing {
 fn fragments(length: u32) -> u32
     ensures { result ≡ fragments length }
 {
-    length.max(1).div_ceil(BODY_SIZE as u32)
+    length.saturating_sub(1) / BODY_SIZE as u32 + 1
 }
 
 // The part of a message that is its fragment f; an empty part where there is none.
