@@ -5,9 +5,9 @@ use mathlib.Core.List.{List, ◌∷◌, ◌++◌}
 use mathlib.Core.Path.{◌≡◌, refl, sym, ap, ◌∙◌}
 use native.Mathlib.Omega.{arith}
 use lib.Dec.{eqb, ltb}
-use lib.ListN.{length, get_or, take, drop, replicate, length-replicate, length-take, length-drop, get_or-append}
+use lib.ListN.{length, get_or, take, drop, replicate, length-replicate, length-take, get_or-append}
 use lib.ListN.{get_or-eq_default}
-use lib.Seq.{get_or-append-add, get_or-drop, take_all}
+use lib.Seq.{get_or-append-add, get_or-drop}
 use borrow.Author.Tests.{ltb-true, ltb-false}
 use Rattle.words.specs.Choice.{both}
 use Rattle.words.specs.Number.{le, part, number}
@@ -40,10 +40,6 @@ clear_alike (suc n) b c at h =
     get_or-drop at c n 0 ∙ h (at + n) (omega arith) (omega arith) ∙ sym (get_or-drop at b n 0) in
     λ i.
     both (clear_alike n b c at (λ (k : ℕ) (low : at ≤ k) (high : k < at + n). h k low (omega arith)) i) (eqb (here i) 0)
-
--- A slice from n on, by its length, is all that stands there.
-pub rest_whole : (n : ℕ) (s : List ℕ) → take (length s - n) (drop n s) ≡ drop n s
-rest_whole n s = take_all (length s - n) (drop n s) (omega (arith, length-drop n s))
 
 -- Zeros behind bytes, up to n: past the end of bytes each place counts as 0 anyhow.
 module _ (n : ℕ) (s : List ℕ) (fits : length s ≤ n) where

@@ -128,7 +128,8 @@ fn slots_bytes(slots: [Slot; WINDOW_SIZE as usize]) -> [u8; 128]
 
 // Bytes 0 to 15.
 fn front(f: &Fields) -> [u8; 16]
-    ensures { result ≡ record_front f.now.state f.now.count f.now.extra f.now.call f.now.outgoing f.now.incoming.last }
+    ensures { result
+        ≡ record_front f.now.state f.now.count f.now.extra f.now.call f.now.outgoing f.now.incoming.last }
 {
     let mut bytes = [0; 16];
     bytes[..4].copy_from_slice(&[f.state, u8::from(f.call.idempotent), f.count, f.extra]);
