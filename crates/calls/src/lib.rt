@@ -2,13 +2,12 @@
 #![tactic(auto, unfolding(crate::specs::Outcome::refused, crate::specs::Outcome::done, crate::specs::Sent::blank_call, crate::specs::Sent::sent_header, crate::specs::Sent::posting, crate::specs::Sent::sent_bytes, words::specs::Choice::choose))]
 
 ghost use Rattle.std.specs.Prelude.{◌≡◌};
-ghost use Rattle.pdu.specs.Kind.{kind_number};
 ghost use Rattle.calls.specs.Outcome.{refused, done};
 ghost use Rattle.calls.specs.Sent.{blank_call, sent_header, posting, Posted, sent_bytes};
 
 use answers::{Answer, Refusal};
 use fragments::Stored;
-use pdu::{Header, Kind};
+use pdu::Header;
 
 // The data of an operation, and whether the call is marked idempotent. UUIDs are in the little-endian form.
 #[derive(Clone, Copy)]
@@ -101,7 +100,7 @@ pub fn no_call() -> Call
 
 // The header of a sent PDU. Its kind stays a number, since `sent_header` and the writer's refusal are of any.
 pub fn header(
-    kind: Kind,
+    kind: u8,
     flags1: u8,
     serial: u16,
     activity: [u8; 16],
@@ -110,7 +109,7 @@ pub fn header(
     call: Call,
     fragment: u16,
 ) -> Header
-    ensures { result ≡ sent_header (kind_number kind) flags1 serial activity boot number call fragment }
+    ensures { result ≡ sent_header kind flags1 serial activity boot number call fragment }
 {
     let Call {
         object,
@@ -120,7 +119,7 @@ pub fn header(
         ..
     } = call;
     Header {
-        kind: u8::from(kind),
+        kind,
         flags1,
         flags2: 0,
         serial,

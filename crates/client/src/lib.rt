@@ -26,6 +26,7 @@ pub type Outcome = calls::Outcome<Client>;
 fn header(kind: Kind, flags1: u8, fragment: u16, c: Client) -> Header
     ensures { result ≡ pdu_header (kind_number kind) flags1 fragment c }
 {
+    let kind = u8::from(kind);
     let marked = flags::with(flags1, flags::IDEMPOTENT, c.call.idempotent);
     let serial = c.outgoing.serial;
     calls::header(

@@ -7,17 +7,17 @@ use answers::Refusal;
 // The type of a PDU, in the order of their numbers.
 #[derive(Clone, Copy, PartialEq, Eq, Debug)]
 pub enum Kind {
-    Request,
-    Ping,
-    Response,
-    Fault,
-    Working,
-    Nocall,
-    Reject,
-    Ack,
-    Cancel,
-    Fack,
-    CancelAck,
+    Request = 0,
+    Ping = 1,
+    Response = 2,
+    Fault = 3,
+    Working = 4,
+    Nocall = 5,
+    Reject = 6,
+    Ack = 7,
+    Cancel = 8,
+    Fack = 9,
+    CancelAck = 10,
 }
 
 impl From<Kind> for u8 {
@@ -25,19 +25,7 @@ impl From<Kind> for u8 {
 
     // Its number, as it stands in a header.
     fn from(kind: Kind) -> u8 {
-        match kind {
-            Kind::Request => 0,
-            Kind::Ping => 1,
-            Kind::Response => 2,
-            Kind::Fault => 3,
-            Kind::Working => 4,
-            Kind::Nocall => 5,
-            Kind::Reject => 6,
-            Kind::Ack => 7,
-            Kind::Cancel => 8,
-            Kind::Fack => 9,
-            Kind::CancelAck => 10,
-        }
+        kind as u8
     }
 }
 

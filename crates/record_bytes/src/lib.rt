@@ -84,12 +84,11 @@ pub fn timer_ticket(timer: Timer) -> u64
 }
 
 // The UUID that stands in s at `at`.
+#[tactic(auto, using(crate::proofs::NumberBytes::read_uuid))]
 pub fn uuid(s: &[u8], at: usize) -> [u8; 16]
     ensures { result ≡ uuid_in s.now at }
 {
-    let mut bytes = [0; 16];
-    words::put(&mut bytes, 0, words::first(words::behind(s, at), 16));
-    bytes
+    words::part(s, at)
 }
 
 // A count, where bytes are readable; else one that no record may have, so that its rules are broken.

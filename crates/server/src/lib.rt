@@ -26,6 +26,7 @@ pub type Outcome = calls::Outcome<Server>;
 fn reply_header(kind: Kind, flags1: u8, fragment: u16, s: Server) -> Header
     ensures { result ≡ reply_header (kind_number kind) flags1 fragment s }
 {
+    let kind = u8::from(kind);
     let serial = s.outgoing.serial;
     calls::header(
         kind, flags1, serial, s.activity, s.boot, s.number, s.call, fragment,
@@ -54,6 +55,7 @@ fn echoed(h: Header) -> Call
 fn echo_header(kind: Kind, fragment: u16, s: Server, h: Header) -> Header
     ensures { result ≡ echo_header (kind_number kind) fragment s h }
 {
+    let kind = u8::from(kind);
     let serial = s.outgoing.serial;
     calls::header(
         kind,
