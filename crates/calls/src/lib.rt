@@ -22,6 +22,7 @@ pub struct Call {
 // What the stub is told.
 #[derive(Clone, Copy, PartialEq, Eq, Debug)]
 pub enum Notice {
+    // Kind 0 of the C interface (notice_kind), and no Option therefore.
     Nothing,
     // All fragments to the last are held.
     Last,
@@ -53,6 +54,7 @@ pub struct Plan<M, S> {
 }
 
 // What an event gives back: its answer, the record of the machine, what was sent and what the stub is told.
+// No Result: a refusal gives the record back too (refused), and theorems read each part of it.
 #[derive(Clone, Copy)]
 pub struct Outcome<M> {
     pub answer: Answer,
@@ -99,6 +101,7 @@ pub fn no_call() -> Call
 }
 
 // The header of a sent PDU. Its kind stays a number, since `sent_header` and the writer's refusal are of any.
+// Eight parameters, as sent_header has, by which contracts and runs name a PDU.
 pub fn header(
     kind: u8,
     flags1: u8,

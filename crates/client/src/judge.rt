@@ -37,7 +37,7 @@ pub enum Row {
     Working,
     // Nocall below its limit: the count with this resend.
     Resend(u8),
-    // WAIT or nocall at its limit, or CANCEL: the local cause.
+    // WAIT or nocall at its limit, or CANCEL: the local cause, a number as in Notice::Cause.
     GiveUp(u8),
     // How many fragments it acknowledges.
     Fack(u16),
@@ -258,6 +258,7 @@ fn working(c: Client, read: Received, body: &[u8]) -> Verdict
 }
 
 // The row of a nocall: the request goes out again, or at the limit local cause 2.
+// As wait_row: one for both would take the row and the cause as arguments.
 fn nocall_row(resends: u8) -> Row
     ensures { result ≡ nocall_row resends }
 {
@@ -340,7 +341,7 @@ fn of_call(c: Client, read: Received, body: &[u8]) -> Verdict
 }
 
 // 10 to 20, of a header and a body that were read, by the type: the client takes 2 to 6, 9 and 10.
-// The type stays a number here, matched by ranges: document 01 names that form.
+// The type stays a number, matched by ranges: document 01's form (docs/DECISIONS.md, Forms).
 fn pdu(c: Client, read: Received, body: &[u8]) -> Verdict
     ensures { result ≡ pdu_verdict c read.header read.little body.now }
 {
@@ -353,6 +354,7 @@ fn pdu(c: Client, read: Received, body: &[u8]) -> Verdict
 }
 
 // 9 to 20, of a datagram that was read: one of another activity is 9.
+// The server has its like: one for both would need a trait over records, longer than the two.
 #[tactic(auto, using(crate::proofs::ActivityLaws::activity_lines, words::proofs::SameLaws::same_is), unfolding(words::specs::Choice::choose))]
 fn own_activity(c: Client, read: Received, body: &[u8]) -> Verdict
     ensures { result ≡ activity_verdict c read.header read.little body.now }

@@ -69,6 +69,7 @@ fn send_cancel(number: u32, c: Client, out: &mut [u8]) -> Sent
 }
 
 // Sends what a plan says, from the record after the step.
+// What is to be sent is data, by which plans and sent_out go.
 fn send_out(send: Send, c: Client, lent: &[u8], out: &mut [u8]) -> Sent
     ensures { Posted (sent_out send c lent.now out.old) result out.new }
 {
@@ -106,6 +107,7 @@ fn send(plan: Plan, lent: &[u8], out: &mut [u8]) -> Outcome
 }
 
 // An event with a PDU buffer, judged.
+// The server's like, and those that send, have the header answered: a trait over both would be longer.
 fn act(verdict: Verdict, c: Client, lent: &[u8], out: &mut [u8]) -> Outcome
     ensures { Stepped (step_by verdict c lent.now out.old) result out.new }
 {
@@ -116,6 +118,7 @@ fn act(verdict: Verdict, c: Client, lent: &[u8], out: &mut [u8]) -> Outcome
 }
 
 // Transmit: the next fragment of the lent message.
+// The server has its like: one for both would need a trait over records, longer than the two.
 pub fn transmit(c: Client, message: &[u8], out: &mut [u8]) -> Outcome
     ensures { Stepped (transmitting c message.now out.old) result out.new }
 {
@@ -151,6 +154,7 @@ fn store_and_send(plan: Plan, body: &[u8], slots: &mut [u8], out: &mut [u8]) -> 
 }
 
 // An arriving PDU.
+// What a host lends comes as C lends it: three slices.
 pub fn arrive(c: Client, datagram: &[u8], slots: &mut [u8], out: &mut [u8]) -> Outcome
     ensures { Arrived (arriving c datagram.now slots.old out.old) result slots.new out.new }
 {
@@ -162,6 +166,7 @@ pub fn arrive(c: Client, datagram: &[u8], slots: &mut [u8], out: &mut [u8]) -> O
 
 // The part of the slot buffer that is fragment f of what was received; empty where f is not
 // contiguous, the record breaks its rules or the buffer has another length.
+// The server has its like: one for both would need a trait over records, longer than the two.
 pub fn hand_up(c: Client, f: u16, slots: &[u8]) -> &[u8]
     ensures { result.now ≡ handed_up_of c f slots.now }
 {

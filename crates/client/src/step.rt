@@ -1,5 +1,5 @@
 // What a row of the client's table makes of its record: the plan of the step, before anything is written.
-#![tactic(auto, unfolding(crate::specs::step::Plan::going, crate::specs::step::Plan::failed, crate::specs::step::Steps::started, crate::specs::step::Steps::transmitted, crate::specs::step::Steps::pinged, crate::specs::step::Steps::cancelled, crate::specs::step::Steps::put_record, crate::specs::step::Steps::put_notice, crate::specs::step::Steps::fack_for, crate::specs::step::Steps::response_plan, crate::specs::step::Steps::working_plan, crate::specs::step::Steps::resent, crate::specs::step::Steps::acknowledged, crate::specs::step::Steps::step_of, crate::specs::records::Record::waiting, crate::specs::records::Record::sending_again, crate::specs::records::Record::ack_pending, crate::specs::records::Record::unarmed, crate::specs::records::Record::cancel_armed, crate::specs::records::Record::cancel_disarmed, crate::specs::records::Record::fresh, crate::specs::records::Record::with_outgoing, crate::specs::records::Record::with_incoming, crate::specs::records::Record::with_waits, crate::specs::records::Record::with_resends, crate::specs::records::Record::with_cancels, words::specs::Choice::choose,))]
+#![tactic(auto, unfolding(crate::specs::step::Plan::going, crate::specs::step::Plan::failed, crate::specs::step::Steps::started, crate::specs::step::Steps::transmitted, crate::specs::step::Steps::pinged, crate::specs::step::Steps::cancelled, crate::specs::step::Steps::put_record, crate::specs::step::Steps::put_notice, crate::specs::step::Steps::fack_for, crate::specs::step::Steps::response_plan, crate::specs::step::Steps::working_plan, crate::specs::step::Steps::resent, crate::specs::step::Steps::acknowledged, crate::specs::step::Steps::step_of, crate::specs::records::Record::waiting, crate::specs::records::Record::sending_again, crate::specs::records::Record::ack_pending, crate::specs::records::Record::unarmed, crate::specs::records::Record::cancel_armed, crate::specs::records::Record::cancel_disarmed, crate::specs::records::Record::fresh, crate::specs::records::Record::with_outgoing, crate::specs::records::Record::with_incoming, crate::specs::records::Record::with_waits, crate::specs::records::Record::with_resends, crate::specs::records::Record::with_cancels, words::specs::Choice::choose))]
 
 ghost use Rattle.std.specs.Prelude.{◌≡◌};
 ghost use Rattle.client.specs.step.Plan.{going as going_plan, failed as failed_plan};
@@ -14,6 +14,7 @@ use incoming::Incoming;
 
 // What is to be sent: nothing, the request's fragment of that number, a ping, an ack, a fack for the
 // serial answered with the contiguous count, or a cancel of that number.
+// Nothing is a case of its own: behind an Option each row would put its PDU into Some.
 #[derive(Clone, Copy)]
 pub enum Send {
     Nothing,
@@ -131,6 +132,7 @@ fn put_notice(complete: bool, count: u16) -> Notice
 }
 
 // The fack for what was put, where one is wanted.
+// The server has its like: one for both would need a trait over records, longer than the two.
 fn fack_for(wanted: bool, serial: u16, count: u16) -> Send
     ensures { result ≡ fack_for wanted serial count }
 {
@@ -167,6 +169,7 @@ fn resent(c: Client, resends: u8) -> Client
 }
 
 // The record after a fack of that many fragments.
+// The server has its like: one for both would need a trait over records, longer than the two.
 fn acknowledged(c: Client, count: u16) -> Client
     ensures { result ≡ acknowledged_record c count }
 {
@@ -189,6 +192,7 @@ fn working(c: Client) -> Plan
 }
 
 // The plan of a row.
+// A row is data and no function: step_of and the theorems go by it.
 pub fn step(row: Row, c: Client) -> Plan
     ensures { result ≡ step_of row c }
 {

@@ -100,6 +100,7 @@ fn fields_of(c: Client) -> Fields
 }
 
 // Lays the 272 bytes of a record down; where they do not fit, the buffer stays as it was.
+// The other side has its like: which of the common fields a record has is each side's own (fields_of).
 pub fn encode(c: Client, out: &mut [u8])
     ensures { out.new ≡ placed 0 (bytes_of_client c) out.old }
 {

@@ -54,6 +54,7 @@ impl Memory {
 }
 
 // What an event gave back beside the record.
+// As the library's Outcome has it: the line of a refused event has these columns too.
 #[derive(Clone, Copy)]
 pub(crate) struct Given {
     pub answer: Answer,

@@ -50,6 +50,7 @@ pub fn body_length(length: usize) -> u16
 
 // A fragment that is put: its number, length and serial, whether it is the last, whether a fack is wanted for it; then
 // what is held with it: the contiguous count, and whether all to the last are.
+// The serial is told whether or not a fack is wanted (put_of): so facked and serial are no Option.
 #[derive(Clone, Copy)]
 pub struct Fragment {
     pub number: u16,

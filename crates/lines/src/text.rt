@@ -1,5 +1,6 @@
 // Text put behind what a buffer has in use. Each function answers how much is in use then; what
 // does not fit is left out.
+// A buffer and how much of it is used: this crate has no heap, and put_text's contract says both.
 ghost use Rattle.std.specs.Prelude.{◌≡◌};
 ghost use Rattle.lines.specs.Line.{line, put_byte, written};
 ghost use Rattle.lines.specs.Text.{decimal as decimal_text};

@@ -1,4 +1,5 @@
 // The client's exported functions.
+// One function for each name that C calls, with C's parameters; what both sides do alike is in record.
 #![tactic(auto, unfolding(crate::specs::Result::result_of, crate::specs::Export::sized, crate::specs::Export::refusing, crate::specs::Export::other_kind, crate::specs::ClientDoor::client_result, crate::specs::ClientDoor::client_kept, crate::specs::ClientDoor::client_fresh, crate::specs::ClientDoor::call_of, crate::specs::ClientDoor::start_sized, crate::specs::ClientDoor::client_start, crate::specs::ClientDoor::client_transmit, crate::specs::ClientDoor::client_arrive, crate::specs::ClientDoor::timer_kind, crate::specs::ClientDoor::client_timing, crate::specs::ClientDoor::client_timer, crate::specs::ClientDoor::client_cancel, crate::specs::ClientDoor::client_part, words::specs::Choice::choose, words::specs::Choice::both))]
 
 ghost use Rattle.std.specs.Prelude.{◌≡◌, []};

@@ -1,4 +1,5 @@
 // The server's exported functions.
+// One function for each name that C calls, with C's parameters; what both sides do alike is in record.
 #![tactic(auto, unfolding(crate::specs::Result::result_of, crate::specs::Export::sized, crate::specs::Export::refusing, crate::specs::Export::other_kind, crate::specs::ServerDoor::server_result, crate::specs::ServerDoor::server_kept, crate::specs::ServerDoor::server_fresh, crate::specs::ServerDoor::server_arrive, crate::specs::ServerDoor::server_transmit, crate::specs::ServerDoor::server_timing, crate::specs::ServerDoor::server_timer, crate::specs::ServerDoor::server_reply, crate::specs::ServerDoor::server_fault, crate::specs::ServerDoor::server_part, words::specs::Choice::choose, words::specs::Choice::both))]
 
 ghost use Rattle.std.specs.Prelude.{◌≡◌, []};

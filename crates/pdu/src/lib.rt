@@ -14,6 +14,7 @@ use words::{HEADER_SIZE, ReadAt};
 // little-endian form.
 #[derive(Clone, Copy)]
 pub struct Header {
+    // Any number and no Kind: the writer refuses 5 by it, and C lends such headers (morphelai_write).
     pub kind: u8,
     pub flags1: u8,
     pub flags2: u8,

@@ -11,6 +11,7 @@ use pdu::{Header, Kind};
 use words::{BODY_SIZE, HEADER_SIZE, ReadAt};
 
 // A datagram that was read: whether the sender's order is little-endian, and the header.
+// The body is no field: reader::body gives it of every datagram, read or refused (body_of).
 #[derive(Clone, Copy)]
 pub struct Received {
     pub little: bool,

@@ -131,7 +131,7 @@ fn outgoing(s: &[u8; SIZE]) -> Outgoing
     }
 }
 
-// The known last of its number, 65535 where none is known.
+// The known last of its number; 65535 for none is the layout's (last_field).
 fn last(number: u16) -> Last
     ensures { result ≡ last_of number }
 {

@@ -177,6 +177,7 @@ fn back(f: &Fields) -> [u8; 40]
 }
 
 // Lays the 272 bytes of a record down; where they do not fit, the buffer stays as it was.
+// An array goes in by a variable: else there is no proof.
 pub fn encode(f: Fields, out: &mut [u8])
     ensures { out.new ≡ placed 0 (field_bytes f) out.old }
 {

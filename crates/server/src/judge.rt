@@ -69,7 +69,7 @@ pub type Verdict = Result<Row, Refusal>;
 pub fn reply(s: Server, length: u32) -> Verdict
     ensures { result ≡ reply_verdict s length }
 {
-    if MESSAGE_SIZE < length {
+    if length > MESSAGE_SIZE {
         return Err(Refusal::WrongLength);
     }
     if !records::is_sound(s) {
@@ -193,6 +193,7 @@ fn is_maybe_or_broadcast(flags1: u8) -> bool
 }
 
 // Whether a request is of the call: the idempotent bit, object, interface, version and operation.
+// Part by part: the other side is a header and no Call.
 #[tactic(auto, using(words::proofs::SameLaws::same_is), unfolding(crate::specs::judge::Refusals::agree, crate::specs::judge::Refusals::same_call, words::specs::Choice::choose, words::specs::Choice::both))]
 fn is_same_call(call: Call, h: Header) -> bool
     ensures { result ≡ same_call call h }
@@ -413,7 +414,7 @@ fn request_or_ping(s: Server, h: Header, body: &[u8]) -> Verdict
 }
 
 // 10 to 17, of a header and a body that were read, by the type: the server takes 0, 1, 7, 8 and 9.
-// The type stays a number here, matched by ranges: document 01 names that form.
+// The type stays a number, matched by ranges: document 01's form (docs/DECISIONS.md, Forms).
 fn pdu(s: Server, read: Received, body: &[u8]) -> Verdict
     ensures { result ≡ pdu_verdict s read.header read.little body.now }
 {

@@ -116,6 +116,7 @@ fn send_cancel_ack(number: u32, accepts: bool, s: Server, h: Header, out: &mut [
 }
 
 // Sends what a plan says, from the record after the step; h is the header of the PDU answered.
+// What is to be sent is data, by which plans and sent_out go.
 fn send_out(send: Send, s: Server, h: Header, lent: &[u8], out: &mut [u8]) -> Sent
     ensures { Posted (sent_out send s h lent.now out.old) result out.new }
 {
@@ -197,6 +198,7 @@ fn store_and_send(plan: Plan, h: Header, body: &[u8], slots: &mut [u8], out: &mu
 }
 
 // An arriving PDU. It is read only where what is lent is right and the record keeps its rules.
+// What a host lends comes as C lends it: three slices.
 pub fn arrive(s: Server, datagram: &[u8], slots: &mut [u8], out: &mut [u8]) -> Outcome
     ensures { Arrived (arriving s datagram.now slots.old out.old) result slots.new out.new }
 {

@@ -26,6 +26,7 @@ pub enum Idle {
 }
 
 // What the stub answered with: data, or a fault with its status.
+// No Option of a status: data and fault are document 01's two replies (docs/DECISIONS.md, Forms).
 #[derive(Clone, Copy, PartialEq, Eq, Debug)]
 pub enum Reply {
     Data,

@@ -16,6 +16,7 @@ use pdu::Header;
 // What is to be sent: nothing, the response's fragment of that number, a fault with its status, working, nocall, a
 // fack for the serial answered with the contiguous count, or a cancel_ack for the cancel of that number and whether
 // cancels are accepted.
+// Nothing is a case of its own: behind an Option each row would put its PDU into Some.
 #[derive(Clone, Copy)]
 pub enum Send {
     Nothing,
@@ -208,6 +209,7 @@ fn heard(s: Server, number: u32) -> Plan
 }
 
 // The plan of a row; h is the header of the PDU that arrived, which a begin alone looks at.
+// A row is data and no function: step_of and the theorems go by it.
 pub fn step(row: Row, s: Server, h: Header) -> Plan
     ensures { result ≡ step_of row s h }
 {
