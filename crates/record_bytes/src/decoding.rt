@@ -12,7 +12,7 @@ ghost use Rattle.record_bytes.specs.Layout.{record_size, last_readable, marks_re
 
 use crate::{Decoded, Fields, SIZE};
 use calls::Call;
-use incoming::{Incoming, Last, Slot};
+use incoming::{Incoming, Last, Slot, Slots};
 use outgoing::Outgoing;
 use std::array;
 use timers::Timer;
@@ -40,7 +40,7 @@ fn slot(s: &[u8; SIZE], f: usize) -> Slot
 }
 
 // All slots.
-fn slots(s: &[u8; SIZE]) -> [Slot; WINDOW_SIZE as usize]
+fn slots(s: &[u8; SIZE]) -> Slots
     ensures { result ≡ slots_in (drop 144 s.now) }
 {
     array::from_fn(|f| slot(s, f))

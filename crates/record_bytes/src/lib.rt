@@ -12,7 +12,7 @@ ghost use Rattle.record_bytes.specs.Layout.{record_front, record_numbers, mark_b
 
 use calls::Call;
 pub use decoding::decode;
-use incoming::{Incoming, Slot};
+use incoming::{Incoming, Slot, Slots};
 use outgoing::Outgoing;
 use timers::Timer;
 use words::WINDOW_SIZE;
@@ -114,7 +114,7 @@ fn slot_bytes(held: bool, length: u16) -> [u8; 4]
 }
 
 // The 128 bytes of the slots. They come by value: behind a reference this takes twice the instructions.
-fn slots_bytes(slots: [Slot; WINDOW_SIZE as usize]) -> [u8; 128]
+fn slots_bytes(slots: Slots) -> [u8; 128]
     ensures { result ≡ slots_bytes slots }
 {
     let mut bytes = [0; 128];

@@ -8,7 +8,7 @@ ghost use Rattle.answers.specs.Table.{answer_of};
 ghost use Rattle.writer.specs.Writing.{write_refusals, writing, Wrote};
 
 use answers::{Answer, Refusal};
-use pdu::Header;
+use pdu::{Header, Kind};
 use words::{BODY_SIZE, HEADER_SIZE, PDU_SIZE};
 
 // The first of refusals 1, 5, 7 and 8 that is met.
@@ -18,9 +18,7 @@ fn judge(lent: usize, kind: u8, authentication: u8, body: usize) -> Answer
     if lent != PDU_SIZE {
         return Err(Refusal::WrongLength);
     }
-    if kind > 10 {
-        return Err(Refusal::UnknownType);
-    }
+    Kind::try_from(kind)?;
     if authentication != 0 {
         return Err(Refusal::Authenticated);
     }
