@@ -128,7 +128,8 @@ fn timers_are_sound(c: Client) -> bool
         && timers::is_sound_where(is_active(c.state), c.cancel, c.tickets)
 }
 
-// Whether the record keeps its rules.
+// Whether the record keeps its rules. It is inlined: else each event would copy its record to ask this.
+#[inline]
 pub fn is_sound(c: Client) -> bool
     ensures { result ≡ sound c }
 {
