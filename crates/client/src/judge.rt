@@ -58,6 +58,7 @@ const LAST_CALL_NUMBER: u32 = u32::MAX;
 const LAST_CANCEL_NUMBER: u32 = u32::MAX;
 
 // Whether a row arms a timer.
+// A row is data and no function: step_of and the theorems go by it.
 fn arms(c: Client, row: Row) -> bool
     ensures { result ≡ arms_row c row }
 {
@@ -198,6 +199,7 @@ fn is_old(c: Client, number: u32) -> bool
 }
 
 // A response: 12, 13, 15, 16, 17, 20.
+// By the type's number, as in pdu below: document 01's form.
 fn response(c: Client, read: Received, body: &[u8]) -> Verdict
     requires { read.header.kind ≡ 2 }
     ensures { result ≡ pdu_verdict c read.header read.little body.now }
@@ -225,6 +227,7 @@ fn response(c: Client, read: Received, body: &[u8]) -> Verdict
 }
 
 // A fault, or a reject: 13, 14, 15.
+// By the type's number, as in pdu below: document 01's form.
 fn failure(c: Client, read: Received, body: &[u8]) -> Verdict
     requires { (read.header.kind ≡ 3) ⊎ (read.header.kind ≡ 6) }
     ensures { result ≡ pdu_verdict c read.header read.little body.now }
@@ -244,6 +247,7 @@ fn failure(c: Client, read: Received, body: &[u8]) -> Verdict
 }
 
 // Working: 13, 15, 20.
+// By the type's number, as in pdu below: document 01's form.
 fn working(c: Client, read: Received, body: &[u8]) -> Verdict
     requires { read.header.kind ≡ 4 }
     ensures { result ≡ pdu_verdict c read.header read.little body.now }
@@ -270,6 +274,7 @@ fn nocall_row(resends: u8) -> Row
 }
 
 // Nocall: 13, 15.
+// By the type's number, as in pdu below: document 01's form.
 fn nocall(c: Client, read: Received, body: &[u8]) -> Verdict
     requires { read.header.kind ≡ 5 }
     ensures { result ≡ pdu_verdict c read.header read.little body.now }
@@ -284,6 +289,7 @@ fn nocall(c: Client, read: Received, body: &[u8]) -> Verdict
 }
 
 // A fack: 13, 14, 15, 17.
+// By the type's number, as in pdu below: document 01's form.
 fn fack(c: Client, read: Received, body: &[u8]) -> Verdict
     requires { read.header.kind ≡ 9 }
     ensures { result ≡ pdu_verdict c read.header read.little body.now }
@@ -313,6 +319,7 @@ fn is_current(cancel: Timer, mine: u32, theirs: u32) -> bool
 }
 
 // A cancel_ack: 13, 14, 15.
+// By the type's number, as in pdu below: document 01's form.
 fn cancel_ack(c: Client, read: Received, body: &[u8]) -> Verdict
     requires { read.header.kind ≡ 10 }
     ensures { result ≡ pdu_verdict c read.header read.little body.now }
@@ -328,6 +335,7 @@ fn cancel_ack(c: Client, read: Received, body: &[u8]) -> Verdict
 }
 
 // 12 to 20, of what the server answers a call with: types 2 to 6.
+// By the type's number, as in pdu below: document 01's form.
 fn of_call(c: Client, read: Received, body: &[u8]) -> Verdict
     requires { (2 ≤ read.header.kind) × (read.header.kind ≤ 6) }
     ensures { result ≡ pdu_verdict c read.header read.little body.now }

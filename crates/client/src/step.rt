@@ -132,7 +132,7 @@ fn put_notice(complete: bool, count: u16) -> Notice
 }
 
 // The fack for what was put, where one is wanted.
-// The server has its like: one for both would need a trait over records, longer than the two.
+// The server has its like: each names its own Send, and a trait over the two would be longer.
 fn fack_for(wanted: bool, serial: u16, count: u16) -> Send
     ensures { result ≡ fack_for wanted serial count }
 {

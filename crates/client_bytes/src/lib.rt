@@ -9,6 +9,7 @@ use client::{Client, State};
 use record_bytes::{Decoded, Fields};
 
 // The state that a number stands for; one above 6 stands for none, and counts as FAULT.
+// By the layout's numbers (readable_by); no From, since State is another crate's.
 fn state_of(number: u8) -> State
     ensures { result ≡ state_of number }
 {
@@ -24,6 +25,7 @@ fn state_of(number: u8) -> State
 }
 
 // The number of a state: the layout's, whatever the order of the variants is.
+// By the layout's numbers; no From, since State is another crate's.
 fn state_number(state: State) -> u8
     ensures { result ≡ state_number state }
 {

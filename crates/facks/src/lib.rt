@@ -7,6 +7,7 @@ ghost use Rattle.facks.specs.Mask.{last_contiguous, acknowledged_by, held_bit, h
 use incoming::{Incoming, Slots};
 
 // The number of a fack for a contiguous count: the count less 1, or 65535 for none.
+// 65535 and no Option: a fack's header has it so (last_contiguous).
 pub fn number(count: u16) -> u16
     ensures { result ≡ last_contiguous count }
 {
@@ -14,6 +15,7 @@ pub fn number(count: u16) -> u16
 }
 
 // How many fragments a fack acknowledges by its number; 65535 counts as none.
+// 65535 and no Option: a fack's header has it so (last_contiguous).
 pub fn acknowledged_by(g: u16) -> u16
     ensures { result ≡ acknowledged_by g }
 {

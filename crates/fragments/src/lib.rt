@@ -80,6 +80,7 @@ fn held_from(slots: &Slots, from: usize) -> bool
 }
 
 // Whether fragment f is above the known last.
+// As incoming's reaches, one line each: each is a definition of its own (above_last, all_to).
 fn above_last(last: Last, f: u16) -> bool
     ensures { result ≡ above_last last f }
 {

@@ -10,6 +10,7 @@ use calls::{Notice, Sent};
 use words::PDU_SIZE;
 
 // The kind of a notice.
+// Numbers as C has them (include/morphelai.h).
 fn notice_kind(notice: Notice) -> u8
     ensures { result ≡ notice_kind notice }
 {
@@ -66,6 +67,7 @@ pub fn result(answer: Answer, notice: Notice, sent: Sent) -> u64
 }
 
 // What a timer answers whose kind the side does not have: 1 and 2 first, then 15.
+// Numbers as C has them: other_timer of specs.
 pub fn other_timer(sound: bool, size: usize) -> u64
     ensures { result ≡ other_timer sound size }
 {

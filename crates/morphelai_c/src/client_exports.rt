@@ -1,4 +1,5 @@
 // The client's functions. Each calls the function of its name in morphelai, and says what that says.
+// Names and parameters are C's (include/morphelai.h).
 ghost use Rattle.std.specs.Prelude.{◌≡◌, []};
 ghost use Rattle.morphelai.specs.Export.{Exported};
 ghost use Rattle.morphelai.specs.ClientDoor.{client_fresh, client_start, client_transmit, client_arrive, client_timer, client_cancel, client_part};

@@ -1,4 +1,5 @@
 // The reader and writer. Each calls the function of its name in morphelai, and says what that says.
+// Names and parameters are C's (include/morphelai.h).
 ghost use Rattle.std.specs.Prelude.{◌≡◌};
 ghost use Rattle.record_bytes.specs.Layout.{record_size};
 ghost use Rattle.morphelai.specs.CodecDoor.{Coded, codec_read, codec_write};

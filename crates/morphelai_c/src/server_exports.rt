@@ -1,4 +1,5 @@
 // The server's functions. Each calls the function of its name in morphelai, and says what that says.
+// Names and parameters are C's (include/morphelai.h).
 ghost use Rattle.std.specs.Prelude.{◌≡◌, []};
 ghost use Rattle.morphelai.specs.Export.{Exported};
 ghost use Rattle.morphelai.specs.ServerDoor.{server_fresh, server_arrive, server_transmit, server_timer, server_reply, server_fault, server_part};

@@ -26,6 +26,7 @@ fn order_is(d: &[u8], mark: u8) -> bool
 }
 
 // The first of refusals 3 to 8 that a datagram meets, its byte order told.
+// Two flags and no enum of three: reader_refusals has the two.
 fn judge(d: &[u8], little: bool, big: bool) -> Answer
     ensures { result ≡ answer_of (reader_refusals d.now little big) }
 {

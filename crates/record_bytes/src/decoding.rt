@@ -19,6 +19,7 @@ use timers::Timer;
 use words::WINDOW_SIZE;
 
 // The N bytes that stand in a record at `at`.
+// Beside words::part, which would ask for the length at each read: slower.
 fn part<const N: usize>(s: &[u8; SIZE], at: usize) -> [u8; N]
     requires { at + N ≤ record_size }
     ensures { result ≡ part N s.now at }
@@ -66,6 +67,7 @@ fn are_slots_readable(s: &[u8; SIZE]) -> bool
 }
 
 // Whether the known last is unknown, or fits a byte.
+// 65535 for none is the layout's (last_field).
 fn is_last_readable(number: u16) -> bool
     ensures { result ≡ last_readable number }
 {

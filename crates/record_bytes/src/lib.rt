@@ -126,6 +126,7 @@ fn slots_bytes(slots: Slots) -> [u8; 128]
 }
 
 // Bytes 0 to 15.
+// 65535 for no known last is the layout's (last_field).
 fn front(f: &Fields) -> [u8; 16]
     ensures { result
         ≡ record_front f.now.state f.now.count f.now.extra f.now.call f.now.outgoing f.now.incoming.last }

@@ -404,6 +404,7 @@ fn fack(s: Server, read: Received, body: &[u8]) -> Verdict
 }
 
 // 11 to 17, of what the client calls with: types 0 and 1.
+// By the type's number, as in pdu below: document 01's form.
 fn request_or_ping(s: Server, h: Header, body: &[u8]) -> Verdict
     ensures { result ≡ choose (eqb h.kind 0) (request_verdict s h body.now) (ping_verdict s h) }
 {

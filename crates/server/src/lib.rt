@@ -1,6 +1,6 @@
 // The server call machine: a controller's side of an activity. Each event takes the record by value
 // and the lent memory, judges, steps and only then acts.
-#![tactic(auto, unfolding(crate::specs::Sending::reply_header, crate::specs::Sending::echoed, crate::specs::Sending::echo_header, crate::specs::Sending::response_sent, crate::specs::Sending::fault_sent, crate::specs::Sending::empty_sent, crate::specs::Sending::fack_sent, crate::specs::Sending::cancel_ack_sent, crate::specs::Sending::sent_out, crate::specs::Machine::reply_by, crate::specs::Machine::replying, crate::specs::Machine::sending, crate::specs::Machine::step_by, crate::specs::Machine::transmitting, crate::specs::Machine::timing, crate::specs::Machine::faulting, crate::specs::Machine::acted, crate::specs::Machine::arrival_by, crate::specs::Machine::arriving, crate::specs::Machine::handed_up_of, calls::specs::Outcome::refused, calls::specs::Outcome::done))]
+#![tactic(auto, unfolding(crate::specs::Sending::reply_header, crate::specs::Sending::echoed, crate::specs::step::Steps::call_of, crate::specs::Sending::echo_header, crate::specs::Sending::response_sent, crate::specs::Sending::fault_sent, crate::specs::Sending::empty_sent, crate::specs::Sending::fack_sent, crate::specs::Sending::cancel_ack_sent, crate::specs::Sending::sent_out, crate::specs::Machine::reply_by, crate::specs::Machine::replying, crate::specs::Machine::sending, crate::specs::Machine::step_by, crate::specs::Machine::transmitting, crate::specs::Machine::timing, crate::specs::Machine::faulting, crate::specs::Machine::acted, crate::specs::Machine::arrival_by, crate::specs::Machine::arriving, crate::specs::Machine::handed_up_of, calls::specs::Outcome::refused, calls::specs::Outcome::done))]
 
 mod judge;
 mod records;
@@ -37,17 +37,9 @@ fn reply_header(kind: Kind, flags1: u8, fragment: u16, s: Server) -> Header
 fn echoed(h: Header) -> Call
     ensures { result ≡ echoed_call h }
 {
-    let Header {
-        object,
-        interface,
-        ..
-    } = h;
     Call {
         idempotent: false,
-        object,
-        interface,
-        version: h.version,
-        operation: h.operation,
+        ..step::call_of(h)
     }
 }
 

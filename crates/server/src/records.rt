@@ -1,11 +1,11 @@
 // The server's record: what a controller keeps of an activity, the rules that a record keeps, the two
 // ways in which a row leaves its timer, the record with another part, and whether a call can be run again.
-#![tactic(auto, unfolding(crate::specs::records::States::never_called, crate::specs::records::States::is_fresh, crate::specs::records::States::is_running, crate::specs::records::States::is_replying, crate::specs::records::States::is_held, crate::specs::records::Rules::idle_rule, crate::specs::records::Rules::held_rule, crate::specs::records::Rules::message_rule, crate::specs::records::Rules::outgoing_sound, crate::specs::records::Rules::sound, crate::specs::records::Record::fresh, crate::specs::records::Record::holding, crate::specs::records::Record::unarmed, crate::specs::records::Record::with_incoming, crate::specs::records::Record::with_seen, crate::specs::records::Repeatable::runs_again, words::specs::Choice::choose, words::specs::Choice::both, words::specs::Choice::either))]
+#![tactic(auto, unfolding(crate::specs::records::States::never_called, crate::specs::records::States::is_fresh, crate::specs::records::States::is_running, crate::specs::records::States::is_replying, crate::specs::records::States::is_held, crate::specs::records::Rules::idle_rule, crate::specs::records::Rules::held_rule, crate::specs::records::Rules::message_rule, crate::specs::records::Rules::outgoing_sound, crate::specs::records::Rules::sound, crate::specs::records::Record::fresh, crate::specs::records::Record::holding, crate::specs::records::Record::unarmed, crate::specs::records::Record::with_seen, crate::specs::records::Repeatable::runs_again, words::specs::Choice::choose, words::specs::Choice::both, words::specs::Choice::either))]
 
 ghost use Rattle.std.specs.Prelude.{◌≡◌};
 ghost use Rattle.server.specs.records.States.{is_fresh, is_running, is_replying, is_held};
 ghost use Rattle.server.specs.records.Rules.{message_rule, outgoing_sound, sound};
-ghost use Rattle.server.specs.records.Record.{fresh as fresh_record, holding, unarmed, with_incoming, with_seen, with_call};
+ghost use Rattle.server.specs.records.Record.{fresh as fresh_record, holding, unarmed, with_seen, with_call};
 ghost use Rattle.server.specs.records.Repeatable.{runs_again};
 
 use calls::Call;
@@ -159,13 +159,6 @@ pub fn to_unarmed(s: Server, state: State) -> Server
         resend: None,
         ..s
     }
-}
-
-// The record with other fragments held.
-pub fn with_incoming(s: Server, m: Incoming) -> Server
-    ensures { result ≡ with_incoming s m }
-{
-    Server { incoming: m, ..s }
 }
 
 // The record with another cancel number last seen.

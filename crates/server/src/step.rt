@@ -1,5 +1,5 @@
 // What a row of the server's table makes of its record: the plan of the step, before anything is written.
-#![tactic(auto, unfolding(crate::specs::records::Record::with_outgoing, crate::specs::records::Record::with_resends, crate::specs::step::Plan::going, crate::specs::step::Steps::answered, crate::specs::step::Steps::transmitted, crate::specs::step::Steps::repeatable, crate::specs::step::Steps::rewinding, crate::specs::step::Steps::call_of, crate::specs::step::Steps::begun, crate::specs::step::Steps::put_state, crate::specs::step::Steps::put_notice, crate::specs::step::Steps::fack_for, crate::specs::step::Steps::put_plan, crate::specs::step::Steps::acknowledged, crate::specs::step::Steps::heard_plan, crate::specs::step::Steps::step_of, words::specs::Choice::choose))]
+#![tactic(auto, unfolding(crate::specs::records::Record::with_outgoing, crate::specs::records::Record::with_resends, crate::specs::step::Plan::going, crate::specs::records::Record::with_incoming, crate::specs::step::Steps::answered, crate::specs::step::Steps::transmitted, crate::specs::step::Steps::repeatable, crate::specs::step::Steps::rewinding, crate::specs::step::Steps::call_of, crate::specs::step::Steps::begun, crate::specs::step::Steps::put_state, crate::specs::step::Steps::put_notice, crate::specs::step::Steps::fack_for, crate::specs::step::Steps::put_plan, crate::specs::step::Steps::acknowledged, crate::specs::step::Steps::heard_plan, crate::specs::step::Steps::step_of, words::specs::Choice::choose))]
 
 ghost use Rattle.std.specs.Prelude.{◌≡◌};
 ghost use Rattle.server.specs.records.Record.{holding, unarmed, with_resends};
@@ -114,7 +114,7 @@ fn resent(s: Server, resends: u8) -> Server
 }
 
 // The call that a request carries.
-fn call_of(h: Header) -> Call
+pub fn call_of(h: Header) -> Call
     ensures { result ≡ call_of h }
 {
     let Header {
@@ -179,7 +179,10 @@ fn put(s: Server, p: Fragment) -> Plan
 {
     let next = records::to_unarmed(s, put_state(p.complete));
     calls::Plan {
-        machine: records::with_incoming(next, fragments::put_into(s.incoming, p)),
+        machine: Server {
+            incoming: fragments::put_into(s.incoming, p),
+            ..next
+        },
         send: fack_for(p.facked, p.serial, p.count),
         notice: put_notice(p.complete),
         store: Some(p.number),

@@ -10,6 +10,7 @@ use server::{Idle, Reply, Server, State};
 
 // The state that a number stands for, with the status of a fault; one above 7 stands for none, and
 // counts as IDLE fresh.
+// By the layout's numbers (readable_by); no From, since State is another crate's.
 fn state_of(number: u8, status: u32) -> State
     ensures { result ≡ state_of number status }
 {
@@ -26,6 +27,7 @@ fn state_of(number: u8, status: u32) -> State
 }
 
 // The number of a state: the layout's, whatever the order of the variants is.
+// By the layout's numbers; no From, since State is another crate's.
 fn state_number(state: State) -> u8
     ensures { result ≡ state_number state }
 {

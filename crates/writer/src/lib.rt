@@ -12,6 +12,7 @@ use pdu::{Header, Kind};
 use words::{BODY_SIZE, HEADER_SIZE, PDU_SIZE};
 
 // The first of refusals 1, 5, 7 and 8 that is met.
+// kind is any number, as in pdu::Header: it is what 5 refuses.
 fn judge(lent: usize, kind: u8, authentication: u8, body: usize) -> Answer
     ensures { result ≡ answer_of (write_refusals lent kind authentication body) }
 {
