@@ -1,16 +1,22 @@
--- `writer::header_bytes` meets its contract: the pieces lie one behind the other.
-use mathlib.Core.Path.{refl}
-use lib.ListN.{replicate}
+-- `writer::write_header` meets its contract: the pieces lie one behind the other.
+use native.Mathlib.Omega.{arith}
+use Rattle.words.proofs.Place.{placed_none}
 use borrow.Author.Rules.{rules}
 use Rattle.words.proofs.Number.{to_le-digits}
-use Rattle.writer.proofs.Returns.{Sized, header-laid}
-use Rattle.writer.proofs.header_bytes.Goals as goal
+use Rattle.writer.proofs.Returns.{Sized, length-header, header-laid_at}
+use Rattle.writer.proofs.write_header.Goals as goal
+
+pub returns-then-out-lt-HEADER_SIZE : goal.returns-then-out-lt-HEADER_SIZE
+returns-then-out-lt-HEADER_SIZE c =
+    let a = c.args in
+    let sized : Sized a.h = record { object = search rules; interface = search rules; activity = search rules } in
+    placed_none _ _ _ (omega (arith, length-header a.h a.body sized))
 
 pub returns : goal.returns
 returns c =
     let a = c.args in
     let sized : Sized a.h = record { object = search rules; interface = search rules; activity = search rules } in
-    let laid = header-laid a.h a.body (replicate 80 0) sized refl in
+    let laid = header-laid_at a.h a.body a.out.now sized (omega arith) in
     rw (
       c.put-13.ensures,
       c.put-12.ensures,
