@@ -109,8 +109,8 @@ pub(crate) trait Host {
     }
 }
 
-// The event of that number at a host, and its line of the transcript, which is left out where it can't be written:
-// the call goes on. What was sent goes to the network at once: the next event writes over the PDU buffer.
+// The event of that number at a host, and its line of the transcript. What was sent goes to the network at
+// once: the next event writes over the PDU buffer.
 pub(crate) fn turn<H: Host>(
     rt: &(impl Print + AllocGlobal),
     host: &mut H,
@@ -136,10 +136,9 @@ pub(crate) fn turn<H: Host>(
     let tells = Told(given.notice).to_string(alloc)?;
     let state = host.state();
     let armed = host.armed().to_string(alloc)?;
-    let _ = println!(rt;
+    println!(rt;
         "{number:<4}{side:<7}{event:<18}{answer:<7}{sends:<21}{tells:<9}{state:<16}{armed:<10}{why}"
-    );
-    Ok(())
+    )
 }
 
 // What a host handed up, against what the other sent, and how often its stub was told to take it.
@@ -154,13 +153,12 @@ pub(crate) fn report<H: Host>(
     } else {
         "DIFFERENT"
     };
-    let _ = println!(rt;
+    println!(rt;
         "{:<9}{} of {} bytes handed up, {verdict}; {}: {}",
         H::COMES,
         taken.len(),
         sent.len(),
         H::TOLD,
         host.times_told()
-    );
-    Ok(())
+    )
 }

@@ -27,7 +27,7 @@ fn main(rt: HostRuntime) -> io::Result<()> {
     let mut console = Console::fresh(alloc)?;
     let mut controller = Controller::fresh(alloc)?;
     let mut network = Network::quiet(alloc);
-    transcript::print_head(&rt);
+    transcript::print_head(&rt)?;
     for number in 1..=EVENTS {
         match schedule::next_event(&console, &controller, &mut network)? {
             Some(Next::Client(event)) => {
@@ -39,8 +39,7 @@ fn main(rt: HostRuntime) -> io::Result<()> {
             None => break,
         }
     }
-    // As each line: what can't be written is left out.
-    let _ = println!(rt; "");
+    println!(rt; "")?;
     host::report(&rt, &controller, &console.memory.message)?;
     host::report(&rt, &console, &controller.memory.message)
 }

@@ -2,12 +2,12 @@
 use calls::Notice;
 use client::State as ClientState;
 use server::{Idle, State as ServerState};
-use std::fmt;
+use std::{fmt, io};
 use timers::Timer;
 
-// What the transcript is of, and the names of the columns. Where it can't be written it is left out.
-pub(crate) fn print_head(rt: &impl Print) {
-    let _ = rt.println(
+// What the transcript is of, and the names of the columns.
+pub(crate) fn print_head(rt: &impl Print) -> io::Result<()> {
+    rt.println(
         "A console calls a controller, not idempotent: a request of 3500 bytes in 3 fragments, a reply of 4500 in 4.
 Of the PDUs that a side sends the network loses the second of every three, and delivers every fourth twice.
 And the request that was sent last comes again: while the call runs, while its reply is held, and when it is over.
@@ -16,7 +16,7 @@ A fack is shown with its number, the last fragment that its sender holds without
 mask, whose bit 0 is the fragment behind that one. So a sender goes on in the middle of its message.
 
 no. side   event             answer sends                tells    state           armed     why",
-    );
+    )
 }
 
 // What the stub is told.
