@@ -1,7 +1,7 @@
 // What the hosts of both sides do alike.
 use crate::datagram::Pdu;
 use crate::line::{Decimal, Line};
-use crate::network::Network;
+use crate::network::{Fate, Network};
 use crate::transcript::{Armed, Told};
 use answers::Answer;
 use calls::{Notice, Sent};
@@ -87,25 +87,32 @@ pub(crate) trait Host {
     fn hand_up(&self, fragment: u16) -> &[u8];
 }
 
-// The event of that number at a host, and its line of the transcript. What was sent goes to the network at
-// once: the next event writes over the PDU buffer.
-pub(crate) fn turn<H: Host>(host: &mut H, event: &H::Event, number: u64, network: &mut Network) {
-    let given = host.call(event, number);
+// What both sides tell alike of what an event gave: the answer, the PDU sent, with what the network does with it,
+// and the notice.
+fn put_given(line: &mut Line, given: Given, sent: Option<(Pdu, Fate)>) {
     let answer = answers::number(given.answer);
-    let mut line = Line::empty();
-    line.column(Decimal(number), 4);
-    line.column(H::SIDE, 7);
-    line.column(event, 18);
     line.column(Decimal(answer.into()), 7);
-    match host.memory().sent(given.sent) {
+    match sent {
         None => line.column("-", 21),
-        Some(pdu) => {
-            let fate = network.send(H::SIDE, pdu);
-            line.column(Pdu::read(pdu), 15);
+        Some((pdu, fate)) => {
+            line.column(pdu, 15);
             line.column(fate, 6);
         }
     }
     line.column(Told(given.notice), 9);
+}
+
+// The event of that number at a host, and its line of the transcript. What was sent goes to the network at
+// once: the next event writes over the PDU buffer.
+pub(crate) fn turn<H: Host>(host: &mut H, event: &H::Event, number: u64, network: &mut Network) {
+    let given = host.call(event, number);
+    let sent = host.memory().sent(given.sent);
+    let sent = sent.map(|pdu| (Pdu::read(pdu), network.send(H::SIDE, pdu)));
+    let mut line = Line::empty();
+    line.column(Decimal(number), 4);
+    line.column(H::SIDE, 7);
+    line.column(event, 18);
+    put_given(&mut line, given, sent);
     line.column(host.state(), 16);
     line.column(host.armed(), 10);
     line.put(host.reason(event, given));
@@ -125,15 +132,13 @@ pub(crate) fn report<H: Host>(host: &H, sent: &[u8]) {
     let taken = words::first(&message, length);
     let verdict = if taken == sent { "equal" } else { "DIFFERENT" };
     let mut line = Line::empty();
-    line.column(H::COMES, 9);
-    line.put(Decimal(taken.len() as u64));
-    line.put(" of ");
-    line.put(Decimal(sent.len() as u64));
-    line.put(" bytes handed up, ");
-    line.put(verdict);
-    line.put("; ");
-    line.put(H::TOLD);
-    line.put(": ");
-    line.put(Decimal(host.times_told().into()));
+    line.put(format_args!(
+        "{:<9}{} of {} bytes handed up, {verdict}; {}: {}",
+        H::COMES,
+        Decimal(taken.len() as u64),
+        Decimal(sent.len() as u64),
+        H::TOLD,
+        Decimal(host.times_told().into())
+    ));
     line.print();
 }

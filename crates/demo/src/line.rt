@@ -1,4 +1,7 @@
 // A line of the transcript, put together in a fixed buffer and written at once.
+ghost use Rattle.std.specs.Prelude.{◌≡◌};
+ghost use Rattle.lines.specs.Line.{line, written};
+
 use std::fmt::{self, Display, Write};
 use std::str;
 
@@ -52,6 +55,10 @@ impl Line {
 }
 
 impl Write for Line {
+    // The text behind what is used: what does not fit is left out.
+    ghost write_str_gives = { λ before text after.
+        line after.used after.text ≡ written text (line before.used before.text) };
+
     fn write_str(&mut self, text: &str) -> fmt::Result {
         self.used = lines::put_text(&mut self.text, self.used, text.as_bytes());
         Ok(())
