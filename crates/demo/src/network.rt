@@ -51,7 +51,8 @@ impl fmt::Display for Fate {
 }
 
 // The wire to one side: the PDU on it, how many copies of it are still to be delivered, and how many PDUs were
-// sent. One PDU is enough, since what is on a wire is delivered before its sender sends again.
+// sent. One PDU is enough: what is on a wire is delivered before all else, and in this call its sender sends again
+// only when no copy is left.
 #[derive(Clone, Copy)]
 struct Wire {
     pdu: Datagram,
