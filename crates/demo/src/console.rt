@@ -1,26 +1,26 @@
 // The console's host: what it keeps, which event it calls, and what it does with what comes back.
 use crate::clock::Alarm;
-use crate::datagram::Pdu;
+use crate::datagram::{Datagram, Pdu};
 use crate::host::{Given, Host, Memory, Side};
+use crate::line::Decimal;
 use crate::transcript::Armed;
 use crate::{clock, reasons, transcript};
 use calls::{Call, Notice};
 use client::{Client, Outcome, TimerKind};
-use std::alloc::{AllocError, Global};
 use std::fmt;
 
-const REQUEST_SIZE: u32 = 3500;
+pub(crate) const REQUEST_SIZE: u32 = 3500;
 
 // The activity of the console and the controller: a UUID in the little-endian form.
 pub(crate) const ACTIVITY: [u8; 16] = [7; 16];
 
 // What happens at the console, with the datagram that arrives, or with the ticket with which the timer was
 // started that runs out: Wait and Ack are its timers.
-#[derive(Drop)]
+#[derive(Clone, Copy)]
 pub(crate) enum ClientEvent {
     Start,
     Transmit,
-    Arrive(Vec<u8>),
+    Arrive(Datagram),
     Wait(u64),
     Ack(u64),
 }
@@ -40,9 +40,9 @@ impl fmt::Display for ClientEvent {
         match self {
             ClientEvent::Start => f.write_str("start"),
             ClientEvent::Transmit => f.write_str("transmit"),
-            ClientEvent::Arrive(datagram) => write!(f, "<- {}", Pdu::read(datagram)),
-            ClientEvent::Wait(ticket) => write!(f, "WAIT ticket   {ticket}"),
-            ClientEvent::Ack(ticket) => write!(f, "ACK ticket    {ticket}"),
+            ClientEvent::Arrive(datagram) => write!(f, "<- {}", Pdu::read(datagram.bytes())),
+            ClientEvent::Wait(ticket) => write!(f, "WAIT ticket   {}", Decimal(*ticket)),
+            ClientEvent::Ack(ticket) => write!(f, "ACK ticket    {}", Decimal(*ticket)),
         }
     }
 }
@@ -50,11 +50,11 @@ impl fmt::Display for ClientEvent {
 // The record, a timer for each that the record arms here (CANCEL is not: this console cancels no call),
 // the memory that is lent, and how often a reply was complete.
 #[derive(Drop)]
-pub(crate) struct Console {
+pub(crate) struct Console<'a> {
     pub client: Client,
     pub wait: Option<Alarm>,
     pub ack: Option<Alarm>,
-    pub memory: Memory,
+    pub memory: Memory<'a>,
     completed: u32,
 }
 
@@ -69,32 +69,29 @@ fn operation() -> Call {
     }
 }
 
-impl Console {
-    // A fresh client of the activity.
-    pub(crate) fn fresh(alloc: Global) -> Result<Console, AllocError> {
-        Ok(Console {
+// The event, called of the library. The request is lent at each transmit, the slot buffer for what
+// arrives, and the PDU buffer wherever something may be sent. A timer hands in its ticket.
+fn call_event(client: Client, event: &ClientEvent, memory: &mut Memory) -> Outcome {
+    let slots = &mut *memory.slots;
+    let pdu = &mut *memory.pdu;
+    match event {
+        ClientEvent::Start => client::start(client, operation(), REQUEST_SIZE),
+        ClientEvent::Transmit => client::transmit(client, memory.message, pdu),
+        ClientEvent::Arrive(datagram) => client::arrive(client, datagram.bytes(), slots, pdu),
+        ClientEvent::Wait(ticket) => client::timer(client, TimerKind::Wait, *ticket, pdu),
+        ClientEvent::Ack(ticket) => client::timer(client, TimerKind::Ack, *ticket, pdu),
+    }
+}
+
+impl<'a> Console<'a> {
+    // A fresh client of the activity, with the memory that is lent for it.
+    pub(crate) fn fresh(memory: Memory<'a>) -> Console<'a> {
+        Console {
             client: client::fresh(ACTIVITY, 0),
             wait: None,
             ack: None,
-            memory: Memory::new(alloc, REQUEST_SIZE, 1)?,
+            memory,
             completed: 0,
-        })
-    }
-
-    // The event, called of the library. The request is lent at each transmit, the slot buffer for what
-    // arrives, and the PDU buffer wherever something may be sent. A timer hands in its ticket.
-    fn call_event(&mut self, event: &ClientEvent) -> Outcome {
-        let client = self.client;
-        let memory = &mut self.memory;
-        let pdu = &mut memory.pdu;
-        match event {
-            ClientEvent::Start => client::start(client, operation(), REQUEST_SIZE),
-            ClientEvent::Transmit => client::transmit(client, &memory.message, pdu),
-            ClientEvent::Arrive(datagram) => {
-                client::arrive(client, datagram, &mut memory.slots, pdu)
-            }
-            ClientEvent::Wait(ticket) => client::timer(client, TimerKind::Wait, *ticket, pdu),
-            ClientEvent::Ack(ticket) => client::timer(client, TimerKind::Ack, *ticket, pdu),
         }
     }
 
@@ -114,7 +111,7 @@ impl Console {
     }
 }
 
-impl Host for Console {
+impl Host for Console<'_> {
     type Event = ClientEvent;
 
     const SIDE: Side = Side::Client;
@@ -123,12 +120,12 @@ impl Host for Console {
 
     const TOLD: &'static str = "completions";
 
-    fn memory(&self) -> &Memory {
+    fn memory(&self) -> &Memory<'_> {
         &self.memory
     }
 
     fn call(&mut self, event: &ClientEvent, number: u64) -> Given {
-        let outcome = self.call_event(event);
+        let outcome = call_event(self.client, event, &mut self.memory);
         let ticket = event.ticket();
         self.client = outcome.machine;
         self.wait = clock::after_event(self.wait, ticket, self.client.wait, number);
@@ -168,6 +165,6 @@ impl Host for Console {
     }
 
     fn hand_up(&self, fragment: u16) -> &[u8] {
-        client::hand_up(self.client, fragment, &self.memory.slots)
+        client::hand_up(self.client, fragment, self.memory.slots)
     }
 }

@@ -1,24 +1,24 @@
 // The controller's host: what it keeps, which event it calls, and what it does with what comes back.
 use crate::clock::Alarm;
-use crate::datagram::Pdu;
+use crate::datagram::{Datagram, Pdu};
 use crate::host::{Given, Host, Memory, Side};
+use crate::line::Decimal;
 use crate::transcript::Armed;
 use crate::{clock, console, reasons, transcript};
 use calls::Notice;
 use server::{Outcome, Server};
-use std::alloc::{AllocError, Global};
 use std::fmt;
 
-const REPLY_SIZE: u32 = 4500;
+pub(crate) const REPLY_SIZE: u32 = 4500;
 
 // The boot value: another one each time that the controller starts.
 const BOOT: u32 = 1;
 
 // What happens at the controller, with the datagram that arrives, or with the ticket with which the timer was
 // started that runs out: Resend is its timer.
-#[derive(Drop)]
+#[derive(Clone, Copy)]
 pub(crate) enum ServerEvent {
-    Arrive(Vec<u8>),
+    Arrive(Datagram),
     Reply,
     Transmit,
     Resend(u64),
@@ -37,10 +37,10 @@ impl ServerEvent {
 impl fmt::Display for ServerEvent {
     fn fmt<W: fmt::Write>(&self, f: &mut fmt::Formatter<W>) -> fmt::Result {
         match self {
-            ServerEvent::Arrive(datagram) => write!(f, "<- {}", Pdu::read(datagram)),
+            ServerEvent::Arrive(datagram) => write!(f, "<- {}", Pdu::read(datagram.bytes())),
             ServerEvent::Reply => f.write_str("reply"),
             ServerEvent::Transmit => f.write_str("transmit"),
-            ServerEvent::Resend(ticket) => write!(f, "RESEND ticket {ticket}"),
+            ServerEvent::Resend(ticket) => write!(f, "RESEND ticket {}", Decimal(*ticket)),
         }
     }
 }
@@ -48,37 +48,34 @@ impl fmt::Display for ServerEvent {
 // The record, a timer for the one that the record has, the memory that is lent, and how often a call was
 // dispatched.
 #[derive(Drop)]
-pub(crate) struct Controller {
+pub(crate) struct Controller<'a> {
     pub server: Server,
     pub resend: Option<Alarm>,
-    pub memory: Memory,
+    pub memory: Memory<'a>,
     dispatched: u32,
 }
 
-impl Controller {
-    // A fresh server of the console's activity, with its boot value.
-    pub(crate) fn fresh(alloc: Global) -> Result<Controller, AllocError> {
-        Ok(Controller {
+// The event, called of the library. The reply is lent at each transmit, the slot buffer for what
+// arrives, and the PDU buffer wherever something may be sent. A timer hands in its ticket.
+fn call_event(server: Server, event: &ServerEvent, memory: &mut Memory) -> Outcome {
+    let slots = &mut *memory.slots;
+    let pdu = &mut *memory.pdu;
+    match event {
+        ServerEvent::Arrive(datagram) => server::arrive(server, datagram.bytes(), slots, pdu),
+        ServerEvent::Reply => server::reply(server, REPLY_SIZE),
+        ServerEvent::Transmit => server::transmit(server, memory.message, pdu),
+        ServerEvent::Resend(ticket) => server::timer(server, *ticket, pdu),
+    }
+}
+
+impl<'a> Controller<'a> {
+    // A fresh server of the console's activity, with its boot value and the memory that is lent for it.
+    pub(crate) fn fresh(memory: Memory<'a>) -> Controller<'a> {
+        Controller {
             server: server::fresh(console::ACTIVITY, BOOT, 0),
             resend: None,
-            memory: Memory::new(alloc, REPLY_SIZE, 2)?,
+            memory,
             dispatched: 0,
-        })
-    }
-
-    // The event, called of the library. The reply is lent at each transmit, the slot buffer for what
-    // arrives, and the PDU buffer wherever something may be sent. A timer hands in its ticket.
-    fn call_event(&mut self, event: &ServerEvent) -> Outcome {
-        let server = self.server;
-        let memory = &mut self.memory;
-        let pdu = &mut memory.pdu;
-        match event {
-            ServerEvent::Arrive(datagram) => {
-                server::arrive(server, datagram, &mut memory.slots, pdu)
-            }
-            ServerEvent::Reply => server::reply(server, REPLY_SIZE),
-            ServerEvent::Transmit => server::transmit(server, &memory.message, pdu),
-            ServerEvent::Resend(ticket) => server::timer(server, *ticket, pdu),
         }
     }
 
@@ -97,7 +94,7 @@ impl Controller {
     }
 }
 
-impl Host for Controller {
+impl Host for Controller<'_> {
     type Event = ServerEvent;
 
     const SIDE: Side = Side::Server;
@@ -106,12 +103,12 @@ impl Host for Controller {
 
     const TOLD: &'static str = "dispatches";
 
-    fn memory(&self) -> &Memory {
+    fn memory(&self) -> &Memory<'_> {
         &self.memory
     }
 
     fn call(&mut self, event: &ServerEvent, number: u64) -> Given {
-        let outcome = self.call_event(event);
+        let outcome = call_event(self.server, event, &mut self.memory);
         self.server = outcome.machine;
         self.resend = clock::after_event(self.resend, event.ticket(), self.server.resend, number);
         self.tell(outcome.notice);
@@ -142,6 +139,6 @@ impl Host for Controller {
     }
 
     fn hand_up(&self, fragment: u16) -> &[u8] {
-        server::hand_up(self.server, fragment, &self.memory.slots)
+        server::hand_up(self.server, fragment, self.memory.slots)
     }
 }

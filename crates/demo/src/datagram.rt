@@ -1,6 +1,34 @@
 // A datagram, as the transcript tells of it.
+use crate::line::Decimal;
 use pdu::Kind;
 use std::fmt;
+use words::PDU_SIZE;
+
+// A datagram on its way: a copy, so the sender's buffer is free again.
+#[derive(Clone, Copy)]
+pub(crate) struct Datagram {
+    buffer: [u8; PDU_SIZE],
+    length: usize,
+}
+
+impl Datagram {
+    // Nothing was sent yet.
+    pub(crate) fn none() -> Datagram {
+        Datagram {
+            buffer: [0; PDU_SIZE],
+            length: 0,
+        }
+    }
+
+    pub(crate) fn keep(&mut self, pdu: &[u8]) {
+        words::put(&mut self.buffer, 0, pdu);
+        self.length = pdu.len();
+    }
+
+    pub(crate) fn bytes(&self) -> &[u8] {
+        words::first(&self.buffer, self.length)
+    }
+}
 
 // A PDU by its type, with the number of the fragment that a request or a response is, or with what a fack
 // tells: the last fragment that its sender holds without a gap, if any, and the mask of those behind it.
@@ -54,18 +82,25 @@ impl Pdu {
 
 impl fmt::Display for Pdu {
     fn fmt<W: fmt::Write>(&self, f: &mut fmt::Formatter<W>) -> fmt::Result {
-        match self {
-            Pdu::Request(fragment) => write!(f, "request   {fragment}"),
+        match *self {
+            Pdu::Request(fragment) => write!(f, "request   {}", Decimal(fragment.into())),
             Pdu::Ping => f.write_str("ping"),
-            Pdu::Response(fragment) => write!(f, "response  {fragment}"),
+            Pdu::Response(fragment) => write!(f, "response  {}", Decimal(fragment.into())),
             Pdu::Fault => f.write_str("fault"),
             Pdu::Working => f.write_str("working"),
             Pdu::Nocall => f.write_str("nocall"),
             Pdu::Reject => f.write_str("reject"),
             Pdu::Ack => f.write_str("ack"),
             Pdu::Cancel => f.write_str("cancel"),
-            Pdu::Fack(Some(last), mask) => write!(f, "fack      {last:<2}{mask}"),
-            Pdu::Fack(None, mask) => write!(f, "fack      - {mask}"),
+            Pdu::Fack(Some(last), mask) => {
+                write!(
+                    f,
+                    "fack      {:<2}{}",
+                    Decimal(last.into()),
+                    Decimal(mask.into())
+                )
+            }
+            Pdu::Fack(None, mask) => write!(f, "fack      - {}", Decimal(mask.into())),
             Pdu::CancelAck => f.write_str("cancel_ack"),
             Pdu::Unreadable => f.write_str("unreadable"),
         }

@@ -1,13 +1,12 @@
 // What the hosts of both sides do alike.
 use crate::datagram::Pdu;
-use crate::network::Network;
+use crate::line::{Decimal, Line};
+use crate::network::{Fate, Network};
 use crate::transcript::{Armed, Told};
 use answers::Answer;
 use calls::{Notice, Sent};
-use std::alloc::{AllocError, Global};
 use std::fmt::{self, Display};
-use std::io;
-use words::{PDU_SIZE, SLOTS_SIZE, WINDOW_SIZE};
+use words::{MESSAGE_SIZE, WINDOW_SIZE};
 
 // The side of the call at which something happens.
 #[derive(Clone, Copy, Debug, PartialEq, Eq)]
@@ -18,7 +17,7 @@ pub(crate) enum Side {
 
 impl Display for Side {
     fn fmt<W: fmt::Write>(&self, f: &mut fmt::Formatter<W>) -> fmt::Result {
-        f.pad(match self {
+        f.write_str(match self {
             Side::Client => "client",
             Side::Server => "server",
         })
@@ -28,28 +27,17 @@ impl Display for Side {
 // The memory that a host lends, for the library has none of its own: the message that its side sends, the
 // slot buffer for what arrives, and the PDU buffer for what is sent.
 #[derive(Drop)]
-pub(crate) struct Memory {
-    pub message: Vec<u8>,
-    pub slots: Vec<u8>,
-    pub pdu: Vec<u8>,
+pub(crate) struct Memory<'a> {
+    pub message: &'a [u8],
+    pub slots: &'a mut [u8],
+    pub pdu: &'a mut [u8],
 }
 
-impl Memory {
-    // The message's bytes are such that a fragment in a wrong place would be noticed.
-    pub(crate) fn new(alloc: Global, length: u32, seed: u8) -> Result<Memory, AllocError> {
-        let mut message = vec![in alloc; 0; length as usize]?;
-        lines::fill(&mut message, seed);
-        Ok(Memory {
-            message,
-            slots: vec![in alloc; 0; SLOTS_SIZE]?,
-            pdu: vec![in alloc; 0; PDU_SIZE]?,
-        })
-    }
-
+impl Memory<'_> {
     // The PDU that an event sent.
     fn sent(&self, sent: Sent) -> Option<&[u8]> {
         sent?;
-        Some(calls::sent_bytes(sent, &self.pdu))
+        Some(calls::sent_bytes(sent, self.pdu))
     }
 }
 
@@ -77,7 +65,7 @@ pub(crate) trait Host {
     const TOLD: &'static str;
 
     // The memory that this host lends.
-    fn memory(&self) -> &Memory;
+    fn memory(&self) -> &Memory<'_>;
 
     // The event of that number, called of the library. The record is kept whatever the answer was: a
     // refusal gives it back as it was.
@@ -97,68 +85,60 @@ pub(crate) trait Host {
 
     // The part of the slot buffer that is this fragment of the message that came, where it can be taken.
     fn hand_up(&self, fragment: u16) -> &[u8];
+}
 
-    // The message that came, put together of the parts handed up. A stub that does not need it in one piece
-    // reads the parts where they lie.
-    fn handed_up(&self, alloc: Global) -> Result<Vec<u8>, AllocError> {
-        let mut message = Vec::new(alloc);
-        for fragment in 0..WINDOW_SIZE {
-            message.extend_from_slice(self.hand_up(fragment))?;
+// What both sides tell alike of what an event gave: the answer, the PDU sent, with what the network does with it,
+// and the notice.
+fn put_given(line: &mut Line, given: Given, sent: Option<(Pdu, Fate)>) {
+    let answer = answers::number(given.answer);
+    line.column(Decimal(answer.into()), 7);
+    match sent {
+        None => line.column("-", 21),
+        Some((pdu, fate)) => {
+            line.column(pdu, 15);
+            line.column(fate, 6);
         }
-        Ok(message)
     }
+    line.column(Told(given.notice), 9);
 }
 
 // The event of that number at a host, and its line of the transcript. What was sent goes to the network at
 // once: the next event writes over the PDU buffer.
-pub(crate) fn turn<H: Host>(
-    rt: &(impl Print + AllocGlobal),
-    host: &mut H,
-    event: &H::Event,
-    number: u64,
-    network: &mut Network,
-) -> io::Result<()> {
-    let alloc = rt.alloc();
+pub(crate) fn turn<H: Host>(host: &mut H, event: &H::Event, number: u64, network: &mut Network) {
     let given = host.call(event, number);
-    let sends = match host.memory().sent(given.sent) {
-        None => "-".to_string(alloc)?,
-        Some(pdu) => {
-            let fate = network.send(alloc, H::SIDE, pdu)?;
-            let pdu = Pdu::read(pdu).to_string(alloc)?;
-            format!(in alloc; "{pdu:<15}{fate}")?
-        }
-    };
-    // What is written in several parts is a text first: only a whole text fills its column.
-    let side = H::SIDE;
-    let why = host.reason(event, given);
-    let event = event.to_string(alloc)?;
-    let answer = answers::number(given.answer);
-    let tells = Told(given.notice).to_string(alloc)?;
-    let state = host.state();
-    let armed = host.armed().to_string(alloc)?;
-    println!(rt;
-        "{number:<4}{side:<7}{event:<18}{answer:<7}{sends:<21}{tells:<9}{state:<16}{armed:<10}{why}"
-    )
+    let sent = host.memory().sent(given.sent);
+    let sent = sent.map(|pdu| (Pdu::read(pdu), network.send(H::SIDE, pdu)));
+    let mut line = Line::empty();
+    line.column(Decimal(number), 4);
+    line.column(H::SIDE, 7);
+    line.column(event, 18);
+    put_given(&mut line, given, sent);
+    line.column(host.state(), 16);
+    line.column(host.armed(), 10);
+    line.put(host.reason(event, given));
+    line.print();
 }
 
-// What a host handed up, against what the other sent, and how often its stub was told to take it.
-pub(crate) fn report<H: Host>(
-    rt: &(impl Print + AllocGlobal),
-    host: &H,
-    sent: &[u8],
-) -> io::Result<()> {
-    let taken = host.handed_up(rt.alloc())?;
-    let verdict = if taken.as_slice() == sent {
-        "equal"
-    } else {
-        "DIFFERENT"
-    };
-    println!(rt;
+// What a host handed up, against what the other sent, and how often its stub was told to take it. A stub that
+// does not need the message in one piece reads the parts where they lie. It is called and not inlined, so that
+// the message is on the stack at the end alone.
+#[inline(never)]
+pub(crate) fn report<H: Host>(host: &H, sent: &[u8]) {
+    let mut message = [0; MESSAGE_SIZE as usize];
+    let mut length = 0;
+    for fragment in 0..WINDOW_SIZE {
+        length = lines::put_text(&mut message, length, host.hand_up(fragment));
+    }
+    let taken = words::first(&message, length);
+    let verdict = if taken == sent { "equal" } else { "DIFFERENT" };
+    let mut line = Line::empty();
+    line.put(format_args!(
         "{:<9}{} of {} bytes handed up, {verdict}; {}: {}",
         H::COMES,
-        taken.len(),
-        sent.len(),
+        Decimal(taken.len() as u64),
+        Decimal(sent.len() as u64),
         H::TOLD,
-        host.times_told()
-    )
+        Decimal(host.times_told().into())
+    ));
+    line.print();
 }

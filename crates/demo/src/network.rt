@@ -1,13 +1,11 @@
 // The network: of the PDUs that a side sends it loses the second of every three, and delivers every
 // fourth twice where it is not lost. And the last request comes again three times after its call was
 // dispatched.
-ghost use Rattle.std.specs.Prelude.{◌≡◌, ◌-◌, ◌≤◌, length};
+ghost use Rattle.std.specs.Prelude.{◌≡◌, ◌-◌, ◌≤◌};
 
-use crate::datagram::Pdu;
+use crate::datagram::{Datagram, Pdu};
 use crate::host::Side;
 use server::{Server, State};
-use std::alloc::{AllocError, Global};
-use std::collections::VecDeque;
 use std::fmt;
 
 // What the network does with a PDU.
@@ -52,36 +50,40 @@ impl fmt::Display for Fate {
     }
 }
 
-// The wire to one side: the PDUs on their way, and how many were sent.
-#[derive(Drop)]
+// The wire to one side: the PDU on it, how many copies of it are still to be delivered, and how many PDUs were
+// sent. One PDU is enough: what is on a wire is delivered before all else, and in this call its sender sends again
+// only when no copy is left.
+#[derive(Clone, Copy)]
 struct Wire {
-    under_way: VecDeque<Vec<u8>>,
+    pdu: Datagram,
+    copies: u8,
     sent: u32,
 }
 
 impl Wire {
-    fn quiet(alloc: Global) -> Wire {
+    fn quiet() -> Wire {
         Wire {
-            under_way: VecDeque::new(alloc),
+            pdu: Datagram::none(),
+            copies: 0,
             sent: 0,
         }
     }
 
-    // Sends a PDU: the network takes copies, so the sender's buffer is free again.
-    fn send(&mut self, alloc: Global, pdu: &[u8]) -> Result<Fate, AllocError> {
+    // Sends a PDU: it is on the wire now, as often as the network delivers it.
+    fn send(&mut self, pdu: &[u8]) -> Fate {
         self.sent = self.sent.wrapping_add(1);
         let fate = Fate::of(self.sent);
-        for _ in 0..fate.copies() {
-            self.under_way.push_back(pdu.to_vec(alloc)?)?;
-        }
-        Ok(fate)
+        self.pdu.keep(pdu);
+        self.copies = fate.copies();
+        fate
     }
 
     // What arrives next: one copy fewer is under way, where one was.
-    fn deliver(&mut self) -> Option<Vec<u8>>
-        ensures { length self.new.under_way.items ≡ length self.old.under_way.items - 1 }
+    fn deliver(&mut self) -> Option<Datagram>
+        ensures { self.new.copies ≡ self.old.copies - 1 }
     {
-        self.under_way.pop_front()
+        self.copies = self.copies.checked_sub(1)?;
+        Some(self.pdu)
     }
 }
 
@@ -90,40 +92,35 @@ impl Wire {
 pub(crate) struct Network {
     to_client: Wire,
     to_server: Wire,
-    straggler: Vec<u8>,
+    straggler: Datagram,
     // How often the straggler came.
     came: u8,
 }
 
 impl Network {
     // A network on which nothing was sent.
-    pub(crate) fn quiet(alloc: Global) -> Network {
+    pub(crate) fn quiet() -> Network {
         Network {
-            to_client: Wire::quiet(alloc),
-            to_server: Wire::quiet(alloc),
-            straggler: Vec::new(alloc),
+            to_client: Wire::quiet(),
+            to_server: Wire::quiet(),
+            straggler: Datagram::none(),
             came: 0,
         }
     }
 
     // Sends a PDU to the other side. A request stays behind in place of the one before.
-    pub(crate) fn send(
-        &mut self,
-        alloc: Global,
-        from: Side,
-        pdu: &[u8],
-    ) -> Result<Fate, AllocError> {
+    pub(crate) fn send(&mut self, from: Side, pdu: &[u8]) -> Fate {
         if let Pdu::Request(_) = Pdu::read(pdu) {
-            self.straggler = pdu.to_vec(alloc)?;
+            self.straggler.keep(pdu);
         }
         match from {
-            Side::Client => self.to_server.send(alloc, pdu),
-            Side::Server => self.to_client.send(alloc, pdu),
+            Side::Client => self.to_server.send(pdu),
+            Side::Server => self.to_client.send(pdu),
         }
     }
 
     // What arrives next at this side.
-    pub(crate) fn deliver(&mut self, to: Side) -> Option<Vec<u8>> {
+    pub(crate) fn deliver(&mut self, to: Side) -> Option<Datagram> {
         match to {
             Side::Client => self.to_client.deliver(),
             Side::Server => self.to_server.deliver(),
@@ -132,7 +129,7 @@ impl Network {
 
     // The straggler, where it comes now: first while the call runs, then while its reply is held after it
     // was sent again, then when the call is over.
-    pub(crate) fn late_request(&mut self, server: &Server) -> Result<Option<Vec<u8>>, AllocError> {
+    pub(crate) fn late_request(&mut self, server: &Server) -> Option<Datagram> {
         let comes = match (self.came, server.state) {
             (0, State::Running) => true,
             (1, State::Held(_)) => server.resends > 0,
@@ -140,9 +137,9 @@ impl Network {
             _ => false,
         };
         if !comes {
-            return Ok(None);
+            return None;
         }
         self.came = self.came.saturating_add(1);
-        Ok(Some(self.straggler.clone()?))
+        Some(self.straggler)
     }
 }

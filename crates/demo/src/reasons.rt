@@ -19,7 +19,7 @@ pub(crate) fn of_client(event: &ClientEvent, given: Given, state: ClientState) -
         (ClientEvent::Transmit, ClientState::SendFrags) => "a fragment of the request",
         (ClientEvent::Transmit, _) => "all sent: wait for a reply",
         (ClientEvent::Arrive(datagram), _) => {
-            client_took(Pdu::read(datagram), given.notice, state)
+            client_took(Pdu::read(datagram.bytes()), given.notice, state)
         }
         (ClientEvent::Wait(_), ClientState::Fault) => "asked too often: give up",
         (ClientEvent::Wait(_), _) => "no answer in time: ask",
@@ -50,7 +50,7 @@ pub(crate) fn of_server(event: &ServerEvent, given: Given, state: ServerState) -
     }
     match (event, state) {
         (ServerEvent::Arrive(datagram), _) => {
-            server_took(Pdu::read(datagram), given.notice, state)
+            server_took(Pdu::read(datagram.bytes()), given.notice, state)
         }
         (ServerEvent::Reply, _) => "the stub answers",
         (ServerEvent::Transmit, ServerState::Replying) => "a fragment of the reply",

@@ -4,10 +4,9 @@ use crate::console::{ClientEvent, Console};
 use crate::controller::{Controller, ServerEvent};
 use crate::host::Side;
 use crate::network::Network;
-use std::alloc::AllocError;
 
 // An event at one of the two sides.
-#[derive(Drop)]
+#[derive(Clone, Copy)]
 pub(crate) enum Next {
     Client(ClientEvent),
     Server(ServerEvent),
@@ -47,15 +46,15 @@ pub(crate) fn next_event(
     console: &Console,
     controller: &Controller,
     network: &mut Network,
-) -> Result<Option<Next>, AllocError> {
+) -> Option<Next> {
     if let Some(pdu) = network.deliver(Side::Client) {
-        return Ok(Some(Next::Client(ClientEvent::Arrive(pdu))));
+        return Some(Next::Client(ClientEvent::Arrive(pdu)));
     }
     if let Some(pdu) = network.deliver(Side::Server) {
-        return Ok(Some(Next::Server(ServerEvent::Arrive(pdu))));
+        return Some(Next::Server(ServerEvent::Arrive(pdu)));
     }
-    if let Some(pdu) = network.late_request(&controller.server)? {
-        return Ok(Some(Next::Server(ServerEvent::Arrive(pdu))));
+    if let Some(pdu) = network.late_request(&controller.server) {
+        return Some(Next::Server(ServerEvent::Arrive(pdu)));
     }
-    Ok(work(console, controller))
+    work(console, controller)
 }

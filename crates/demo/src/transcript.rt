@@ -1,22 +1,24 @@
 // The transcript's words: how it shows what the library gives.
+use crate::line::{self, Decimal};
 use calls::Notice;
 use client::State as ClientState;
 use server::{Idle, State as ServerState};
-use std::{fmt, io};
+use std::fmt;
 use timers::Timer;
 
 // What the transcript is of, and the names of the columns.
-pub(crate) fn print_head(rt: &impl Print) -> io::Result<()> {
-    rt.println(
-        "A console calls a controller, not idempotent: a request of 3500 bytes in 3 fragments, a reply of 4500 in 4.
+pub(crate) fn print_head() {
+    line::print(
+        b"A console calls a controller, not idempotent: a request of 3500 bytes in 3 fragments, a reply of 4500 in 4.
 Of the PDUs that a side sends the network loses the second of every three, and delivers every fourth twice.
 And the request that was sent last comes again: while the call runs, while its reply is held, and when it is over.
 Answer 0: done. Any other is a refusal: nothing changes, nothing is sent, nobody is told.
 A fack is shown with its number, the last fragment that its sender holds without a gap (- for none), and with its
 mask, whose bit 0 is the fragment behind that one. So a sender goes on in the middle of its message.
 
-no. side   event             answer sends                tells    state           armed     why",
-    )
+no. side   event             answer sends                tells    state           armed     why
+",
+    );
 }
 
 // What the stub is told.
@@ -29,7 +31,7 @@ impl fmt::Display for Told {
             Notice::Nothing => f.write_str("-"),
             Notice::Last => f.write_str("last"),
             Notice::Dispatch => f.write_str("dispatch"),
-            Notice::Count(count) => write!(f, "count {count}"),
+            Notice::Count(count) => write!(f, "count {}", Decimal(count.into())),
             Notice::Fault(_) => f.write_str("fault"),
             Notice::Reject(_) => f.write_str("reject"),
             Notice::Cause(_) => f.write_str("failed"),
@@ -49,7 +51,7 @@ impl fmt::Display for Armed {
     fn fmt<W: fmt::Write>(&self, f: &mut fmt::Formatter<W>) -> fmt::Result {
         match self.timer {
             None => f.write_str("-"),
-            Some(ticket) => write!(f, "{:<7}{ticket}", self.name),
+            Some(ticket) => write!(f, "{:<7}{}", self.name, Decimal(ticket)),
         }
     }
 }
