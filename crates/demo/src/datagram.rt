@@ -1,10 +1,11 @@
-// A datagram, as the transcript tells of it.
+// A datagram on its way, and as the transcript tells of it.
 use crate::line::Decimal;
 use pdu::Kind;
 use std::fmt;
 use words::PDU_SIZE;
 
 // A datagram on its way: a copy, so the sender's buffer is free again.
+// An array and a length: a Vec needs a heap, whose functions would be assumed.
 #[derive(Clone, Copy)]
 pub(crate) struct Datagram {
     buffer: [u8; PDU_SIZE],
@@ -20,6 +21,7 @@ impl Datagram {
         }
     }
 
+    // Keeps a copy of this PDU.
     pub(crate) fn keep(&mut self, pdu: &[u8]) {
         words::put(&mut self.buffer, 0, pdu);
         self.length = pdu.len();

@@ -21,6 +21,7 @@ pub(crate) fn print(text: &[u8]) {
 }
 
 // The line so far. What is not used yet is blank.
+// An array and a length, as a Datagram is.
 #[derive(Drop)]
 pub(crate) struct Line {
     text: [u8; LINE_SIZE],

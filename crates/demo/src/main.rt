@@ -36,7 +36,8 @@ fn run(console: &mut Console, controller: &mut Controller) {
 }
 
 // All memory is the hosts': a slot buffer and a PDU buffer for each record, and the messages, whose bytes are
-// such that a fragment in a wrong place would be noticed.
+// such that a fragment in a wrong place would be noticed. They are arrays: a Vec needs a heap, whose functions would be
+// assumed.
 fn main() {
     let mut request = [0; REQUEST_SIZE as usize];
     let mut client_slots = [0; SLOTS_SIZE];

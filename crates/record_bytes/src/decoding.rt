@@ -2,7 +2,7 @@
 // every place is known to be there, and nothing is tested byte by byte.
 #![tactic(auto, using(crate::proofs::NumberBytes::read_two, crate::proofs::NumberBytes::read_four, crate::proofs::NumberBytes::read_eight, crate::proofs::NumberBytes::read_uuid, crate::proofs::NumberLaws::clear_number), unfolding(crate::specs::Parts::timer_where, crate::specs::Parts::last_of, crate::specs::Held::length_where, crate::specs::Held::slot_of, crate::specs::Layout::last_readable, crate::specs::Layout::marks_readable, crate::specs::Layout::spares_readable, crate::specs::Layout::readable, crate::specs::Layout::call_in, crate::specs::Layout::outgoing_in, crate::specs::Layout::incoming_in, crate::specs::Layout::fields_in, crate::specs::Layout::decoded_in, words::specs::Choice::choose, words::specs::Choice::both, words::specs::Choice::either))]
 
-ghost use Rattle.std.specs.Prelude.{◌≡◌, ◌+◌, ◌≤◌, ◌<◌, drop, replicate};
+ghost use Rattle.std.specs.Prelude.{◌≡◌, ◌+◌, ◌≤◌, ◌<◌, eqb, get_or, drop, replicate};
 ghost use Rattle.words.specs.Number.{part};
 ghost use Rattle.words.specs.Place.{placed};
 ghost use Rattle.words.specs.Sizes.{window_size};
@@ -29,13 +29,22 @@ fn part<const N: usize>(s: &[u8; SIZE], at: usize) -> [u8; N]
     bytes
 }
 
+// Whether the four bytes of a slot say that it is held: its third is 1, whatever its fourth is.
+fn is_held(bytes: [u8; 4]) -> bool
+    ensures { result ≡ eqb (get_or bytes 2 0) 1 }
+{
+    let [_, _, mark, _] = bytes;
+    mark == 1
+}
+
 // Slot f: four bytes, length u16, held u8 and a spare byte.
 fn slot(s: &[u8; SIZE], f: usize) -> Slot
     requires { f < window_size }
     ensures { result ≡ slot_in (drop 144 s.now) f }
 {
-    let [low, high, mark, _] = part::<4>(s, 144 + 4 * f);
-    let held = mark == 1;
+    let bytes = part::<4>(s, 144 + 4 * f);
+    let held = is_held(bytes);
+    let [low, high, _, _] = bytes;
     let length = crate::length_where(held, u16::from_le_bytes([low, high]));
     Slot { held, length }
 }

@@ -38,11 +38,7 @@ pub fn write_header(h: Header, body: u16, out: &mut [u8])
         return;
     }
     let [high, low] = h.serial.to_be_bytes();
-    words::put(
-        out,
-        0,
-        &[4, h.kind, h.flags1, h.flags2, 16, 0, 0, high],
-    );
+    words::put(out, 0, &[4, h.kind, h.flags1, h.flags2, 16, 0, 0, high]);
     words::put(out, 8, &h.object);
     words::put(out, 24, &h.interface);
     words::put(out, 40, &h.activity);

@@ -11,6 +11,6 @@ use Rattle.record_bytes.proofs.decoding.slot.Goals as goal
 pub returns : goal.returns
 returns c =
     let s = drop 144 c.args.s.now in
-    let four : c.part.result ≡ part 4 s (4 * c.args.f) = c.part.ensures ∙ part_behind 4 144 c.args.s.now (4 * c.args.f) in
-    rw (c.length_where-length.ensures, four)
+    let four : c.part-bytes.result ≡ part 4 s (4 * c.args.f) = c.part-bytes.ensures ∙ part_behind 4 144 c.args.s.now (4 * c.args.f) in
+    rw (c.length_where-length.ensures, c.is_held-held.ensures, four)
     (slot_read s c.args.f _ (c.from_le_bytes.ensures ∙ ap (λ (l : List ℕ). get_or l 0 0 + get_or l 1 0 * 256) four))
